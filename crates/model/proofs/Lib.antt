@@ -1,0 +1,2 @@
+-- Facts about the definitions that pin them, beside them.
+pub mod Figures

@@ -1,0 +1,139 @@
+-- "The description file": one field, its bytes, its reading, and whether it may stand where it does.
+use Prim.Native.Nat.{ℕ, zero, suc, _+_, _-_, _*_, _/_, _%_}
+use mathlib.Core.Bool.{Bool, true, false, cond, _&&_, _||_, not}
+use mathlib.Core.List.{List, [], _∷_, _++_}
+use lib.ListN.{length, getD, set}
+use lib.Dec.{leb, ltb, eqb}
+use Rattle.model.specs.declared.Source.{Source}
+use Rattle.model.specs.declared.Source.the-variants.{Fixed, Paced}
+use Rattle.model.specs.declared.Link.{Link}
+use Rattle.model.specs.declared.Description.{Description}
+use Rattle.model.specs.declared.Field.{Field}
+use Rattle.model.specs.declared.Field.the-variants.{OfTask, OfSource, OfLink}
+use Rattle.model.specs.declared.Refusal.the-variants.{CutShort, StrangeTag, WrongLength, OutOfTurn, TooMany, OffScale, NoSuchEnd}
+use Rattle.model.specs.declared.Taken.{Taken}
+use Rattle.model.specs.declared.Taken.the-variants.{Whole, Broken, End}
+use Rattle.model.specs.declared.Progress.{Progress}
+use Rattle.model.specs.declared.Check.{Check}
+use Rattle.model.specs.declared.Check.the-variants.{Fine, Unfit}
+use Rattle.model.specs.Refusals.{noLink, noSource}
+
+-- "Numbers have their high byte first": x in n bytes, and the number in the n bytes from `at` on
+unfoldable pub bytesOf : ℕ → ℕ → List ℕ
+bytesOf zero x = []
+bytesOf (suc n) x = bytesOf n (x / 256) ++ (x % 256 ∷ [])
+
+unfoldable pub numberIn : List ℕ → ℕ → ℕ → ℕ
+numberIn s at zero = 0
+numberIn s at (suc n) = numberIn s at n * 256 + getD s (at + n) 0
+
+-- the table of fields: tag, length of the body, body
+abbrev pub tagOf : Field → ℕ
+tagOf (OfTask e) = 1
+tagOf (OfSource (Fixed m)) = 2
+tagOf (OfSource (Paced p)) = 3
+tagOf (OfLink l) = 4
+
+abbrev pub bodyLength : ℕ → ℕ
+bodyLength tag = cond (leb tag 2) 4 (cond (eqb tag 3) 2 3)
+
+unfoldable pub bodyOf : Field → List ℕ
+bodyOf (OfTask e) = bytesOf 4 e
+bodyOf (OfSource (Fixed m)) = bytesOf 4 m
+bodyOf (OfSource (Paced p)) = bytesOf 2 p
+bodyOf (OfLink l) = l .from ∷ l .to ∷ l .critical ∷ []
+
+-- "one byte of tag, two bytes of length, the body"
+unfoldable pub fieldBytes : Field → List ℕ
+fieldBytes f = tagOf f ∷ bytesOf 2 (bodyLength (tagOf f)) ++ bodyOf f
+
+-- the field of a tag whose body begins at b
+unfoldable pub fieldIn : List ℕ → ℕ → ℕ → Field
+fieldIn s tag b =
+    cond (eqb tag 1) (OfTask (numberIn s b 4))
+    (cond (eqb tag 2) (OfSource (Fixed (numberIn s b 4)))
+    (cond (eqb tag 3) (OfSource (Paced (numberIn s b 2)))
+    (OfLink (record { from = getD s b 0; to = getD s (b + 1) 0; critical = getD s (b + 2) 0 }))))
+
+-- the field at a reading place, checked for a "whole header (1), tag (2), length (3), whole body (1)"
+unfoldable pub takeField : List ℕ → ℕ → Taken
+takeField s at =
+    cond (leb (length s) at) End
+    (cond (ltb (length s - at) 3) (Broken CutShort)
+    (cond (eqb (getD s at 0) 0 || ltb 4 (getD s at 0)) (Broken StrangeTag)
+    (cond (not (eqb (numberIn s (at + 1) 2) (bodyLength (getD s at 0)))) (Broken WrongLength)
+    (cond (ltb (length s - at - 3) (bodyLength (getD s at 0))) (Broken CutShort)
+    (Whole (fieldIn s (getD s at 0) (at + 3)) (at + 3 + bodyLength (getD s at 0)))))))
+
+-- "Tasks come first, then sources of both kinds, then links"; "links rise strictly by from, then by to"
+abbrev pub inTurn : Progress → Field → Bool
+inTurn p (OfTask e) = eqb (p .sources) 0 && eqb (p .links) 0
+inTurn p (OfSource s) = eqb (p .links) 0
+inTurn p (OfLink l) = eqb (p .links) 0 || (ltb (p .from) (l .from) || (eqb (p .from) (l .from) && ltb (p .to) (l .to)))
+
+-- "1 to 32 tasks, 0 to 16 sources, 0 to 256 links"
+abbrev pub hasRoom : Progress → Field → Bool
+hasRoom p (OfTask e) = ltb (p .tasks) 32
+hasRoom p (OfSource s) = ltb (p .sources) 16
+hasRoom p (OfLink l) = ltb (p .links) 256
+
+-- "longest run 1 to 10,000,000; least spacing 1 to 1,000,000,000; pulses 1 to 960; critical 0 or 1"
+abbrev pub onScale : Field → Bool
+onScale (OfTask e) = leb 1 e && leb e 10000000
+onScale (OfSource (Fixed m)) = leb 1 m && leb m 1000000000
+onScale (OfSource (Paced p)) = leb 1 p && leb p 960
+onScale (OfLink l) = leb (l .critical) 1
+
+-- "the first task is number 1", "the first source is number 33, whatever the count of tasks"; a node is a task or a source
+abbrev pub isTask : ℕ → ℕ → Bool
+isTask tasks i = leb 1 i && leb i tasks
+
+abbrev pub isSource : ℕ → ℕ → Bool
+isSource sources i = leb 33 i && leb i (32 + sources)
+
+-- no such end: "from" names no node of the file, or "to" no task
+abbrev pub hasEnds : Progress → Field → Bool
+hasEnds p (OfTask e) = true
+hasEnds p (OfSource s) = true
+hasEnds p (OfLink l) = (isTask (p .tasks) (l .from) || isSource (p .sources) (l .from)) && isTask (p .tasks) (l .to)
+
+-- "then 4, 5, 6, 7"
+unfoldable pub checkField : Progress → Field → Check
+checkField p f =
+    cond (not (inTurn p f)) (Unfit OutOfTurn)
+    (cond (not (hasRoom p f)) (Unfit TooMany)
+    (cond (not (onScale f)) (Unfit OffScale)
+    (cond (not (hasEnds p f)) (Unfit NoSuchEnd)
+    Fine)))
+
+-- what is known after one field more
+abbrev pub noProgress : Progress
+noProgress = record { tasks = 0; sources = 0; links = 0; from = 0; to = 0 }
+
+abbrev pub passed : Progress → Field → Progress
+passed p (OfTask e) = record { tasks = p .tasks + 1; sources = p .sources; links = p .links; from = p .from; to = p .to }
+passed p (OfSource s) = record { tasks = p .tasks; sources = p .sources + 1; links = p .links; from = p .from; to = p .to }
+passed p (OfLink l) = record { tasks = p .tasks; sources = p .sources; links = p .links + 1; from = l .from; to = l .to }
+
+-- the description with one field more
+abbrev pub withField : Description → Field → Description
+withField d (OfTask e) = record {
+  «task_count» = d .«task_count» + 1; runs = set (d .runs) (d .«task_count») e;
+  «source_count» = d .«source_count»; sources = d .sources; «link_count» = d .«link_count»; links = d .links }
+withField d (OfSource s) = record {
+  «task_count» = d .«task_count»; runs = d .runs;
+  «source_count» = d .«source_count» + 1; sources = set (d .sources) (d .«source_count») (record { source = s });
+  «link_count» = d .«link_count»; links = d .links }
+withField d (OfLink l) = record {
+  «task_count» = d .«task_count»; runs = d .runs; «source_count» = d .«source_count»; sources = d .sources;
+  «link_count» = d .«link_count» + 1; links = set (d .links) (d .«link_count») l }
+
+-- the fields of a description: tasks, then sources, then links
+abbrev pub fieldCount : Description → ℕ
+fieldCount d = d .«task_count» + d .«source_count» + d .«link_count»
+
+unfoldable pub fieldOf : Description → ℕ → Field
+fieldOf d k =
+    cond (ltb k (d .«task_count»)) (OfTask (getD (d .runs) k 0))
+    (cond (ltb k (d .«task_count» + d .«source_count»)) (OfSource (getD (d .sources) (k - d .«task_count») noSource .source))
+    (OfLink (getD (d .links) (k - (d .«task_count» + d .«source_count»)) noLink)))

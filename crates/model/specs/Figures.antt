@@ -1,0 +1,140 @@
+-- "Figures to keep, marked P": the files they speak of, and the figures as the rows of one statement.
+use Prim.Native.Nat.{ℕ, zero, suc, _+_, _-_, _%_}
+use mathlib.Core.Bool.{Bool, true, false, _||_}
+use mathlib.Core.List.{List, [], _∷_, _++_}
+use mathlib.Core.Path.{_≡_}
+use lib.ListN.{length, getD, replicate}
+use lib.Dec.{eqb, ltb}
+use Rattle.model.specs.declared.Source.{Source}
+use Rattle.model.specs.declared.Source.the-variants.{Fixed, Paced}
+use Rattle.model.specs.declared.SourceSlot.{SourceSlot}
+use Rattle.model.specs.declared.Link.{Link}
+use Rattle.model.specs.declared.Description.{Description}
+use Rattle.model.specs.declared.Refusal.the-variants.{NoTask, OutOfTurn, TooSoon}
+use Rattle.model.specs.declared.Outcome.{Outcome}
+use Rattle.model.specs.declared.Outcome.the-variants.{Done, Refused}
+use Rattle.model.specs.declared.Reading.{Reading}
+use Rattle.model.specs.declared.Verdict.{Verdict}
+use Rattle.model.specs.declared.Verdict.the-variants.{Free, HeldOrder, DoubtOrder, Held, Doubt}
+use Rattle.model.specs.declared.Quote.{Quote}
+use Rattle.model.specs.declared.Quote.the-variants.{Tempo}
+use Rattle.model.specs.declared.Machine.{Machine}
+use Rattle.model.specs.declared.Arrivals.{Arrivals}
+use Rattle.model.specs.declared.Ticked.{Ticked}
+use Rattle.model.specs.declared.Walk.{Walk}
+use Rattle.model.specs.Basics.{tab}
+use Rattle.model.specs.Refusals.{noSource, noLink}
+use Rattle.model.specs.Graph.{system}
+use Rattle.model.specs.Loads.{load}
+use Rattle.model.specs.File.{fileOf, readFile}
+use Rattle.model.specs.Delays.{spacing, spacingOf, roundOf, startOf}
+use Rattle.model.specs.Order.{walk}
+use Rattle.model.specs.Verdicts.{verdictAt, quoteOf}
+use Rattle.model.specs.Machine.{idle, droppedAt, plainTick}
+use Rattle.model.specs.History.{Call, answers}
+
+-- a list filled up to n places
+abbrev pub upToLength : {A : Type 0} → ℕ → A → List A → List A
+upToLength n a l = l ++ replicate (n - length l) a
+
+-- a description from its parts
+abbrev pub describe : List ℕ → List Source → List Link → Description
+describe runs sources links = record {
+  «task_count» = length runs; runs = upToLength 32 0 runs;
+  «source_count» = length sources; sources = upToLength 16 noSource (slots sources);
+  «link_count» = length links; links = upToLength 256 noLink links }
+  where
+    slots : List Source → List SourceSlot
+    slots [] = []
+    slots (s ∷ ss) = record { source = s } ∷ slots ss
+
+abbrev pub free : ℕ → ℕ → Link
+free i j = record { from = i; to = j; critical = 0 }
+
+abbrev pub critical : ℕ → ℕ → Link
+critical i j = record { from = i; to = j; critical = 1 }
+
+-- "Box, a file of 57 bytes", and what it describes
+abbrev pub boxFile : List ℕ
+boxFile =
+    0x01 ∷ 0x00 ∷ 0x04 ∷ 0x00 ∷ 0x00 ∷ 0x01 ∷ 0x90 ∷ 0x01 ∷ 0x00 ∷ 0x04 ∷ 0x00 ∷ 0x00 ∷ 0x01 ∷ 0x2C ∷
+    0x01 ∷ 0x00 ∷ 0x04 ∷ 0x00 ∷ 0x00 ∷ 0x00 ∷ 0xC8 ∷ 0x03 ∷ 0x00 ∷ 0x02 ∷ 0x01 ∷ 0xE0 ∷
+    0x02 ∷ 0x00 ∷ 0x04 ∷ 0x00 ∷ 0x00 ∷ 0x07 ∷ 0xD0 ∷ 0x04 ∷ 0x00 ∷ 0x03 ∷ 0x02 ∷ 0x01 ∷ 0x00 ∷
+    0x04 ∷ 0x00 ∷ 0x03 ∷ 0x02 ∷ 0x03 ∷ 0x01 ∷ 0x04 ∷ 0x00 ∷ 0x03 ∷ 0x21 ∷ 0x02 ∷ 0x01 ∷
+    0x04 ∷ 0x00 ∷ 0x03 ∷ 0x22 ∷ 0x03 ∷ 0x01 ∷ []
+
+abbrev pub box : Description
+box = describe (400 ∷ 300 ∷ 200 ∷ []) (Paced 480 ∷ Fixed 2000 ∷ []) (free 2 1 ∷ critical 2 3 ∷ critical 33 2 ∷ critical 34 3 ∷ [])
+
+-- "Twin: runs 2, 2, 2; source 33 fixed; links 1>3, 2>3, 33>1, 33>2, all critical"
+abbrev pub twin : ℕ → Description
+twin m = describe (2 ∷ 2 ∷ 2 ∷ []) (Fixed m ∷ []) (critical 1 3 ∷ critical 2 3 ∷ critical 33 1 ∷ critical 33 2 ∷ [])
+
+-- the files of P1, P6, P7, P9 and P10
+abbrev pub alone : Description
+alone = describe (1 ∷ []) [] []
+
+abbrev pub order : Description
+order = describe (1 ∷ 1 ∷ 1 ∷ []) [] (free 1 3 ∷ critical 3 2 ∷ [])
+
+abbrev pub orderWithSource : Description
+orderWithSource = describe (1 ∷ 1 ∷ 1 ∷ []) (Fixed 100 ∷ []) (free 1 3 ∷ critical 3 2 ∷ free 33 3 ∷ [])
+
+abbrev pub metTwice : Description
+metTwice = describe (1 ∷ 1 ∷ 1 ∷ 1 ∷ []) [] (free 1 3 ∷ free 1 4 ∷ free 3 4 ∷ critical 4 2 ∷ [])
+
+abbrev pub pulse : Description
+pulse = describe (1 ∷ []) (Fixed 5 ∷ []) (free 33 1 ∷ [])
+
+abbrev pub sameTwice : Description
+sameTwice = describe (1 ∷ []) (Fixed 5 ∷ []) (free 33 1 ∷ free 33 1 ∷ [])
+
+-- n calls, source 33 arriving in those that pass the test, with no "finish"
+abbrev pub callsWhere : ℕ → (ℕ → Bool) → List Call
+callsWhere n test = tab n (λ x. record { arrivals = record { marks = upToLength 16 false (test x ∷ []) }; finish = false })
+
+-- the outcomes of a list of calls from the start
+abbrev pub outcomesOf : List Ticked → List Outcome
+outcomesOf [] = []
+outcomesOf (r ∷ rs) = r .outcome ∷ outcomesOf rs
+
+abbrev pub outcomes : Description → ℕ → List Call → List Outcome
+outcomes d t cs = outcomesOf (answers d t (idle d t) cs)
+
+abbrev pub sevenths : ℕ → Bool
+sevenths x = eqb (x % 7) 0
+
+-- after each call, how it ended and whether the link at place l is marked dropped
+abbrev pub marksOf : ℕ → List Ticked → List (Outcome × Bool)
+marksOf l [] = []
+marksOf l (r ∷ rs) = (r .outcome, droppedAt (r .machine) l) ∷ marksOf l rs
+
+pub record Figures : Type 0 where
+  pub p1-empty : readFile [] .outcome ≡ Refused NoTask 0
+  pub p1-alone : quoteOf alone ≡ Tempo 3000
+  pub p2-load-33-1 : load (system box) 33 1 ≡ 900
+  pub p2-load-2-3 : load (system box) 2 3 ≡ 200
+  pub p2-read : readFile boxFile ≡ record { outcome = Done; description = box }
+  pub p2-written : fileOf box ≡ boxFile
+  pub p2-length : length boxFile ≡ 57
+  pub p3-held : verdictAt box 1783 2 ≡ Held 700 701
+  pub p3-spacing : spacingOf box 1784 33 ≡ 700
+  pub p3-first : startOf (system box) 2 ≡ 0
+  pub p3-next : roundOf (system box) (spacingOf box 1784) 2 0 ≡ 700
+  pub p3-delay : roundOf (system box) (spacingOf box 1784) 2 700 ≡ 700
+  pub p3-doubtful : verdictAt box 1784 2 ≡ Doubt 700
+  pub p4-load : load (system (twin 9)) 33 1 ≡ 8
+  pub p4-first : verdictAt (twin 9) 200 2 ≡ Held 8 9
+  pub p4-second : verdictAt (twin 9) 200 3 ≡ Held 6 9
+  pub p4-doubtful : verdictAt (twin 8) 200 2 ≡ Doubt 8
+  pub p5-dropped-at-21 : marksOf 2 (answers (twin 7) 200 (idle (twin 7) 200) (callsWhere 22 sevenths)) ≡ replicate 21 (Done, false) ++ ((Done, true) ∷ [])
+  pub p6-held : verdictAt order 200 1 ≡ HeldOrder
+  pub p6-doubtful : verdictAt orderWithSource 200 1 ≡ DoubtOrder
+  pub p6-source : walk (system orderWithSource) 3 2 .failed ≡ 33
+  pub p7-doubtful : verdictAt metTwice 200 3 ≡ DoubtOrder
+  pub p7-met-twice : walk (system metTwice) 4 2 .failed ≡ 1
+  pub p8-480 : spacing (Paced 480) 1200 ≡ 1041
+  pub p8-24 : spacing (Paced 24) 1200 ≡ 20833
+  pub p9-refused : outcomes pulse 200 (callsWhere 5 (λ x. eqb x 0 || eqb x 4)) ≡ Done ∷ Done ∷ Done ∷ Done ∷ Refused TooSoon 0 ∷ []
+  pub p9-pass : outcomes pulse 200 (callsWhere 6 (λ x. eqb x 0 || eqb x 5)) ≡ replicate 6 Done
+  pub p10-twice : readFile (fileOf sameTwice) .outcome ≡ Refused OutOfTurn 20

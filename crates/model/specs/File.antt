@@ -1,0 +1,103 @@
+-- "The description file" as a whole: its bytes, its reading, acceptance, and the judging of a record.
+use Prim.Native.Nat.{ℕ, zero, suc, _+_, _-_}
+use mathlib.Core.Bool.{Bool, true, false, cond, _||_}
+use mathlib.Core.List.{List, [], _∷_, _++_}
+use mathlib.Core.Path.{_≡_}
+use lib.ListN.{length, getD, take, drop, replicate}
+use lib.Dec.{eqb, ltb}
+use Rattle.model.specs.declared.Description.{Description}
+use Rattle.model.specs.declared.Field.{Field}
+use Rattle.model.specs.declared.Link.{Link}
+use Rattle.model.specs.declared.Refusal.{Refusal}
+use Rattle.model.specs.declared.Refusal.the-variants.{CutShort, TooMany, NoTask, Loop, TooHeavy, ShortPage}
+use Rattle.model.specs.declared.Taken.{Taken}
+use Rattle.model.specs.declared.Taken.the-variants.{Whole, Broken, End}
+use Rattle.model.specs.declared.Progress.{Progress}
+use Rattle.model.specs.declared.Check.the-variants.{Fine, Unfit}
+use Rattle.model.specs.declared.Outcome.{Outcome}
+use Rattle.model.specs.declared.Outcome.the-variants.{Done, Refused}
+use Rattle.model.specs.declared.Reading.{Reading}
+use Rattle.model.specs.declared.Filled.{Filled}
+use Rattle.model.specs.declared.Filled.the-variants.{Bytes, Unfilled}
+use Rattle.model.specs.declared.LoadSheet.{LoadSheet}
+use Rattle.model.specs.Basics.{joined}
+use Rattle.model.specs.Refusals.{blank, noLink, noSource, onDone}
+use Rattle.model.specs.Field.{fieldBytes, takeField, checkField, withField, passed, noProgress, fieldOf, fieldCount}
+use Rattle.model.specs.Graph.{System, system, cyclic}
+use Rattle.model.specs.Loads.{tooHeavy, sheet, noRow}
+
+-- the bytes of a description: "fields follow each other without gaps"
+unfoldable pub fileOf : Description → List ℕ
+fileOf d = joined (fieldCount d) (λ k. fieldBytes (fieldOf d k))
+
+-- "after the last field come 8, 9, 10"
+unfoldable pub lastChecks : Description → Outcome
+lastChecks d =
+    cond (eqb (d .«task_count») 0) (Refused NoTask 0)
+    (cond (cyclic (system d)) (Refused Loop 0)
+    (cond (tooHeavy (system d)) (Refused TooHeavy 0)
+    Done))
+
+abbrev pub refusedReading : Refusal → ℕ → Reading
+refusedReading r place = record { outcome = Refused r place; description = blank }
+
+abbrev pub finished : Description → Reading
+finished d = onDone (lastChecks d) (record { outcome = Done; description = d }) refusedReading
+
+-- one step of a reading: "a field that does not come out whole ends the reading"; the refusal's place is the field's tag
+abbrev pub onTaken : Taken → (Field → ℕ → Reading) → (Refusal → Reading) → Reading → Reading
+onTaken (Whole f next) go stop done = go f next
+onTaken (Broken r) go stop done = stop r
+onTaken End go stop done = done
+
+-- the fields from `at` on, after the description and the progress that those before it gave; the first number bounds how many
+unfoldable pub readFrom : ℕ → List ℕ → ℕ → Progress → Description → Reading
+readFrom zero s at p d = refusedReading CutShort at
+readFrom (suc n) s at p d =
+    onTaken (takeField s at)
+    (λ f next. elim (checkField p f) [
+        Fine ↦ readFrom n s next (passed p f) (withField d f)
+      | Unfit r ↦ refusedReading r at ])
+    (λ r. refusedReading r at)
+    (finished d)
+
+-- "taken field by field from a reading place in the caller's bytes"
+unfoldable pub readFile : List ℕ → Reading
+readFile s = readFrom (suc (length s)) s 0 noProgress blank
+
+abbrev pub Accepted : List ℕ → Type 0
+Accepted s = readFile s .outcome ≡ Done
+
+-- "judged as its file would be, counts above the limits giving 5 first at place 0"
+unfoldable pub overfull : Description → Bool
+overfull d = ltb 32 (d .«task_count») || (ltb 16 (d .«source_count») || ltb 256 (d .«link_count»))
+
+unfoldable pub judge : Description → Outcome
+judge d = cond (overfull d) (Refused TooMany 0) (readFile (fileOf d) .outcome)
+
+-- "entries past a count are not looked at, and the reader leaves 0 there"
+unfoldable pub trimmed : Description → Description
+trimmed d = record {
+  «task_count» = d .«task_count»; runs = take (d .«task_count») (d .runs) ++ replicate (32 - d .«task_count») 0;
+  «source_count» = d .«source_count»; sources = take (d .«source_count») (d .sources) ++ replicate (16 - d .«source_count») noSource;
+  «link_count» = d .«link_count»; links = take (d .«link_count») (d .links) ++ replicate (256 - d .«link_count») noLink }
+
+-- "short page: a lent buffer is shorter than the file or report it is to take"; "only the bytes of that file or report are filled"
+unfoldable pub fillWith : List ℕ → List ℕ → Filled
+fillWith text buffer = cond (ltb (length buffer) (length text)) (Unfilled ShortPage 0) (Bytes (length text))
+
+unfoldable pub filledBy : List ℕ → List ℕ → List ℕ
+filledBy text buffer = cond (ltb (length buffer) (length text)) buffer (text ++ drop (length text) buffer)
+
+-- writing: the answer, and the buffer as it is left; "a refusal changes no byte of a lent buffer"
+unfoldable pub written : Description → List ℕ → Filled
+written d buffer = onDone (judge d) (fillWith (fileOf d) buffer) Unfilled
+
+unfoldable pub pageAfter : Description → List ℕ → List ℕ
+pageAfter d buffer = onDone (judge d) (filledBy (fileOf d) buffer) (λ r place. buffer)
+
+-- the load sheet of a record: 1 to 10 as judged
+unfoldable pub loadSheet : Description → LoadSheet
+loadSheet d = onDone (judge d)
+    (record { outcome = Done; rows = sheet (system d) })
+    (λ r place. record { outcome = Refused r place; rows = replicate 48 noRow })

@@ -1,0 +1,112 @@
+-- A list of tick calls, the plain machine beside it, and what its ticks show: firings, runs, events, serves, drops and waits.
+use Prim.Native.Nat.{ℕ, zero, suc, _+_, _-_, _<_, _≤_}
+use mathlib.Core.Bool.{Bool, true, false, _||_, _&&_, not, cond}
+use mathlib.Core.List.{List, [], _∷_}
+use mathlib.Core.Path.{_≡_}
+use lib.ListN.{getD, length}
+use lib.Dec.{ltb, leb, eqb}
+use Rattle.model.specs.declared.Description.{Description}
+use Rattle.model.specs.declared.Machine.{Machine}
+use Rattle.model.specs.declared.Arrivals.{Arrivals}
+use Rattle.model.specs.declared.Ticked.{Ticked}
+use Rattle.model.specs.declared.Outcome.{Outcome}
+use Rattle.model.specs.declared.Outcome.the-variants.{Done, Refused}
+use Rattle.model.specs.Graph.{runOf}
+use Rattle.model.specs.Machine.{plainTick, arrive, highest, usedAt}
+
+-- a call: "arrivals and finish are free in each"
+pub record Call : Type 0 where
+  pub arrivals : Arrivals
+  pub finish : Bool
+
+-- the plain machine's answer to each call, each lent the record that the one before left; and the record after the last
+unfoldable pub answers : Description → ℕ → Machine → List Call → List Ticked
+answers d t m [] = []
+answers d t m (c ∷ cs) = let r = plainTick d t m (c .arrivals) (c .finish) in r ∷ answers d t (r .machine) cs
+
+unfoldable pub left : Description → ℕ → Machine → List Call → Machine
+left d t m [] = m
+left d t m (c ∷ cs) = left d t (plainTick d t m (c .arrivals) (c .finish) .machine) cs
+
+-- what one tick shows: the sources that arrived, the task that ran (0 for none), whether its run began and whether it ended in
+-- this tick, and the ticks that each task had used before it
+pub record Tick : Type 0 where
+  pub arrived : List Bool
+  pub ran : ℕ
+  pub began : Bool
+  pub ended : Bool
+  pub used : List ℕ
+
+unfoldable pub observe : Description → Machine → Call → Tick
+observe d m c =
+    let h = highest d (arrive d (c .arrivals .marks) m) in
+    record {
+      arrived = c .arrivals .marks; ran = h; began = eqb (usedAt m h) 0;
+      ended = not (eqb h 0) && (eqb (usedAt m h + 1) (runOf d h) || c .finish);
+      used = m .used }
+
+-- "a refused call is no tick"
+abbrev pub isDone : Outcome → Bool
+isDone Done = true
+isDone (Refused r place) = false
+
+unfoldable pub ticks : Description → ℕ → Machine → List Call → List Tick
+ticks d t m [] = []
+ticks d t m (c ∷ cs) =
+    let r = plainTick d t m (c .arrivals) (c .finish) in
+    elim (isDone (r .outcome)) [ true ↦ observe d m c ∷ ticks d t (r .machine) cs | false ↦ ticks d t m cs ]
+
+-- a node fires: a source when it arrives, a task when its run ends
+abbrev pub fires : Tick → ℕ → Bool
+fires k x = cond (ltb x 33) (eqb (k .ran) x && k .ended) (getD (k .arrived) (x - 33) false)
+
+abbrev pub begins : Tick → ℕ → Bool
+begins k j = eqb (k .ran) j && k .began
+
+abbrev pub ends : Tick → ℕ → Bool
+ends k j = eqb (k .ran) j && k .ended
+
+-- "an event that comes while its task is part done is taken by that run, any other by the run begun next":
+-- whether the run that takes an event of tick k for task j has begun before k
+abbrev pub partDone : Tick → ℕ → Bool
+partDone k j = ltb 0 (getD (k .used) (j - 1) 0)
+
+-- the ticks of a list by number, from 0
+abbrev pub noTick : Tick
+noTick = record { arrived = []; ran = 0; began = false; ended = false; used = [] }
+
+abbrev pub tickAt : List Tick → ℕ → Tick
+tickAt h x = getD h x noTick
+
+-- whether the run of j that takes an event ends within the n ticks from tick x on; `begun` says whether it has begun before x
+unfoldable pub endsWithin : List Tick → ℕ → Bool → ℕ → ℕ → Bool
+endsWithin h j begun x zero = false
+endsWithin h j begun x (suc n) =
+    let now = begun || begins (tickAt h x) j in
+    (now && ends (tickAt h x) j) || endsWithin h j now (suc x) n
+
+-- how many of the n ticks from tick x on pass up to the one in which it ends, that one counted; n where it does not end in them
+unfoldable pub ticksUntil : List Tick → ℕ → Bool → ℕ → ℕ → ℕ
+ticksUntil h j begun x zero = 0
+ticksUntil h j begun x (suc n) =
+    let now = begun || begins (tickAt h x) j in
+    elim (now && ends (tickAt h x) j) [ true ↦ 1 | false ↦ suc (ticksUntil h j now (suc x) n) ]
+
+-- "the event is served in the tick in which the run that takes it ends": the event of tick x for task j is served before tick y
+unfoldable pub servedBefore : List Tick → ℕ → ℕ → ℕ → Bool
+servedBefore h j x y = endsWithin h j (partDone (tickAt h x) j) x (y - x)
+
+-- "a link has been dropped if its from fired in some tick and its event before that one was not served in an earlier tick"
+pub record Dropped (h : List Tick) (i j : ℕ) : Type 0 where
+  pub again : ℕ
+  pub before : ℕ
+  pub earlier : before < again
+  pub in-list : again < length h
+  pub fired-again : fires (tickAt h again) i ≡ true
+  pub fired-before : fires (tickAt h before) i ≡ true
+  pub none-between : (x : ℕ) → before < x → x < again → fires (tickAt h x) i ≡ false
+  pub not-served : servedBefore h j before again ≡ false
+
+-- "a wait counts the ticks from the event's own, as the first, to the one that serves it, or else to the last of the list"
+unfoldable pub waitOf : List Tick → ℕ → ℕ → ℕ
+waitOf h j x = ticksUntil h j (partDone (tickAt h x) j) x (length h - x)

@@ -1,0 +1,15 @@
+-- Every definition of document 01, in its order. A reader starts at File and ends at Promise.
+pub mod Basics
+pub mod Refusals
+pub mod Field
+pub mod Graph
+pub mod Loads
+pub mod File
+pub mod Delays
+pub mod Order
+pub mod Verdicts
+pub mod Machine
+pub mod History
+pub mod Report
+pub mod Promise
+pub mod Figures

@@ -1,0 +1,161 @@
+-- "The tick machine": the record, its rules, its start, the four steps of a tick, and the refusals of a call. It is the plain machine.
+use Prim.Native.Nat.{ℕ, zero, suc, _+_, _-_, min}
+use mathlib.Core.Bool.{Bool, true, false, _||_, _&&_, not, cond}
+use mathlib.Core.List.{List}
+use lib.ListN.{getD, set, replicate}
+use lib.Dec.{ltb, leb, eqb}
+use Rattle.model.specs.declared.Link.{Link}
+use Rattle.model.specs.declared.Description.{Description}
+use Rattle.model.specs.declared.Machine.{Machine}
+use Rattle.model.specs.declared.Arrivals.{Arrivals}
+use Rattle.model.specs.declared.Ticked.{Ticked}
+use Rattle.model.specs.declared.Outcome.{Outcome}
+use Rattle.model.specs.declared.Outcome.the-variants.{Done, Refused}
+use Rattle.model.specs.declared.Refusal.the-variants.{TooSoon, Stranger, ForeignState}
+use Rattle.model.specs.Basics.{upTo, tab, allN, anyN}
+use Rattle.model.specs.Refusals.{onDone}
+use Rattle.model.specs.Graph.{linkAt, runOf}
+use Rattle.model.specs.Delays.{spacingOf}
+use Rattle.model.specs.Verdicts.{judgeAt}
+
+-- reading the record: by task number, by link's place, by source's place
+abbrev pub awakeAt : Machine → ℕ → Bool
+awakeAt m k = getD (m .awake) (k - 1) false
+
+abbrev pub usedAt : Machine → ℕ → ℕ
+usedAt m k = getD (m .used) (k - 1) 0
+
+abbrev pub waitingAt : Machine → ℕ → Bool
+waitingAt m l = getD (m .waiting) l false
+
+abbrev pub droppedAt : Machine → ℕ → Bool
+droppedAt m l = getD (m .dropped) l false
+
+abbrev pub ageAt : Machine → ℕ → ℕ
+ageAt m u = getD (m .ages) u 0
+
+-- one part of the record replaced
+abbrev pub setAwake : ℕ → Bool → Machine → Machine
+setAwake k b m = record { awake = set (m .awake) (k - 1) b; used = m .used; waiting = m .waiting; dropped = m .dropped; ages = m .ages }
+
+abbrev pub setUsed : ℕ → ℕ → Machine → Machine
+setUsed k x m = record { awake = m .awake; used = set (m .used) (k - 1) x; waiting = m .waiting; dropped = m .dropped; ages = m .ages }
+
+abbrev pub setWaiting : ℕ → Bool → Machine → Machine
+setWaiting l b m = record { awake = m .awake; used = m .used; waiting = set (m .waiting) l b; dropped = m .dropped; ages = m .ages }
+
+abbrev pub setDropped : ℕ → Bool → Machine → Machine
+setDropped l b m = record { awake = m .awake; used = m .used; waiting = m .waiting; dropped = set (m .dropped) l b; ages = m .ages }
+
+abbrev pub setAge : ℕ → ℕ → Machine → Machine
+setAge u x m = record { awake = m .awake; used = m .used; waiting = m .waiting; dropped = m .dropped; ages = set (m .ages) u x }
+
+-- "at the start all tasks sleep, used is 0, marks are clear, ages equal the spacings"
+abbrev pub blankMachine : Machine
+blankMachine = record { awake = replicate 32 false; used = replicate 32 0; waiting = replicate 256 false; dropped = replicate 256 false; ages = replicate 16 0 }
+
+unfoldable pub idle : Description → ℕ → Machine
+idle d t = record {
+  awake = replicate 32 false; used = replicate 32 0; waiting = replicate 256 false; dropped = replicate 256 false;
+  ages = tab 16 (λ u. cond (ltb u (d .«source_count»)) (spacingOf d t (33 + u)) 0) }
+
+-- the start call: 1 to 11, with zeros beside a refusal
+unfoldable pub started : Description → ℕ → Ticked
+started d t = onDone (judgeAt d t)
+    (record { outcome = Done; machine = idle d t })
+    (λ r place. record { outcome = Refused r place; machine = blankMachine })
+
+-- the rules: "used is below e; a sleeping task has used 0; a waiting link's task is awake; ages do not exceed spacings;
+-- nothing is set for absent nodes or links"
+abbrev pub taskRule : Description → Machine → ℕ → Bool
+taskRule d m k = cond (leb k (d .«task_count»))
+    (ltb (usedAt m k) (runOf d k) && (awakeAt m k || eqb (usedAt m k) 0))
+    (not (awakeAt m k) && eqb (usedAt m k) 0)
+
+abbrev pub linkRule : Description → Machine → ℕ → Bool
+linkRule d m l = cond (ltb l (d .«link_count»))
+    (not (waitingAt m l) || awakeAt m (linkAt d l .to))
+    (not (waitingAt m l) && not (droppedAt m l))
+
+abbrev pub sourceRule : Description → ℕ → Machine → ℕ → Bool
+sourceRule d t m u = cond (ltb u (d .«source_count»)) (leb (ageAt m u) (spacingOf d t (33 + u))) (eqb (ageAt m u) 0)
+
+unfoldable pub lawful : Description → ℕ → Machine → Bool
+lawful d t m = allN (taskRule d m) 1 32 && (allN (linkRule d m) 0 256 && allN (sourceRule d t m) 0 16)
+
+-- "Firing means, for each link out: if waiting, mark dropped; set waiting; wake the task"
+abbrev pub markDropped : ℕ → Machine → Machine
+markDropped l m = cond (waitingAt m l) (setDropped l true m) m
+
+unfoldable pub fireLink : Description → ℕ → ℕ → Machine → Machine
+fireLink d x l m = cond (eqb (linkAt d l .from) x) (setAwake (linkAt d l .to) true (setWaiting l true (markDropped l m))) m
+
+unfoldable pub fire : Description → ℕ → Machine → Machine
+fire d x m = upTo (d .«link_count») (fireLink d x) m
+
+-- 1. "each arriving source fires, in rising number, and its age becomes 0"
+unfoldable pub arriveOne : Description → List Bool → ℕ → Machine → Machine
+arriveOne d marks u m = cond (getD marks u false) (setAge u 0 (fire d (33 + u) m)) m
+
+unfoldable pub arrive : Description → List Bool → Machine → Machine
+arrive d marks m = upTo (d .«source_count») (arriveOne d marks) m
+
+-- 2. "the highest awake task runs; its used rises by one. With no task awake, this step and the next do nothing"
+unfoldable pub highestIn : List Bool → ℕ → ℕ
+highestIn awake zero = 0
+highestIn awake (suc k) = elim (getD awake k false) [ true ↦ suc k | false ↦ highestIn awake k ]
+
+abbrev pub highest : Description → Machine → ℕ
+highest d m = highestIn (m .awake) (d .«task_count»)
+
+unfoldable pub runTask : ℕ → Machine → Machine
+runTask h m = cond (eqb h 0) m (setUsed h (usedAt m h + 1) m)
+
+-- 3. "if used equals e, or the caller says finish, it sleeps, used becomes 0, waiting marks on links into it clear, and then it fires"
+unfoldable pub clearLink : Description → ℕ → ℕ → Machine → Machine
+clearLink d h l m = cond (eqb (linkAt d l .to) h) (setWaiting l false m) m
+
+unfoldable pub clearInto : Description → ℕ → Machine → Machine
+clearInto d h m = upTo (d .«link_count») (clearLink d h) m
+
+unfoldable pub endRun : Description → ℕ → Bool → Machine → Machine
+endRun d h finish m =
+    cond (not (eqb h 0) && (eqb (usedAt m h) (runOf d h) || finish))
+    (fire d h (clearInto d h (setUsed h 0 (setAwake h false m))))
+    m
+
+-- 4. "ages rise by one, up to the spacing"
+unfoldable pub ageOne : Description → ℕ → ℕ → Machine → Machine
+ageOne d t u m = setAge u (min (spacingOf d t (33 + u)) (ageAt m u + 1)) m
+
+unfoldable pub ageAll : Description → ℕ → Machine → Machine
+ageAll d t m = upTo (d .«source_count») (ageOne d t) m
+
+-- one tick: the four steps, the task that runs being the highest awake once the sources have fired
+unfoldable pub stepped : Description → ℕ → List Bool → Bool → Machine → Machine
+stepped d t marks finish m =
+    let m₁ = arrive d marks m in
+    let h = highest d m₁ in
+    ageAll d t (endRun d h finish (runTask h m₁))
+
+-- 15: "an arrival from a source that does not exist"; 14: "an arriving source's age is below its spacing"
+unfoldable pub strangers : Description → List Bool → Bool
+strangers d marks = anyN (λ u. getD marks u false && leb (d .«source_count») u) 0 16
+
+unfoldable pub tooSoon : Description → ℕ → List Bool → Machine → Bool
+tooSoon d t marks m = anyN (λ u. getD marks u false && ltb (ageAt m u) (spacingOf d t (33 + u))) 0 (d .«source_count»)
+
+-- "calls then check 11, 16, 15, 14"
+unfoldable pub judgeTick : Description → ℕ → Machine → List Bool → Outcome
+judgeTick d t m marks = onDone (judgeAt d t)
+    (cond (not (lawful d t m)) (Refused ForeignState 0)
+    (cond (strangers d marks) (Refused Stranger 0)
+    (cond (tooSoon d t marks m) (Refused TooSoon 0)
+    Done)))
+    Refused
+
+-- the tick call; a refusal changes "no part of a lent machine record"
+unfoldable pub plainTick : Description → ℕ → Machine → Arrivals → Bool → Ticked
+plainTick d t m a finish = onDone (judgeTick d t m (a .marks))
+    (record { outcome = Done; machine = stepped d t (a .marks) finish m })
+    (λ r place. record { outcome = Refused r place; machine = m })

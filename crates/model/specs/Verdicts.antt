@@ -1,0 +1,92 @@
+-- "Verdicts" and the quote.
+use Prim.Native.Nat.{ℕ, zero, suc, _+_, _-_, _≤_}
+use mathlib.Core.Bool.{Bool, true, false, _||_, _&&_, not, cond}
+use mathlib.Core.List.{List}
+use lib.ListN.{replicate, getD}
+use lib.Dec.{ltb, leb, eqb}
+use Rattle.model.specs.declared.Link.{Link}
+use Rattle.model.specs.declared.Description.{Description}
+use Rattle.model.specs.declared.Outcome.{Outcome}
+use Rattle.model.specs.declared.Outcome.the-variants.{Done, Refused}
+use Rattle.model.specs.declared.Refusal.the-variants.{OffKnob, NoTempo}
+use Rattle.model.specs.declared.Verdict.{Verdict}
+use Rattle.model.specs.declared.Verdict.the-variants.{Free, HeldOrder, DoubtOrder, Held, Doubt}
+use Rattle.model.specs.declared.VerdictSlot.{VerdictSlot}
+use Rattle.model.specs.declared.Verdicts.{Verdicts}
+use Rattle.model.specs.declared.Quote.{Quote}
+use Rattle.model.specs.declared.Quote.the-variants.{Tempo, Unquoted}
+use Rattle.model.specs.Basics.{tab, allN}
+use Rattle.model.specs.Refusals.{onDone}
+use Rattle.model.specs.Graph.{System, system, linkAt}
+use Rattle.model.specs.Delays.{Settled, unchanged, reached, delayOf, spacingOf}
+use Rattle.model.specs.Order.{inOrder}
+use Rattle.model.specs.File.{judge}
+
+-- "the link is held if the delay is below i's spacing, doubtful otherwise"
+abbrev pub settledVerdict : Settled → ℕ → Verdict
+settledVerdict (unchanged d) m = Held d m
+settledVerdict reached m = Doubt m
+
+unfoldable pub sourceVerdict : System → (ℕ → ℕ) → ℕ → ℕ → Verdict
+sourceVerdict s gap i j = settledVerdict (delayOf s gap i j) (gap i)
+
+unfoldable pub orderVerdict : System → ℕ → ℕ → Verdict
+orderVerdict s i j = cond (inOrder s i j) HeldOrder DoubtOrder
+
+-- "only critical links get one; others are free"
+unfoldable pub verdictOf : System → (ℕ → ℕ) → Link → Verdict
+verdictOf s gap l =
+    cond (eqb (l .critical) 0) Free
+    (cond (ltb (l .from) 33) (orderVerdict s (l .from) (l .to))
+    (sourceVerdict s gap (l .from) (l .to)))
+
+-- the verdict on the link at place l of a file, at tempo t
+unfoldable pub verdictAt : Description → ℕ → ℕ → Verdict
+verdictAt d t l = verdictOf (system d) (spacingOf d t) (linkAt d l)
+
+abbrev pub doubtful : Verdict → Bool
+doubtful Free = false
+doubtful HeldOrder = false
+doubtful DoubtOrder = true
+doubtful (Held d m) = false
+doubtful (Doubt m) = true
+
+-- the delay that a verdict prints
+abbrev pub delayIn : Verdict → ℕ
+delayIn Free = 0
+delayIn HeldOrder = 0
+delayIn DoubtOrder = 0
+delayIn (Held d m) = d
+delayIn (Doubt m) = 0
+
+-- "every critical link is held" at tempo t
+unfoldable pub allHeld : Description → ℕ → Bool
+allHeld d t = allN (λ l. not (doubtful (verdictAt d t l))) 0 (d .«link_count»)
+
+-- "tempo is a whole number T of tenths of a beat per minute, 200 to 3,000"
+abbrev pub onKnob : ℕ → Bool
+onKnob t = leb 200 t && leb t 3000
+
+-- the verdict call: 1 to 10 as judged, then 11
+abbrev pub freeSlot : VerdictSlot
+freeSlot = record { verdict = Free }
+
+abbrev pub slotAt : Description → ℕ → ℕ → VerdictSlot
+slotAt d t l = cond (ltb l (d .«link_count»)) (record { verdict = verdictAt d t l }) freeSlot
+
+unfoldable pub judgeAt : Description → ℕ → Outcome
+judgeAt d t = onDone (judge d) (cond (onKnob t) Done (Refused OffKnob 0)) Refused
+
+unfoldable pub verdicts : Description → ℕ → Verdicts
+verdicts d t = onDone (judgeAt d t)
+    (record { outcome = Done; slots = tab 256 (slotAt d t) })
+    (λ r place. record { outcome = Refused r place; slots = replicate 256 freeSlot })
+
+-- the largest tempo below 200 + n that passes a test, or 12
+unfoldable pub largestBelow : (ℕ → Bool) → ℕ → Quote
+largestBelow good zero = Unquoted NoTempo 0
+largestBelow good (suc n) = elim (good (200 + n)) [ true ↦ Tempo (200 + n) | false ↦ largestBelow good n ]
+
+-- "the quote is the largest T at which every critical link is held"
+unfoldable pub quoteOf : Description → Quote
+quoteOf d = onDone (judge d) (largestBelow (allHeld d) 2801) Unquoted

@@ -1,0 +1,158 @@
+// The types that the definitions of `specs/` and every other crate share: a firmware description, the refusals,
+// the answers of the calls and the tick machine's record. There is no code here.
+
+// A source: the minimum inter-arrival time in ticks (document 01's spacing), or the pulses per quarter note that give it.
+pub enum Source {
+    Fixed(u32),
+    Paced(u16),
+}
+
+pub struct SourceSlot {
+    pub source: Source,
+}
+
+// A link of the precedence graph: the node it leaves, the task it enters, and whether it is critical (0 or 1).
+pub struct Link {
+    pub from: u8,
+    pub to: u8,
+    pub critical: u8,
+}
+
+// One firmware. Entries past a count are not looked at.
+pub struct Description {
+    pub task_count: usize,
+    pub runs: [u32; 32],
+    pub source_count: usize,
+    pub sources: [SourceSlot; 16],
+    pub link_count: usize,
+    pub links: [Link; 256],
+}
+
+// One field of a description file.
+pub enum Field {
+    OfTask(u32),
+    OfSource(Source),
+    OfLink(Link),
+}
+
+// Why work is refused: document 01's table of refused work, in its order.
+pub enum Refusal {
+    CutShort,
+    StrangeTag,
+    WrongLength,
+    OutOfTurn,
+    TooMany,
+    OffScale,
+    NoSuchEnd,
+    NoTask,
+    Loop,
+    TooHeavy,
+    OffKnob,
+    NoTempo,
+    ShortPage,
+    TooSoon,
+    Stranger,
+    ForeignState,
+}
+
+// The end of a call: the work done, or one refusal with its place.
+pub enum Outcome {
+    Done,
+    Refused(Refusal, usize),
+}
+
+// What stands at a reading place: a whole field and where the next one begins, a refusal, or the end of the file.
+pub enum Taken {
+    Whole(Field, usize),
+    Broken(Refusal),
+    End,
+}
+
+// What the fields read so far fix about the next one: the counts, and the ends of the last link.
+pub struct Progress {
+    pub tasks: usize,
+    pub sources: usize,
+    pub links: usize,
+    pub from: u8,
+    pub to: u8,
+}
+
+// Whether a whole field may stand where it does.
+pub enum Check {
+    Fine,
+    Unfit(Refusal),
+}
+
+// The answer of a reading. Beside a refusal the description is all zeros.
+pub struct Reading {
+    pub outcome: Outcome,
+    pub description: Description,
+}
+
+// The answer of a call that fills a lent buffer: the bytes filled, or a refusal.
+pub enum Filled {
+    Bytes(usize),
+    Unfilled(Refusal, usize),
+}
+
+// A row of the load sheet: the load of one node at each task.
+pub struct Row {
+    pub loads: [u64; 32],
+}
+
+// The load sheet: tasks 1 to 32, then sources 33 to 48. Beside a refusal every load is 0.
+pub struct LoadSheet {
+    pub outcome: Outcome,
+    pub rows: [Row; 48],
+}
+
+// The verdict on one link. A source link's has the delay (the response-time bound) and the spacing of its source.
+pub enum Verdict {
+    Free,
+    HeldOrder,
+    DoubtOrder,
+    Held(u32, u32),
+    Doubt(u32),
+}
+
+pub struct VerdictSlot {
+    pub verdict: Verdict,
+}
+
+// The verdicts, one for each link of the file. Past the links, and beside a refusal, each is free.
+pub struct Verdicts {
+    pub outcome: Outcome,
+    pub slots: [VerdictSlot; 256],
+}
+
+// The backward walk: the node it failed at (0 while it has not), and the tasks it has met.
+pub struct Walk {
+    pub failed: u8,
+    pub met: [bool; 32],
+}
+
+// The quoted tempo in tenths of a beat per minute, or a refusal.
+pub enum Quote {
+    Tempo(u32),
+    Unquoted(Refusal, usize),
+}
+
+// The tick machine's record.
+pub struct Machine {
+    pub awake: [bool; 32],
+    pub used: [u32; 32],
+    pub waiting: [bool; 256],
+    pub dropped: [bool; 256],
+    pub ages: [u32; 16],
+}
+
+// The sources that arrive in one tick: a mark for each number from 33 to 48.
+pub struct Arrivals {
+    pub marks: [bool; 16],
+}
+
+// The answer of a start or a tick: its end, and the record as it is left.
+pub struct Ticked {
+    pub outcome: Outcome,
+    pub machine: Machine,
+}

@@ -6,7 +6,7 @@ use Rattle.model.specs.Basics.{sumN, topN, anyN, allN, upTo, tab, joined
 use Rattle.model.specs.Field.{bytesOf, numberIn, bodyOf, fieldBytes, fieldIn, takeField, checkField, fieldOf}
 use Rattle.model.specs.Graph.{linked, system, walks, cyclic}
 use Rattle.model.specs.Loads.{workF, work, added, load, tooHeavy}
-use Rattle.model.specs.File.{fileOf, lastChecks, readFrom, readFile, overfull, judge}
+use Rattle.model.specs.File.{fileOf, lastChecks, parseFrom, parseFile, readFile, overfull, judge}
 use Rattle.model.specs.Delays.{spacing, spacingOf, spacings, startOf, roundOf, settle, delayOf}
 use Rattle.model.specs.Order.{visit, walk, inOrder}
 use Rattle.model.specs.Verdicts.{sourceVerdict, orderVerdict, verdictOf, verdictAt, allHeld, judgeAt, largestBelow, quoteOf}
@@ -16,14 +16,38 @@ use Rattle.model.specs.Report.{digits, decimal, tempoText, tempoLine, ve
 
 -- to unfold this is to unfold every definition that a row computes with
 computing : ℕ
-unfolding sumN topN anyN allN upTo tab joined bytesOf numberIn bodyOf fieldBytes fieldIn takeField checkField fieldOf linked system walks cyclic workF work added load tooHeavy fileOf lastChecks readFrom readFile overfull judge spacing spacingOf spacings startOf roundOf settle delayOf visit walk inOrder sourceVerdict orderVerdict verdictOf verdictAt allHeld judgeAt largestBelow quoteOf idle lawful fireLink fire arriveOne arrive highestIn runTask clearLink clearInto endRun ageOne ageAll stepped strangers tooSoon judgeTick plainTick answers left digits decimal tempoText tempoLine verdictText linkLine linkLines refusedLine reportFor reportOf
+unfolding sumN topN anyN allN upTo tab joined bytesOf numberIn bodyOf fieldBytes fieldIn takeField checkField fieldOf linked system walks cyclic workF work added load tooHeavy fileOf lastChecks parseFrom parseFile readFile overfull judge spacing spacingOf spacings startOf roundOf settle delayOf visit walk inOrder sourceVerdict orderVerdict verdictOf verdictAt allHeld judgeAt largestBelow quoteOf idle lawful fireLink fire arriveOne arrive highestIn runTask clearLink clearInto endRun ageOne ageAll stepped strangers tooSoon judgeTick plainTick answers left digits decimal tempoText tempoLine verdictText linkLine linkLines refusedLine reportFor reportOf
 computing = 0
 
 pub figures : Figures
 unfolding computing
 figures = record {
-  p1-empty = refl; p1-alone = refl; p2-load-33-1 = refl; p2-load-2-3 = refl; p2-read = refl; p2-written = refl; p2-length = refl;
-  p3-held = refl; p3-spacing = refl; p3-first = refl; p3-next = refl; p3-delay = refl; p3-doubtful = refl;
-  p4-load = refl; p4-first = refl; p4-second = refl; p4-doubtful = refl; p5-dropped-at-21 = refl;
-  p6-held = refl; p6-doubtful = refl; p6-source = refl; p7-doubtful = refl; p7-met-twice = refl; p8-480 = refl; p8-24 = refl;
-  p9-refused = refl; p9-pass = refl; p10-twice = refl }
+  p1-empty = refl;
+  p1-alone = refl;
+  p2-load-33-1 = refl;
+  p2-load-2-3 = refl;
+  p2-read = refl;
+  p2-written = refl;
+  p2-length = refl;
+  p3-held = refl;
+  p3-spacing = refl;
+  p3-first = refl;
+  p3-next = refl;
+  p3-delay = refl;
+  p3-doubtful = refl;
+  p4-load = refl;
+  p4-first = refl;
+  p4-second = refl;
+  p4-doubtful = refl;
+  p5-dropped-at-21 = refl;
+  p6-held = refl;
+  p6-doubtful = refl;
+  p6-source = refl;
+  p7-doubtful = refl;
+  p7-met-twice = refl;
+  p8-480 = refl;
+  p8-24 = refl;
+  p9-refused = refl;
+  p9-pass = refl;
+  p10-twice = refl;
+}

@@ -39,8 +39,9 @@ pub data Settled : Type 0 where
 unfoldable pub settle : ℕ → (ℕ → ℕ) → ℕ → ℕ → Settled
 settle zero next limit d = reached
 settle (suc n) next limit d = elim (ltb d limit) [
-    false ↦ reached
-  | true ↦ elim (eqb (next d) d) [ true ↦ unchanged d | false ↦ settle n next limit (next d) ] ]
+  | false ↦ reached
+  | true ↦ elim (eqb (next d) d) [ true ↦ unchanged d | false ↦ settle n next limit (next d) ]
+]
 
 -- "the first D is S"; "a D that reaches the spacing settles it"
 unfoldable pub delayOf : System → (ℕ → ℕ) → ℕ → ℕ → Settled

@@ -118,15 +118,29 @@ passed p (OfLink l) = record { tasks = p .tasks; sources = p .sources; links = p
 -- the description with one field more
 abbrev pub withField : Description → Field → Description
 withField d (OfTask e) = record {
-  «task_count» = d .«task_count» + 1; runs = set (d .runs) (d .«task_count») e;
-  «source_count» = d .«source_count»; sources = d .sources; «link_count» = d .«link_count»; links = d .links }
+  «task_count» = d .«task_count» + 1;
+  runs = set (d .runs) (d .«task_count») e;
+  «source_count» = d .«source_count»;
+  sources = d .sources;
+  «link_count» = d .«link_count»;
+  links = d .links;
+}
 withField d (OfSource s) = record {
-  «task_count» = d .«task_count»; runs = d .runs;
-  «source_count» = d .«source_count» + 1; sources = set (d .sources) (d .«source_count») (record { source = s });
-  «link_count» = d .«link_count»; links = d .links }
+  «task_count» = d .«task_count»;
+  runs = d .runs;
+  «source_count» = d .«source_count» + 1;
+  sources = set (d .sources) (d .«source_count») (record { source = s });
+  «link_count» = d .«link_count»;
+  links = d .links;
+}
 withField d (OfLink l) = record {
-  «task_count» = d .«task_count»; runs = d .runs; «source_count» = d .«source_count»; sources = d .sources;
-  «link_count» = d .«link_count» + 1; links = set (d .links) (d .«link_count») l }
+  «task_count» = d .«task_count»;
+  runs = d .runs;
+  «source_count» = d .«source_count»;
+  sources = d .sources;
+  «link_count» = d .«link_count» + 1;
+  links = set (d .links) (d .«link_count») l;
+}
 
 -- the fields of a description: tasks, then sources, then links
 abbrev pub fieldCount : Description → ℕ

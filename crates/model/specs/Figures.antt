@@ -40,9 +40,13 @@ upToLength n a l = l ++ replicate (n - length l) a
 -- a description from its parts
 abbrev pub describe : List ℕ → List Source → List Link → Description
 describe runs sources links = record {
-  «task_count» = length runs; runs = upToLength 32 0 runs;
-  «source_count» = length sources; sources = upToLength 16 noSource (slots sources);
-  «link_count» = length links; links = upToLength 256 noLink links }
+  «task_count» = length runs;
+  runs = upToLength 32 0 runs;
+  «source_count» = length sources;
+  sources = upToLength 16 noSource (slots sources);
+  «link_count» = length links;
+  links = upToLength 256 noLink links;
+}
   where
     slots : List Source → List SourceSlot
     slots [] = []

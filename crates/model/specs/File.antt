@@ -30,6 +30,31 @@ use Rattle.model.specs.Loads.{tooHeavy, sheet, noRow}
 unfoldable pub fileOf : Description → List ℕ
 fileOf d = joined (fieldCount d) (λ k. fieldBytes (fieldOf d k))
 
+-- one step of a reading: "a field that does not come out whole ends the reading"; the refusal's place is the field's tag
+abbrev pub refusedReading : Refusal → ℕ → Reading
+refusedReading r place = record { outcome = Refused r place; description = blank }
+
+abbrev pub onTaken : Taken → (Field → ℕ → Reading) → (Refusal → Reading) → Reading → Reading
+onTaken (Whole f next) go stop done = go f next
+onTaken (Broken r) go stop done = stop r
+onTaken End go stop done = done
+
+-- the fields from `at` on, after the progress and the description that those before it gave; the first number bounds how many
+unfoldable pub parseFrom : ℕ → List ℕ → ℕ → Progress → Description → Reading
+parseFrom zero s at p d = refusedReading CutShort at
+parseFrom (suc n) s at p d =
+    onTaken (takeField s at)
+    (λ f next. elim (checkField p f) [
+      | Fine ↦ parseFrom n s next (passed p f) (withField d f)
+      | Unfit r ↦ refusedReading r at
+    ])
+    (λ r. refusedReading r at)
+    (record { outcome = Done; description = d })
+
+-- all fields: "taken field by field from a reading place in the caller's bytes"
+unfoldable pub parseFile : List ℕ → Reading
+parseFile s = parseFrom (suc (length s)) s 0 noProgress blank
+
 -- "after the last field come 8, 9, 10"
 unfoldable pub lastChecks : Description → Outcome
 lastChecks d =
@@ -38,32 +63,11 @@ lastChecks d =
     (cond (tooHeavy (system d)) (Refused TooHeavy 0)
     Done))
 
-abbrev pub refusedReading : Refusal → ℕ → Reading
-refusedReading r place = record { outcome = Refused r place; description = blank }
-
 abbrev pub finished : Description → Reading
 finished d = onDone (lastChecks d) (record { outcome = Done; description = d }) refusedReading
 
--- one step of a reading: "a field that does not come out whole ends the reading"; the refusal's place is the field's tag
-abbrev pub onTaken : Taken → (Field → ℕ → Reading) → (Refusal → Reading) → Reading → Reading
-onTaken (Whole f next) go stop done = go f next
-onTaken (Broken r) go stop done = stop r
-onTaken End go stop done = done
-
--- the fields from `at` on, after the description and the progress that those before it gave; the first number bounds how many
-unfoldable pub readFrom : ℕ → List ℕ → ℕ → Progress → Description → Reading
-readFrom zero s at p d = refusedReading CutShort at
-readFrom (suc n) s at p d =
-    onTaken (takeField s at)
-    (λ f next. elim (checkField p f) [
-        Fine ↦ readFrom n s next (passed p f) (withField d f)
-      | Unfit r ↦ refusedReading r at ])
-    (λ r. refusedReading r at)
-    (finished d)
-
--- "taken field by field from a reading place in the caller's bytes"
 unfoldable pub readFile : List ℕ → Reading
-readFile s = readFrom (suc (length s)) s 0 noProgress blank
+readFile s = let r = parseFile s in onDone (r .outcome) (finished (r .description)) refusedReading
 
 abbrev pub Accepted : List ℕ → Type 0
 Accepted s = readFile s .outcome ≡ Done
@@ -78,9 +82,13 @@ judge d = cond (overfull d) (Refused TooMany 0) (readFile (fileOf d) .outcome)
 -- "entries past a count are not looked at, and the reader leaves 0 there"
 unfoldable pub trimmed : Description → Description
 trimmed d = record {
-  «task_count» = d .«task_count»; runs = take (d .«task_count») (d .runs) ++ replicate (32 - d .«task_count») 0;
-  «source_count» = d .«source_count»; sources = take (d .«source_count») (d .sources) ++ replicate (16 - d .«source_count») noSource;
-  «link_count» = d .«link_count»; links = take (d .«link_count») (d .links) ++ replicate (256 - d .«link_count») noLink }
+  «task_count» = d .«task_count»;
+  runs = take (d .«task_count») (d .runs) ++ replicate (32 - d .«task_count») 0;
+  «source_count» = d .«source_count»;
+  sources = take (d .«source_count») (d .sources) ++ replicate (16 - d .«source_count») noSource;
+  «link_count» = d .«link_count»;
+  links = take (d .«link_count») (d .links) ++ replicate (256 - d .«link_count») noLink;
+}
 
 -- "short page: a lent buffer is shorter than the file or report it is to take"; "only the bytes of that file or report are filled"
 unfoldable pub fillWith : List ℕ → List ℕ → Filled

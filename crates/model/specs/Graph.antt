@@ -1,16 +1,16 @@
 -- The precedence graph of a description: nodes, runs, links, paths and cycles.
 use Prim.Native.Nat.{ℕ, zero, suc, _+_, _-_}
-use mathlib.Core.Bool.{Bool, true, false, _&&_}
+use mathlib.Core.Bool.{Bool, true, false, cond, _&&_}
 use mathlib.Core.Path.{_≡_}
 use lib.ListN.{getD}
-use lib.Dec.{eqb}
+use lib.Dec.{eqb, leb}
 use Rattle.model.specs.declared.Link.{Link}
 use Rattle.model.specs.declared.Source.{Source}
 use Rattle.model.specs.declared.Description.{Description}
 use Rattle.model.specs.Basics.{anyN}
 use Rattle.model.specs.Refusals.{noLink, noSource}
 
--- What loads and verdicts go by: tasks 1 .. tasks with their longest runs, sources 33 .. 32 + sources, and links.
+-- What loads and verdicts go by: tasks 1 .. tasks with their longest runs (0 for an absent one), sources 33 .. 32 + sources, links.
 pub record System : Type 0 where
   pub tasks : ℕ
   pub sources : ℕ
@@ -32,7 +32,12 @@ unfoldable pub linked : Description → ℕ → ℕ → Bool
 linked d i j = anyN (λ l. eqb (linkAt d l .from) i && eqb (linkAt d l .to) j) 0 (d .«link_count»)
 
 unfoldable pub system : Description → System
-system d = record { tasks = d .«task_count»; sources = d .«source_count»; run = runOf d; link = linked d }
+system d = record {
+  tasks = d .«task_count»;
+  sources = d .«source_count»;
+  run = λ j. cond (leb j (d .«task_count»)) (runOf d j) 0;
+  link = linked d;
+}
 
 -- a path of one link or more
 pub data Reaches (s : System) : ℕ → ℕ → Type 0 where

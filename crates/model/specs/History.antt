@@ -41,9 +41,12 @@ unfoldable pub observe : Description → Machine → Call → Tick
 observe d m c =
     let h = highest d (arrive d (c .arrivals .marks) m) in
     record {
-      arrived = c .arrivals .marks; ran = h; began = eqb (usedAt m h) 0;
+      arrived = c .arrivals .marks;
+      ran = h;
+      began = eqb (usedAt m h) 0;
       ended = not (eqb h 0) && (eqb (usedAt m h + 1) (runOf d h) || c .finish);
-      used = m .used }
+      used = m .used;
+    }
 
 -- "a refused call is no tick"
 abbrev pub isDone : Outcome → Bool

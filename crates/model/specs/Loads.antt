@@ -18,8 +18,9 @@ unfoldable mutual
   pub addedF : ℕ → System → ℕ → ℕ → ℕ
   addedF zero s i j = 0
   addedF (suc f) s i j = elim (s .link i j) [
-      true ↦ workF f s j
-    | false ↦ topTo (λ k. given (s .link i k) (addedF f s k j)) (suc j) (s .tasks) ]
+    | true ↦ workF f s j
+    | false ↦ topTo (λ k. given (s .link i k) (addedF f s k j)) (suc j) (s .tasks)
+  ]
 
 -- two calls for each link of a path that meets no task twice
 abbrev pub depth : System → ℕ

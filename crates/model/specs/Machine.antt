@@ -56,8 +56,12 @@ blankMachine = record { awake = replicate 32 false; used = replicate 32 0; waiti
 
 unfoldable pub idle : Description → ℕ → Machine
 idle d t = record {
-  awake = replicate 32 false; used = replicate 32 0; waiting = replicate 256 false; dropped = replicate 256 false;
-  ages = tab 16 (λ u. cond (ltb u (d .«source_count»)) (spacingOf d t (33 + u)) 0) }
+  awake = replicate 32 false;
+  used = replicate 32 0;
+  waiting = replicate 256 false;
+  dropped = replicate 256 false;
+  ages = tab 16 (λ u. cond (ltb u (d .«source_count»)) (spacingOf d t (33 + u)) 0);
+}
 
 -- the start call: 1 to 11, with zeros beside a refusal
 unfoldable pub started : Description → ℕ → Ticked

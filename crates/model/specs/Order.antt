@@ -50,8 +50,9 @@ visit (suc n) s j x w =
     (cond (getD (w .met) (x - 1) false) (failAt x w)
     (cond (ltb x j) (meet x w)
     (upTo 48 (λ r v. elim (s .link (suc r) x) [
-        false ↦ v
-      | true ↦ elim (eqb (v .failed) 0) [ false ↦ v | true ↦ visit n s j (suc r) v ] ])
+      | false ↦ v
+      | true ↦ elim (eqb (v .failed) 0) [ false ↦ v | true ↦ visit n s j (suc r) v ]
+    ])
     (meet x w))))
 
 unfoldable pub walk : System → ℕ → ℕ → Walk

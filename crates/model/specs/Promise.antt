@@ -24,7 +24,7 @@ TickMeets d t m c r = r ≡ plainTick d t m (c .arrivals) (c .finish)
 pub data Calls (d : Description) (t : ℕ) : Machine → List Call → List Ticked → Machine → Type 0 where
   none : {m : Machine} → Calls d t m [] [] m
   call : {m : Machine} {c : Call} {r : Ticked} {cs : List Call} {rs : List Ticked} {m′ : Machine}
-    → TickMeets d t m c r → Calls d t (r .machine) cs rs m′ → Calls d t m (c ∷ cs) (r ∷ rs) m′
+      → TickMeets d t m c r → Calls d t (r .machine) cs rs m′ → Calls d t m (c ∷ cs) (r ∷ rs) m′
 
 -- what is assured of such a list, whose calls were answered by rs and left the record m
 pub record Assured (d : Description) (q t : ℕ) (cs : List Call) (rs : List Ticked) (m : Machine) : Type 0 where
@@ -33,16 +33,16 @@ pub record Assured (d : Description) (q t : ℕ) (cs : List Call) (rs : List Tic
   pub plain-left : m ≡ left d t (idle d t) cs
   -- no critical link has been dropped
   pub kept : (l : ℕ) → l < d .«link_count» → linkAt d l .critical ≡ 1
-    → Dropped (ticks d t (idle d t) cs) (linkAt d l .from) (linkAt d l .to) → ⊥
+      → Dropped (ticks d t (idle d t) cs) (linkAt d l .from) (linkAt d l .to) → ⊥
   -- "its dropped mark is set exactly then", for every link
   pub marked : (l : ℕ) → l < d .«link_count»
-    → (droppedAt m l ≡ true) ↔ Dropped (ticks d t (idle d t) cs) (linkAt d l .from) (linkAt d l .to)
+      → (droppedAt m l ≡ true) ↔ Dropped (ticks d t (idle d t) cs) (linkAt d l .from) (linkAt d l .to)
   -- no event from a source on a critical link has waited longer than the delay printed for it, which is the verdict's at the quote
   pub waited : (l x : ℕ) → l < d .«link_count» → linkAt d l .critical ≡ 1 → 33 ≤ linkAt d l .from
-    → x < length (ticks d t (idle d t) cs) → fires (tickAt (ticks d t (idle d t) cs) x) (linkAt d l .from) ≡ true
-    → waitOf (ticks d t (idle d t) cs) (linkAt d l .to) x ≤ delayIn (verdictAt d q l)
+      → x < length (ticks d t (idle d t) cs) → fires (tickAt (ticks d t (idle d t) cs) x) (linkAt d l .from) ≡ true
+      → waitOf (ticks d t (idle d t) cs) (linkAt d l .to) x ≤ delayIn (verdictAt d q l)
 
 -- Demand 3: for one accepted file that has a quote, one tempo from 200 to that quote, and every list of calls from the start
 abbrev pub Demand3 : Type 0
 Demand3 = (d : Description) (q t : ℕ) (cs : List Call) (rs : List Ticked) (m : Machine)
-  → quoteOf d ≡ Tempo q → 200 ≤ t → t ≤ q → Calls d t (idle d t) cs rs m → Assured d q t cs rs m
+    → quoteOf d ≡ Tempo q → 200 ≤ t → t ≤ q → Calls d t (idle d t) cs rs m → Assured d q t cs rs m

@@ -44,6 +44,10 @@ noLink = record { from = 0; to = 0; critical = 0 }
 
 abbrev pub blank : Description
 blank = record {
-  «task_count» = 0; runs = replicate 32 0;
-  «source_count» = 0; sources = replicate 16 noSource;
-  «link_count» = 0; links = replicate 256 noLink }
+  «task_count» = 0;
+  runs = replicate 32 0;
+  «source_count» = 0;
+  sources = replicate 16 noSource;
+  «link_count» = 0;
+  links = replicate 256 noLink;
+}

@@ -1,0 +1,5 @@
+-- Theorems about the definitions of `model`, a file for each subject.
+pub mod Tests
+pub mod Range
+pub mod Table
+pub mod WellFormed

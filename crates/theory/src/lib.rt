@@ -1,0 +1,1 @@
+// Theorems about the definitions of `model`. There is no code here: `proofs/` holds a file for each subject.

@@ -3,3 +3,6 @@ pub mod Tests
 pub mod Range
 pub mod Table
 pub mod WellFormed
+pub mod Spacing
+pub mod Rounds
+pub mod Quotes

@@ -6,3 +6,5 @@ pub mod WellFormed
 pub mod Spacing
 pub mod Rounds
 pub mod Quotes
+pub mod Walk
+pub mod Order

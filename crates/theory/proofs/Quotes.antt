@@ -161,9 +161,12 @@ module _ (d : Description) (g : WellFormed d) where
       2801
       q
       (record {
-        low = a; high = omega arith; passes = e;
+        low = a;
+        high = omega arith;
+        passes = e;
         above =
-          λ t x y. false-of (allHeld d t) (λ f. not-both (all-slower d g (suc q) t (omega arith) x (omega arith) f) (h (omega arith))) })
+            λ t x y. false-of (allHeld d t) (λ f. not-both (all-slower d g (suc q) t (omega arith) x (omega arith) f) (h (omega arith)));
+      })
 
   pub quote-none : allHeld d 200 ≡ false → largestBelow (allHeld d) 2801 ≡ Unquoted NoTempo 0
   quote-none e =
@@ -188,6 +191,10 @@ quoted d q = go (judge d) refl
     go Done e f =
         let r : Largest (allHeld d) 2801 q = largest-found (allHeld d) 2801 q f in
         record {
-          judged = e; low = r .low; high = omega (arith, r .high); held = r .passes;
-          above = λ t x y. r .above t x (omega arith) }
+          judged = e;
+          low = r .low;
+          high = omega (arith, r .high);
+          held = r .passes;
+          above = λ t x y. r .above t x (omega arith);
+        }
     go (Refused r p) e f = absurd (unquoted-not (allHeld d) f)

@@ -8,3 +8,4 @@ pub mod Rounds
 pub mod Quotes
 pub mod Walk
 pub mod Order
+pub mod Levels

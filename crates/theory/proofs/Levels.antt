@@ -15,7 +15,7 @@ use Rattle.model.specs.Loads.{load}
 use Rattle.model.specs.Delays.{spacings, startOf, roundOf, Settled, unchanged, reached, settle, delayOf}
 use Rattle.model.specs.Verdicts.{settledVerdict, sourceVerdict}
 use Rattle.theory.proofs.Tests.{Cmp, less, same, more, cmp}
-use Rattle.theory.proofs.Range.{sumN-le, sumN-mul}
+use Rattle.theory.proofs.Range.{Each, sumN-le, sumN-mul}
 use Rattle.theory.proofs.Rounds.{Spaced, spacings-some, held-fixed, round-mono, round-start, settle-fixed, settle-least, settle-finds, never-reached}
 
 -- a sum whose numbers are counted from 0
@@ -93,50 +93,40 @@ spacings-cover d m p =
     let a : q ≤ max 1 q = omega arith in
     omega (arith, lt-div-mul-add {a = d + (m - 1)} {b = m} p, mul-le-mul-right m a)
 
--- a level whose load per tick is above 1: every round raises D
-module _ (s : System) (gap : ℕ → ℕ) (g : Spaced s gap) (j K : ℕ) where
-  -- the load of source u per tick, in parts of K, rounded down
-  abbrev pub share : ℕ → ℕ
-  share u = load s u j * K / gap u
+-- a level whose load per tick is above 1, in parts of K rounded down: every round raises D
+module _ (w gap : ℕ → ℕ) (a n K : ℕ) (g : Each (λ u. 1 ≤ gap u) a n) where
+  abbrev share : ℕ → ℕ
+  share u = w u * K / gap u
 
-  part-of : (D u : ℕ) → 33 ≤ u → u < 33 + s .sources → D * share u ≤ K * (load s u j * spacings D (gap u))
+  part-of : (D u : ℕ) → a ≤ u → u < a + n → D * share u ≤ K * (w u * spacings D (gap u))
   part-of D u p q =
       let c : ℕ = spacings D (gap u) in
-      let w : ℕ = load s u j in
-      let a : D * share u ≤ c * gap u * share u = mul-le-mul-right (share u) (spacings-cover D (gap u) (g u p q)) in
-      let b : c * (share u * gap u) ≤ c * (w * K) = mul-le-mul-left c (div-mul-le-self (w * K) (gap u)) in
-      omega (arith)
+      let x : D * share u ≤ c * gap u * share u = mul-le-mul-right (share u) (spacings-cover D (gap u) (g u p q)) in
+      let y : c * (share u * gap u) ≤ c * (w u * K) = mul-le-mul-left c (div-mul-le-self (w u * K) (gap u)) in
+      omega arith
 
-  some-of : (D u : ℕ) → share u ≤ K * (load s u j * spacings D (gap u))
+  some-of : (D u : ℕ) → share u ≤ K * (w u * spacings D (gap u))
   some-of D u =
-      let c : ℕ = spacings D (gap u) in
-      let w : ℕ = load s u j in
-      omega (arith, div-le-self (w * K) (gap u), mul-le-mul-left (w * K) (spacings-some D (gap u)))
+      omega
+      (arith, div-le-self (w u * K) (gap u), mul-le-mul-left (w u * K) (spacings-some D (gap u)))
 
-  pub rising : K < sumN share 33 (s .sources) → (D : ℕ) → D < roundOf s gap j D
-  unfolding roundOf
+  strict : (D R B : ℕ) → D * B ≤ K * R → D * suc K ≤ D * B → K < K * R → K * D < K * R
+  strict zero R B big up one = omega arith
+  strict (suc D) R B big up one = omega arith
+
+  pub rising : K < sumN (λ u. w u * K / gap u) a n → (D : ℕ) → D < sumN (λ u. w u * spacings D (gap u)) a n
   rising h D =
-      let f : ℕ → ℕ = λ u. load s u j * spacings D (gap u) in
-      let R : ℕ = sumN f 33 (s .sources) in
-      let all : sumN (λ u. D * share u) 33 (s .sources) ≤ sumN (λ u. K * f u) 33 (s .sources) = sumN-le (λ u. D * share u) (λ u. K * f u) 33 (s .sources) (part-of D) in
-      let some : sumN share 33 (s .sources) ≤ sumN (λ u. K * f u) 33 (s .sources) = sumN-le share (λ u. K * f u) 33 (s .sources) (λ u p q. some-of D u) in
-      let big : D * sumN share 33 (s .sources) ≤ K * R = omega (arith, sumN-mul D share 33 (s .sources), sumN-mul K f 33 (s .sources)) in
-      let more-one : D * suc K ≤ D * sumN share 33 (s .sources) = mul-le-mul-left D h in
-      let one : K < K * R = omega (arith, sumN-mul K f 33 (s .sources)) in
-      go D R big more-one one
-    where
-      go : (D R : ℕ) → D * sumN share 33 (s .sources) ≤ K * R → D * suc K ≤ D * sumN share 33 (s .sources) → K < K * R → D < startOf s j + R
-      go D R big more-one one = omega (arith, lt-of-mul-lt-mul-left K {m = D} {n = R} (strict D R big more-one one))
-        where
-          strict : (D R : ℕ) → D * sumN share 33 (s .sources) ≤ K * R → D * suc K ≤ D * sumN share 33 (s .sources) → K < K * R → K * D < K * R
-          strict zero R big more-one one = omega arith
-          strict (suc D) R big more-one one = omega arith
+      let f : ℕ → ℕ = λ u. w u * spacings D (gap u) in
+      let all : sumN (λ u. D * share u) a n ≤ sumN (λ u. K * f u) a n = sumN-le (λ u. D * share u) (λ u. K * f u) a n (part-of D) in
+      let some : sumN share a n ≤ sumN (λ u. K * f u) a n = sumN-le share (λ u. K * f u) a n (λ u p q. some-of D u) in
+      let big : D * sumN share a n ≤ K * sumN f a n = omega (arith, sumN-mul D share a n, sumN-mul K f a n) in
+      let one : K < K * sumN f a n = omega (arith, sumN-mul K f a n) in
+      lt-of-mul-lt-mul-left K {m = D} {n = sumN f a n} (strict D (sumN f a n) (sumN share a n) big (mul-le-mul-left D h) one)
 
-  -- so no D is left unchanged
-  pub saturated : K < sumN share 33 (s .sources) → (limit : ℕ) → levelReach s gap j limit ≡ limit
-  unfolding levelReach
-  saturated h limit = go (settle (suc limit) (roundOf s gap j) limit (startOf s j)) refl
-    where
-      go : (r : Settled) → settle (suc limit) (roundOf s gap j) limit (startOf s j) ≡ r → reachOf r limit ≡ limit
-      go (unchanged D) e = absurd (omega (arith, rising h D, settle-fixed (suc limit) (roundOf s gap j) limit (startOf s j) D e .0))
-      go reached e = refl
+-- so no D is left unchanged
+pub never-unchanged : (n : ℕ) (next : ℕ → ℕ) (limit d : ℕ) → ((D : ℕ) → D < next D) → reachOf (settle n next limit d) limit ≡ limit
+never-unchanged n next limit d up = go (settle n next limit d) refl
+  where
+    go : (r : Settled) → settle n next limit d ≡ r → reachOf r limit ≡ limit
+    go (unchanged D) e = absurd (omega (arith, up D, settle-fixed n next limit d D e .0))
+    go reached e = refl

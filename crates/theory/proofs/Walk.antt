@@ -89,6 +89,13 @@ module _ (s : System) (j : ℕ) where
   pub step-into : (n x r : ℕ) (v : Walk) → s .link (suc r) x ≡ true → v .failed ≡ 0 → stepTo n x r v ≡ visit n s j (suc r) v
   step-into n x r v e z = rw (e, stepTo, eq-eqb (v .failed) 0 z)
 
+  pub step-stop : (n x r : ℕ) (v : Walk) → eqb (v .failed) 0 ≡ false → stepTo n x r v ≡ v
+  step-stop n x r v q = go (s .link (suc r) x) refl
+    where
+      go : (a : Bool) → s .link (suc r) x ≡ a → stepTo n x r v ≡ v
+      go false e = rw (e, stepTo)
+      go true e = rw (e, stepTo, q)
+
   -- a step that has not failed was not begun after a failure
   step-fine : (n x r : ℕ) (v : Walk) → stepTo n x r v .failed ≡ 0 → v .failed ≡ 0
   step-fine n x r v = go (s .link (suc r) x) (eqb (v .failed) 0) refl

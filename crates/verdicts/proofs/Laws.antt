@@ -120,7 +120,7 @@ pub saturated-reach : (k start : ℕ) (loads gaps : List ℕ) (n limit : ℕ) �
 unfolding reachIn shareIn roundIn
 saturated-reach k start loads gaps n limit g h =
     sym (never-unchanged (suc limit) (λ d. start + sumN (λ u. getD loads u 0 * spacings d (getD gaps u 0)) 0 n) limit start
-      (λ D. omega (arith, rising (λ u. getD loads u 0) (λ u. getD gaps u 0) 0 n k (λ u p q. g .gap-some u (omega arith)) h D)))
+    (λ D. omega (arith, rising (λ u. getD loads u 0) (λ u. getD gaps u 0) 0 n k (λ u p q. g .gap-some u (omega arith)) h D)))
 
 pub level-any : (start : ℕ) (loads gaps : List ℕ) (n : ℕ) → Level start loads gaps n → Level 0 loads gaps n
 level-any start loads gaps n g =

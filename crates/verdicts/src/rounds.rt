@@ -1,7 +1,6 @@
 // Spacings of sources, and the rounds that work out how long a task's level may stay busy.
 
 use model::Source;
-
 ghost use mathlib.Core.Path.{_≡_};
 ghost use mathlib.Core.Bool.{true};
 ghost use Prim.Native.Nat.{ℕ, _+_, _*_, _≤_, _<_};
@@ -28,11 +27,7 @@ pub fn spacings_in(d: u64, m: u64) -> u64
     ensures { λ r. ⌜ r ≡ spacings d m ⌝ }
 {
     let q = (d + (m - 1)) / m;
-    if 1 < q {
-        q
-    } else {
-        1
-    }
+    if 1 < q { q } else { 1 }
 }
 
 // One round: what the level may bring in a stretch of d ticks.

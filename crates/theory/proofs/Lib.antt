@@ -5,3 +5,4 @@ pub mod Table
 pub mod WellFormed
 pub mod NumberBytes
 pub mod FieldLaws
+pub mod RecordLaws

@@ -6,3 +6,4 @@ pub mod WellFormed
 pub mod NumberBytes
 pub mod FieldLaws
 pub mod RecordLaws
+pub mod RecordState

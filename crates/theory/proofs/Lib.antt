@@ -7,3 +7,5 @@ pub mod NumberBytes
 pub mod FieldLaws
 pub mod RecordLaws
 pub mod RecordState
+pub mod JudgeLaws
+pub mod FileLaws

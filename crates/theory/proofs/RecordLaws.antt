@@ -85,10 +85,12 @@ module _ (d : Description) where
       in-sources p q =
           let e : k ≡ d .«task_count» + (k - d .«task_count») = omega arith in
           rw e (b (k - d .«task_count») (omega arith))
+
       in-links : d .«task_count» + d .«source_count» ≤ k → P k
       in-links p =
           let e : k ≡ d .«task_count» + d .«source_count» + (k - (d .«task_count» + d .«source_count»)) = omega arith in
           rw e (c (k - (d .«task_count» + d .«source_count»)) (omega arith))
+
       go : Cmp k (d .«task_count») → Cmp k (d .«task_count» + d .«source_count») → P k
       go (less p) q = a k p
       go (same p) (less q) = in-sources (omega arith) q

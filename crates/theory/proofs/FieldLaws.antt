@@ -9,7 +9,7 @@ use native.Mathlib.Nat.{zero-add, add-zero, add-assoc}
 use lib.Dec.{leb, ltb, eqb}
 use lib.ListN.{length, getD, take, drop, length-append, length-drop}
 use lib.Seq.{getD-append-add, take-add, drop-drop, drop-cons, getD-drop}
-use borrow.Author.Tests.{lt-leb, le-leb, le-ltb, eq-eqb, ne-eqb, leb-false, ltb-false, eqb-true, eqb-false, not-false}
+use borrow.Author.Tests.{lt-leb, le-leb, le-ltb, eq-eqb, ne-eqb, leb-true, leb-false, ltb-false, eqb-true, eqb-false, not-false}
 use Rattle.model.specs.declared.Source.{Source}
 use Rattle.model.specs.declared.Source.the-variants.{Fixed, Paced}
 use Rattle.model.specs.declared.Link.{Link}
@@ -150,6 +150,31 @@ take-took s at f next e =
       is = cc;
       ends = cc;
     }
+
+-- only past the last byte is there no field
+cond-not : {A : Type 0} (b : Bool) (x y z : A) → (x ≡ z → ⊥) → (y ≡ z → ⊥) → cond b x y ≡ z → ⊥
+cond-not true x y z f g e = f e
+cond-not false x y z f g e = g e
+
+broken-end : {r : Refusal} → Broken r ≡ End → ⊥
+broken-end q = let z : _≡_ {A = ℕ} 0 1 = cc in omega arith
+
+whole-end : {f : Field} {n : ℕ} → Whole f n ≡ End → ⊥
+whole-end q = let z : _≡_ {A = ℕ} 0 1 = cc in omega arith
+
+pub take-end : (s : List ℕ) (at : ℕ) → takeField s at ≡ End → length s ≤ at
+unfolding takeField
+take-end s at e = go (leb (length s) at) refl
+  where
+    go : (b : Bool) → leb (length s) at ≡ b → length s ≤ at
+    go true q = leb-true (length s) at q
+    go false q =
+        absurd
+        (cond-not (ltb (length s - at) 3) (Broken CutShort) _ End broken-end
+        (cond-not (eqb (getD s at 0) 0 || ltb 4 (getD s at 0)) (Broken StrangeTag) _ End broken-end
+        (cond-not (not (eqb (numberIn s (at + 1) 2) (bodyLength (getD s at 0)))) (Broken WrongLength) _ End broken-end
+        (cond-not (ltb (length s - at - 3) (bodyLength (getD s at 0))) (Broken CutShort) _ End broken-end whole-end)))
+        (rw q at e))
 
 -- a tag from 1 to 4
 pub by-tag : (P : ℕ → Type 0) (t : ℕ) → 1 ≤ t → t ≤ 4 → P 1 → P 2 → P 3 → P 4 → P t

@@ -8,4 +8,5 @@ pub mod FieldLaws
 pub mod RecordLaws
 pub mod RecordState
 pub mod JudgeLaws
+pub mod ReadLaws
 pub mod FileLaws

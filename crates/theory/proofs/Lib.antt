@@ -9,4 +9,6 @@ pub mod RecordLaws
 pub mod RecordState
 pub mod JudgeLaws
 pub mod ReadLaws
+pub mod FileLength
 pub mod FileLaws
+pub mod ReadBack

@@ -1,21 +1,24 @@
 -- The description file: judging, reading and writing are one. The main theorems about the definitions of Field and File. Assumes nothing.
 use Prim.Native.Nat.{ℕ, zero, suc, _+_, _-_, _≤_, _<_}
 use mathlib.Core.Path.{_≡_, refl, sym, ap, _∙_}
-use mathlib.Core.Bool.{Bool, true, false, _||_, _&&_}
+use mathlib.Core.Bool.{Bool, true, false, cond, _||_, _&&_}
 use mathlib.Core.List.{List}
 use mathlib.Core.Logic.{_⊎_, inl, inr}
 use native.Mathlib.Omega.{arith}
 use lib.Dec.{leb, ltb, eqb, eqb·suc-zero}
 use lib.ListN.{length, getD}
-use borrow.Author.Tests.{leb-true}
+use borrow.Author.Tests.{leb-true, eqb-false}
 use Rattle.model.specs.declared.Description.{Description}
 use Rattle.model.specs.declared.Field.the-variants.{OfTask, OfSource, OfLink}
-use Rattle.model.specs.declared.Outcome.the-variants.{Done}
-use Rattle.model.specs.Refusals.{noLink, noSource}
+use Rattle.model.specs.declared.Refusal.the-variants.{TooMany, NoTask, Loop, TooHeavy}
+use Rattle.model.specs.declared.Outcome.{Outcome}
+use Rattle.model.specs.declared.Outcome.the-variants.{Done, Refused}
+use Rattle.model.specs.declared.Reading.{Reading}
+use Rattle.model.specs.Refusals.{noLink, noSource, onDone}
 use Rattle.model.specs.Graph.{System, system, linkAt, sourceAt, runOf, cyclic}
 use Rattle.model.specs.Loads.{tooHeavy}
 use Rattle.model.specs.Field.{fieldOf, fieldCount, isTask, isSource, onScale}
-use Rattle.model.specs.File.{fileOf, parseFile, readFile, judge}
+use Rattle.model.specs.File.{fileOf, parseFile, lastChecks, finished, readFile, overfull, judge}
 use Rattle.theory.proofs.Tests.{or-new, or-cases, and-left, and-right}
 use Rattle.theory.proofs.WellFormed.{WellFormed, IsTask, IsSource, rises}
 use Rattle.theory.proofs.RecordLaws.{Widths, copyAt, progressAt, read-start, field-task, field-source, field-link}
@@ -86,3 +89,52 @@ module _ (d : Description) (j : Judged d) where
 -- a description that is judged as done is well formed
 pub judge-well-formed : (d : Description) → Widths d → judge d ≡ Done → WellFormed d
 judge-well-formed d w e = judged-well-formed d (judge-judged d w e)
+
+-- the last checks look at no entry past a count
+abbrev lastOf : ℕ → System → Outcome
+lastOf n s =
+    cond (eqb n 0) (Refused NoTask 0) (cond (cyclic s) (Refused Loop 0) (cond (tooHeavy s) (Refused TooHeavy 0) Done))
+
+last-is : (d : Description) → lastChecks d ≡ lastOf (d .«task_count») (system d)
+unfolding lastChecks
+last-is d = refl
+
+last-none : (n : ℕ) (s t : System) → eqb n 0 ≡ true → lastOf n s ≡ lastOf n t
+last-none n s t e = rw e
+
+pub last-copy : (d : Description) → Few d → lastChecks (copyAt d (fieldCount d)) ≡ lastChecks d
+last-copy d few = last-is (copyAt d (fieldCount d)) ∙ ap (λ (n : ℕ). lastOf n (system (copyAt d (fieldCount d)))) count ∙ go (eqb (d .«task_count») 0) refl ∙ sym (last-is d)
+  where
+    count : copyAt d (fieldCount d) .«task_count» ≡ d .«task_count»
+    count = ap (λ (x : Description). x .«task_count») (copy-links d (d .«link_count»))
+
+    go : (b : Bool) → eqb (d .«task_count») 0 ≡ b → lastOf (d .«task_count») (system (copyAt d (fieldCount d))) ≡ lastOf (d .«task_count») (system d)
+    go true q = last-none (d .«task_count») (system (copyAt d (fieldCount d))) (system d) q
+    go false q =
+        ap (λ (s : System). lastOf (d .«task_count») s) (copy-system d few (omega (arith, eqb-false (d .«task_count») 0 q)))
+
+finished-outcome : (d : Description) → finished d .outcome ≡ lastChecks d
+finished-outcome d = go (lastChecks d) refl
+  where
+    go : (o : Outcome) → lastChecks d ≡ o → finished d .outcome ≡ lastChecks d
+    go Done q = rw q
+    go (Refused r place) q = rw q
+
+-- a file of a description whose fields are all taken and checked gives their copy
+pub parsed-copy : (d : Description) → Widths d → parseFile (fileOf d) .outcome ≡ Done → parseFile (fileOf d) ≡ record { outcome = Done; description = copyAt d (fieldCount d) }
+parsed-copy d w e =
+    read-start d ∙ all-checked d w (suc (length (fileOf d))) 0 (omega arith) (omega arith) (rw (read-start d) at e) .reads
+
+-- the judging of a record in two steps: its counts and fields, then the checks after the last field, on the record itself
+pub judge-steps : (d : Description) → Widths d → judge d ≡ onDone (cond (overfull d) (Refused TooMany 0) (parseFile (fileOf d) .outcome)) (lastChecks d) Refused
+unfolding judge readFile
+judge-steps d w = go (overfull d) refl (parseFile (fileOf d) .outcome) refl
+  where
+    go : (b : Bool) → overfull d ≡ b → (o : Outcome) → parseFile (fileOf d) .outcome ≡ o → judge d ≡ onDone (cond (overfull d) (Refused TooMany 0) (parseFile (fileOf d) .outcome)) (lastChecks d) Refused
+    go true q o r = rw q
+    go false q (Refused x place) r = rw (q, r)
+    go false q Done r =
+        rw (q, r)
+        (finished-outcome (parseFile (fileOf d) .description)
+        ∙ ap (λ (x : Reading). lastChecks (x .description)) (parsed-copy d w r)
+        ∙ last-copy d (few-counts d q))

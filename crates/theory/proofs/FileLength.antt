@@ -58,7 +58,7 @@ offset-sources d (suc i) h =
     (omega (arith, length-source (getD (d .sources) i noSource .source), offset-sources d i (omega arith)))
 
 pub offset-links : (d : Description) (l : ℕ) → offset d (d .«task_count» + d .«source_count» + l) ≤ 7 * (d .«task_count» + d .«source_count») + 6 * l
-offset-links d zero = rw add-zero (omega (arith, offset-sources d (d .«source_count») (omega arith)))
+offset-links d zero = rw (add-zero (d .«task_count» + d .«source_count»)) (omega (arith, offset-sources d (d .«source_count») (omega arith)))
 offset-links d (suc l) =
     rw (add-suc (d .«task_count» + d .«source_count») l, offset-more d (d .«task_count» + d .«source_count» + l), field-link d l)
     (omega (arith, length-link (getD (d .links) l noLink), offset-links d l))

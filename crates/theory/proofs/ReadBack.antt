@@ -25,7 +25,7 @@ use Rattle.theory.proofs.WellFormed.{WellFormed, IsTask, IsSource}
 use Rattle.theory.proofs.NumberBytes.{Bytes}
 use Rattle.theory.proofs.RecordLaws.{Widths, copyAt}
 use Rattle.theory.proofs.RecordState.{filled-is, copy-links}
-use Rattle.theory.proofs.JudgeLaws.{Few, judge-read, read-parsed, read-last}
+use Rattle.theory.proofs.JudgeLaws.{Few, copy-system, judge-read, read-parsed, read-last}
 use Rattle.theory.proofs.ReadLaws.{Whence, so-far-start, parse-whence}
 use Rattle.theory.proofs.FileLength.{file-length}
 use Rattle.theory.proofs.FileLaws.{Judged, judge-judged, judge-well-formed}
@@ -105,3 +105,8 @@ one-file s t b c e f q = sym (read-writes s b e) ∙ ap fileOf q ∙ read-writes
 
 pub accepted-length : (s : List ℕ) → Bytes s → Accepted s → length s ≤ 1872
 accepted-length s b e = rw (read-writes s b e) at (file-length (readFile s .description) (read-whence s b e .few))
+
+-- the record that comes back has the same graph
+pub trimmed-system : (d : Description) → WellFormed d → system (trimmed d) ≡ system d
+trimmed-system d w =
+    rw (copy-trimmed d w) at (copy-system d (record { tasks = w .few-tasks; sources = w .few-sources; links = w .few-links }) (w .some-task))

@@ -9,3 +9,12 @@ pub mod Quotes
 pub mod Walk
 pub mod Order
 pub mod Levels
+pub mod NumberBytes
+pub mod FieldLaws
+pub mod RecordLaws
+pub mod RecordState
+pub mod JudgeLaws
+pub mod ReadLaws
+pub mod FileLength
+pub mod FileLaws
+pub mod ReadBack

@@ -3,3 +3,6 @@ pub mod Tests
 pub mod Range
 pub mod Table
 pub mod WellFormed
+pub mod Pigeonhole
+pub mod Rank
+pub mod LoadLaws

@@ -6,3 +6,5 @@ pub mod WellFormed
 pub mod Pigeonhole
 pub mod Rank
 pub mod LoadLaws
+pub mod Fielded
+pub mod LoadBounds

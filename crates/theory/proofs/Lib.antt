@@ -8,3 +8,4 @@ pub mod Rank
 pub mod LoadLaws
 pub mod Fielded
 pub mod LoadBounds
+pub mod Alike

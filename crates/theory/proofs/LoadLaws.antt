@@ -9,7 +9,7 @@ use Rattle.model.specs.Loads.{workF, addedF, work, added, load, tooHeavy}
 use Rattle.theory.proofs.Tests.{Cmp, less, same, more, cmp, not-both}
 use Rattle.theory.proofs.Range.{All, sumTo-cong, sumTo-le, sumTo-zero, le-sumTo, sumTo-cut, topTo-cong, topTo-le, le-topTo, given-le, le-given, given-cong}
 use Rattle.theory.proofs.WellFormed.{Shaped, Loaded}
-use Rattle.theory.proofs.Rank.{rankOf, rank-falls, rank-most}
+use Rattle.theory.proofs.Rank.{Ends, rankOf, ends-fall, rank-most}
 
 -- one step of each definition
 pub workF-step : (f : ℕ) (s : System) (j : ℕ) → workF (suc f) s j ≡ s .run j + sumTo (addedF f s j) (suc j) (s .tasks)
@@ -43,9 +43,9 @@ module _ (s : System) (rank : ℕ → ℕ) (falls : (i k : ℕ) → s .link i k 
           (topTo-cong _ _ (suc j) (s .tasks) (λ k q r. given-cong (s .link i k) _ _ (λ x. ih .1 k j (omega (arith, falls i k x)))))
 
 -- equation 9 holds of the loads as defined
-pub loaded : (s : System) → Shaped s → cyclic s ≡ false → Loaded s
+pub loaded-ends : (s : System) → Ends s → cyclic s ≡ false → Loaded s
 unfolding work added
-loaded s S acyclic =
+loaded-ends s ends acyclic =
     record {
       rank = rankOf s;
       falls = falls;
@@ -56,13 +56,16 @@ loaded s S acyclic =
     }
   where
     falls : (i k : ℕ) → s .link i k ≡ true → rankOf s k < rankOf s i
-    falls = rank-falls s S acyclic
+    falls = ends-fall s ends acyclic
 
     depth : ℕ
     depth = 2 * s .tasks + 4
 
     enough : ((j : ℕ) → 2 * rankOf s j + 1 < depth → workF (suc depth) s j ≡ workF depth s j) × ((i j : ℕ) → 2 * rankOf s i < depth → addedF (suc depth) s i j ≡ addedF depth s i j)
     enough = depth-both s (rankOf s) falls depth
+
+pub loaded : (s : System) → Shaped s → cyclic s ≡ false → Loaded s
+loaded s S = loaded-ends s (S .to-task)
 
 module _ (s : System) (L : Loaded s) where
   -- L1: no node adds more of a task than a whole run of it brings

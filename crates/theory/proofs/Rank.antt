@@ -12,11 +12,15 @@ use Rattle.theory.proofs.Range.{Found, any-at, any-found, none-any, sum
 use Rattle.theory.proofs.Pigeonhole.{Twice, pigeonhole}
 use Rattle.theory.proofs.WellFormed.{Shaped, IsTask}
 
+-- links that end at tasks: all that a rank asks of a system
+abbrev pub Ends : System → Type 0
+Ends s = (i j : ℕ) → s .link i j ≡ true → IsTask s j
+
 -- a link in front of a walk
-pub walk-more : (s : System) → Shaped s → (i k n : ℕ) → s .link i k ≡ true → walks s n k ≡ true → walks s (suc n) i ≡ true
+pub walk-more : (s : System) → Ends s → (i k n : ℕ) → s .link i k ≡ true → walks s n k ≡ true → walks s (suc n) i ≡ true
 unfolding walks
-walk-more s S i k n e w =
-    let t : IsTask s k = S .to-task i k e in
+walk-more s ends i k n e w =
+    let t : IsTask s k = ends i k e in
     any-at (λ m. s .link i m && walks s n m) 1 (s .tasks) k (t .0) (omega (arith, t .1)) (both _ _ e w)
 
 -- the rank of a node: how many lengths of walks, up to the number of tasks, begin at it
@@ -53,17 +57,20 @@ no-walk : (s : System) → cyclic s ≡ false → (k : ℕ) → IsTask s k → w
 unfolding cyclic
 no-walk s acyclic k t = none-any (walks s (s .tasks)) 1 (s .tasks) acyclic k (t .0) (omega (arith, t .1))
 
-pub rank-falls : (s : System) → Shaped s → cyclic s ≡ false → (i k : ℕ) → s .link i k ≡ true → rankOf s k < rankOf s i
+pub ends-fall : (s : System) → Ends s → cyclic s ≡ false → (i k : ℕ) → s .link i k ≡ true → rankOf s k < rankOf s i
 unfolding rankOf walks
-rank-falls s S acyclic i k e =
+ends-fall s ends acyclic i k e =
     let f : ℕ → ℕ = λ n. given (walks s n k) 1 in
     let g : ℕ → ℕ = λ n. given (walks s (suc n) i) 1 in
-    let last : f (s .tasks) ≡ 0 = rw (no-walk s acyclic k (S .to-task i k e)) in
+    let last : f (s .tasks) ≡ 0 = rw (no-walk s acyclic k (ends i k e)) in
     omega (
       arith,
       count-step f (s .tasks) refl last,
-      sumN-le f g 0 (s .tasks) (λ n p q. given-up (walks s n k) (walks s (suc n) i) (walk-more s S i k n e)),
+      sumN-le f g 0 (s .tasks) (λ n p q. given-up (walks s n k) (walks s (suc n) i) (walk-more s ends i k n e)),
     )
+
+pub rank-falls : (s : System) → Shaped s → cyclic s ≡ false → (i k : ℕ) → s .link i k ≡ true → rankOf s k < rankOf s i
+rank-falls s S = ends-fall s (S .to-task)
 
 -- along a rank there is no way back
 pub reach-falls : (s : System) (rank : ℕ → ℕ) → ((i k : ℕ) → s .link i k ≡ true → rank k < rank i) → {i k : ℕ} → Reaches s i k → rank k < rank i

@@ -18,3 +18,9 @@ pub mod ReadLaws
 pub mod FileLength
 pub mod FileLaws
 pub mod ReadBack
+pub mod Pigeonhole
+pub mod Rank
+pub mod LoadLaws
+pub mod Fielded
+pub mod LoadBounds
+pub mod Alike

@@ -3,3 +3,5 @@ pub mod Tests
 pub mod Range
 pub mod Table
 pub mod WellFormed
+pub mod PotentialLoads
+pub mod Potential

@@ -177,7 +177,11 @@ any-found p a (suc n) e = go (anyN p a n) refl (any-found p a n)
         record { at = f .at; from = f .from; within = omega (arith, f .within); passes = f .passes }
     go false q ih =
         record {
-          at = a + n; from = omega arith; within = omega arith; passes = rw q at e }
+          at = a + n;
+          from = omega arith;
+          within = omega arith;
+          passes = rw q at e;
+        }
 
 pub any-none : (p : ℕ → Bool) (a n : ℕ) → Each (λ k. p k ≡ false) a n → anyN p a n ≡ false
 any-none p a n h =

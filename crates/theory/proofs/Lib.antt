@@ -5,3 +5,5 @@ pub mod Table
 pub mod WellFormed
 pub mod PotentialLoads
 pub mod Potential
+pub mod Count
+pub mod Window

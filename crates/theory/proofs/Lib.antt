@@ -7,3 +7,5 @@ pub mod PotentialLoads
 pub mod Potential
 pub mod Count
 pub mod Window
+pub mod Trace
+pub mod Demand

@@ -9,3 +9,5 @@ pub mod Count
 pub mod Window
 pub mod Trace
 pub mod Demand
+pub mod Response
+pub mod Token

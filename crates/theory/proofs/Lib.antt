@@ -11,3 +11,4 @@ pub mod Trace
 pub mod Demand
 pub mod Response
 pub mod Token
+pub mod Firing

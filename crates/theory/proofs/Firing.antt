@@ -41,7 +41,7 @@ getD-task l h v d k o p q =
     rw (← e) (getD-set l (h - 1) v d (k - 1) (omega arith))
 
 -- laws of tests
-or-assoc : (a b c : Bool) → (a || b || c) ≡ (a || (b || c))
+pub or-assoc : (a b c : Bool) → (a || b || c) ≡ (a || (b || c))
 or-assoc true b c = refl
 or-assoc false b c = refl
 
@@ -142,7 +142,7 @@ mark-dropped l m p k = go (waitingAt m l) refl (eqb k l) refl
     go true e false f = rw (e, f) (getD-set (m .dropped) l true false k p ∙ rw f (or-off (droppedAt m k) (waitingAt m k)))
     go false e false f = rw (e, f) (or-off (droppedAt m k) (waitingAt m k))
 
-or-idle : (a b c : Bool) → b ≡ false → a ≡ (a || (b && c))
+pub or-idle : (a b c : Bool) → b ≡ false → a ≡ (a || (b && c))
 or-idle true b c e = refl
 or-idle false b c e = rw e refl
 

@@ -12,3 +12,6 @@ pub mod Demand
 pub mod Response
 pub mod Token
 pub mod Firing
+pub mod Arriving
+pub mod Ending
+pub mod Stepping

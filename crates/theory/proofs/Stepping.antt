@@ -134,3 +134,30 @@ module _ (d : Description) (wf : WellFormed d) where
       go : (o : Bool) → Ran d (suc g) o m (cond o (fire d (suc g) (clearInto d (suc g) (setUsed (suc g) 0 (setAwake (suc g) false (setUsed (suc g) (usedAt m (suc g) + 1) m))))) (setUsed (suc g) (usedAt m (suc g) + 1) m))
       go true = ran-over (suc g) m z (omega arith) p
       go false = ran-on (suc g) m z (omega arith) p
+
+  -- what became of the record m by a whole tick; h is the task that ran and o says whether its run ended
+  pub record Stepped (t : ℕ) (marks : List Bool) (h : ℕ) (o : Bool) (m m′ : Machine) : Type 0 where
+    pub sized : Sized m′
+    pub awake : (k : ℕ) → 1 ≤ k → awakeAt m′ k ≡ awakeAfter (awakeAt (arrive d marks m) k) o (eqb k h) (linked d h k)
+    pub used : (k : ℕ) → 1 ≤ k → usedAt m′ k ≡ cond (eqb k h) (cond o 0 (suc (usedAt m k))) (usedAt m k)
+    pub waiting : (l : ℕ) → l < d .«link_count» → waitingAt m′ l ≡ (((waitingAt m l || comes marks (d .«source_count») (linkAt d l .from)) && not (o && eqb (linkAt d l .to) h)) || (o && eqb (linkAt d l .from) h))
+    pub dropped : (l : ℕ) → l < d .«link_count» → droppedAt m′ l ≡ (droppedAt m l || (waitingAt m l && comes marks (d .«source_count») (linkAt d l .from)) || ((waitingAt m l || comes marks (d .«source_count») (linkAt d l .from)) && not (o && eqb (linkAt d l .to) h) && (o && eqb (linkAt d l .from) h)))
+    pub age : (v : ℕ) → v < d .«source_count» → ageAt m′ v ≡ min (spacingOf d t (33 + v)) (cond (getD marks v false) 0 (ageAt m v) + 1)
+
+  pub step : (t : ℕ) (marks : List Bool) (finish : Bool) (m : Machine) → Sized m → Stepped t marks (highest d (arrive d marks m)) (overAt d (highest d (arrive d marks m)) finish m) m (stepped d t marks finish m)
+  unfolding stepped
+  step t marks finish m z =
+      let m₁ : Machine = arrive d marks m in
+      let h : ℕ = highest d m₁ in
+      let a : Arrived d marks (d .«source_count») m m₁ = arrived d wf marks m z in
+      let same : overAt d h finish m₁ ≡ overAt d h finish m = ap (λ (l : List ℕ). not (eqb h 0) && (eqb (getD l (h - 1) 0 + 1) (runOf d h) || finish)) (a .used) in
+      let r : Ran d h (overAt d h finish m) m₁ (endRun d h finish (runTask h m₁)) = rw same at (ran h finish m₁ (a .sized) (omega (arith, highest-le (m₁ .awake) (d .«task_count»), wf .few-tasks))) in
+      let g : Aged d t (d .«source_count») (endRun d h finish (runTask h m₁)) (ageAll d t (endRun d h finish (runTask h m₁))) = aged d wf t (endRun d h finish (runTask h m₁)) (r .sized) in
+      record {
+        sized = g .sized;
+        awake = λ k o. rw (g .awake) (r .awake k o);
+        used = λ k o. rw (g .used) (r .used k o ∙ ap (λ (l : List ℕ). cond (eqb k h) (cond (overAt d h finish m) 0 (suc (getD l (k - 1) 0))) (getD l (k - 1) 0)) (a .used));
+        waiting = λ l p. rw (g .waiting) (rw (a .waiting l p) at (r .waiting l p));
+        dropped = λ l p. rw (g .dropped) (rw (a .waiting l p, a .dropped l p) at (r .dropped l p));
+        age = λ v p. g .age v ∙ rw (lt-ltb v (d .«source_count») p, r .ages, a .age v, lt-ltb v (d .«source_count») p) refl;
+      }

@@ -15,3 +15,4 @@ pub mod Firing
 pub mod Arriving
 pub mod Ending
 pub mod Stepping
+pub mod Replay

@@ -24,3 +24,16 @@ pub mod LoadLaws
 pub mod Fielded
 pub mod LoadBounds
 pub mod Alike
+pub mod PotentialLoads
+pub mod Potential
+pub mod Count
+pub mod Window
+pub mod Trace
+pub mod Demand
+pub mod Response
+pub mod Token
+pub mod Firing
+pub mod Arriving
+pub mod Ending
+pub mod Stepping
+pub mod Replay

@@ -7,16 +7,19 @@ use mathlib.Core.Logic.{_⊎_, inl, inr}
 use native.Mathlib.Omega.{arith}
 use lib.ListN.{length, getD, set, length-set}
 use lib.Seq.{getD-set-same, getD-set-other}
-use lib.Dec.{eqb, leb}
-use borrow.Author.Tests.{eq-eqb, ne-eqb, le-leb, lt-leb}
+use lib.Dec.{eqb, leb, ltb}
+use borrow.Author.Tests.{eq-eqb, ne-eqb, le-leb, lt-leb, lt-ltb, le-ltb}
 use Rattle.model.specs.declared.Link.{Link}
 use Rattle.model.specs.declared.Description.{Description}
 use Rattle.model.specs.Refusals.{noSource}
 use Rattle.model.specs.Graph.{System, system, linkAt}
+use Rattle.model.specs.declared.Walk.{Walk}
 use Rattle.model.specs.Delays.{spacing, spacingOf}
+use Rattle.model.specs.Order.{walk, inOrder}
 use Rattle.theory.proofs.Tests.{Cmp, less, same, more, cmp, at-or-not}
 use Rattle.theory.proofs.WellFormed.{WellFormed, IsTask, IsSource}
-use Rattle.verdicts.specs.Plan.{LimitsOf, limitBy}
+use Rattle.verdicts.specs.Matrix.{matrixSystem}
+use Rattle.verdicts.specs.Plan.{LimitsOf, limitBy, orderBy}
 
 -- the spacing of a source by its place
 pub gap-place : (d : Description) (t u : ℕ) → spacing (getD (d .sources) u noSource .source) t ≡ spacingOf d t (33 + u)
@@ -31,6 +34,13 @@ from-most d g l p = go (g .link-from l p)
     go : IsTask (system d) (linkAt d l .from) ⊎ IsSource (system d) (linkAt d l .from) → linkAt d l .from < 49
     go (inl x) = omega (arith, x .1, g .few-tasks)
     go (inr x) = omega (arith, x .1, g .few-sources)
+
+pub from-some : (d : Description) → WellFormed d → (l : ℕ) → l < d .«link_count» → 1 ≤ linkAt d l .from
+from-some d g l p = go (g .link-from l p)
+  where
+    go : IsTask (system d) (linkAt d l .from) ⊎ IsSource (system d) (linkAt d l .from) → 1 ≤ linkAt d l .from
+    go (inl x) = x .0
+    go (inr x) = omega (arith, x .0)
 
 pub to-most : (d : Description) → WellFormed d → (l : ℕ) → l < d .«link_count» → (1 ≤ linkAt d l .to) × (linkAt d l .to ≤ 32)
 unfolding system
@@ -61,6 +71,24 @@ module _ (gaps : List ℕ) (k : Link) where
       go : (b : Bool) → cond b (getD gaps (k .from - 33) 0) 0 ≤ 1000000000
       go true = h (k .from - 33)
       go false = omega arith
+
+-- the order of a critical link between tasks, and false of any other link
+module _ (links : List Bool) (k : Link) where
+  pub order-own : (w : Walk) → k .critical ≡ 1 → k .from < 33 → w ≡ walk (matrixSystem links) (k .from) (k .to) → eqb (w .failed) 0 ≡ orderBy links k
+  unfolding orderBy inOrder
+  order-own w e h q = rw (eq-eqb (k .critical) 1 e, lt-ltb (k .from) 33 h) (ap (λ (v : Walk). eqb (v .failed) 0) q)
+
+  pub order-free : (k .critical ≡ 1 → ⊥) → false ≡ orderBy links k
+  unfolding orderBy
+  order-free n = rw (ne-eqb (k .critical) 1 n)
+
+  pub order-source : 33 ≤ k .from → false ≡ orderBy links k
+  unfolding orderBy
+  order-source h = rw (le-ltb (k .from) 33 h) (go (eqb (k .critical) 1))
+    where
+      go : (b : Bool) → false ≡ cond (b && false) (inOrder (matrixSystem links) (k .from) (k .to)) false
+      go true = refl
+      go false = refl
 
 -- limits by the first n links
 pub record LimitsTo (d : Description) (gaps limits : List ℕ) (n : ℕ) : Type 0 where

@@ -4,7 +4,7 @@ use mathlib.Core.Path.{_≡_}
 use mathlib.Core.Bool.{Bool, true, false, cond, _&&_}
 use mathlib.Core.List.{List, []}
 use lib.ListN.{getD}
-use lib.Dec.{leb, eqb}
+use lib.Dec.{leb, ltb, eqb}
 use Rattle.model.specs.declared.Link.{Link}
 use Rattle.model.specs.declared.Description.{Description}
 use Rattle.model.specs.Graph.{System, system, linkAt}
@@ -12,6 +12,7 @@ use Rattle.model.specs.Loads.{load}
 use Rattle.model.specs.Delays.{startOf, spacingOf}
 use Rattle.model.specs.Order.{inOrder}
 use Rattle.theory.proofs.Levels.{levelReach}
+use Rattle.verdicts.specs.Matrix.{matrixSystem}
 
 -- an entry of a table of rows
 abbrev pub entry : List (List ℕ) → ℕ → ℕ → ℕ
@@ -49,3 +50,7 @@ pub record LimitsOf (d : Description) (gaps limits : List ℕ) : Type 0 where
 -- by level: where its rounds come to
 abbrev pub ReachesOf : Description → ℕ → List ℕ → List ℕ → Type 0
 ReachesOf d t limits reaches = (j : ℕ) → j < d .«task_count» → getD reaches j 0 ≡ levelReach (system d) (spacingOf d t) (suc j) (getD limits j 0)
+
+-- whether a critical link between tasks is in order over a matrix of links; false for any other link
+unfoldable pub orderBy : List Bool → Link → Bool
+orderBy links l = cond (eqb (l .critical) 1 && ltb (l .from) 33) (inOrder (matrixSystem links) (l .from) (l .to)) false

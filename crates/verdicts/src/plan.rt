@@ -7,12 +7,14 @@ use model::Description;
 use model::Link;
 ghost use mathlib.Core.Path.{_≡_};
 ghost use mathlib.Core.List.{[]};
+ghost use mathlib.Core.Bool.{false};
 ghost use Prim.Native.Nat.{ℕ, suc, _+_, _≤_, _<_, max};
 ghost use lib.ListN.{getD};
 ghost use Rattle.model.specs.Basics.{topN};
+ghost use Rattle.model.specs.Graph.{linkAt};
 ghost use Rattle.theory.proofs.WellFormed.{WellFormed};
-ghost use Rattle.verdicts.specs.Matrix.{LinksOf};
-ghost use Rattle.verdicts.specs.Plan.{entry, SheetOf, LevelsOf, StartsOf, OrdersOf, GapsOf, LimitsOf, ReachesOf, limitBy};
+ghost use Rattle.verdicts.specs.Level.{Level, reachIn};
+ghost use Rattle.verdicts.specs.Plan.{entry, GapsOf, LimitsOf, limitBy, orderBy};
 
 // The loads of the sources at one task, from the sheet's column.
 fn level_at(sheet: &[[u64; 32]; 48], j: usize) -> [u64; 16]
@@ -137,4 +139,59 @@ pub fn limits_at(d: Description, gaps: &[u64; 16]) -> [u64; 32]
         l += 1;
     }
     limits
+}
+
+// Where the rounds of each of n tasks come to, with m sources.
+pub fn reaches_at(
+    levels: &[[u64; 16]; 32],
+    starts: &[u64; 32],
+    gaps: &[u64; 16],
+    limits: &[u64; 32],
+    n: usize,
+    m: usize,
+) -> [u64; 32]
+    requires { ⌜ (n ≤ 32) × ((j : ℕ) → j < n → Level (getD (now starts) j 0) (getD (now levels) j []) (now gaps) m) × ((j : ℕ) → getD (now limits) j 0 ≤ 1000000000) ⌝ }
+    ensures { λ r. ⌜ ((j : ℕ) → j < n → getD r j 0 ≡ reachIn (getD (now (starts .entry)) j 0) (getD (now (levels .entry)) j []) (now (gaps .entry)) m (getD (now (limits .entry)) j 0)) ⌝ }
+{
+    let mut reaches = [0u64; 32];
+    let mut j: usize = 0;
+    while j < n {
+        let loads = levels[j];
+        let reach = level_reach(starts[j], &loads, gaps, m, limits[j]);
+        reaches[j] = reach;
+        j += 1;
+    }
+    reaches
+}
+
+// Whether a critical link between tasks is in order; false for any other link.
+fn order_by(link: Link, links: &[bool; 1536]) -> bool
+    requires { ⌜ 1 ≤ link .from ⌝ }
+    ensures { λ r. ⌜ r ≡ orderBy (now (links .entry)) link ⌝ }
+{
+    let from = number(link.from);
+    let to = number(link.to);
+    if link.critical == 1 {
+        if from < 33 {
+            let w = walk_back(links, from, to);
+            return w.failed == 0;
+        }
+    }
+    false
+}
+
+// Which links between tasks are in order.
+pub fn orders_of(d: Description, links: &[bool; 1536]) -> [bool; 256]
+    requires { ⌜ WellFormed d ⌝ }
+    ensures { λ r. ⌜ ((l : ℕ) → l < d .«link_count» → getD r l false ≡ orderBy (now (links .entry)) (linkAt d l)) ⌝ }
+{
+    let mut orders = [false; 256];
+    let mut l: usize = 0;
+    while l < d.link_count {
+        let link = d.links[l];
+        let ok = order_by(link, links);
+        orders[l] = ok;
+        l += 1;
+    }
+    orders
 }

@@ -156,7 +156,7 @@ and-on : (b c : Bool) → c ≡ true → (b && c) ≡ b
 and-on true c e = e
 and-on false c e = refl
 
-eqb-sym : (a b : ℕ) → eqb a b ≡ eqb b a
+pub eqb-sym : (a b : ℕ) → eqb a b ≡ eqb b a
 eqb-sym a b =
     same-test (eqb a b) (eqb b a) (λ e. eq-eqb b a (sym (eqb-true a b e))) (λ e. eq-eqb a b (sym (eqb-true b a e)))
 

@@ -16,3 +16,5 @@ pub mod Arriving
 pub mod Ending
 pub mod Stepping
 pub mod Replay
+pub mod Machine
+pub mod Marks

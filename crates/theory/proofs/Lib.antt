@@ -18,3 +18,4 @@ pub mod Stepping
 pub mod Replay
 pub mod Machine
 pub mod Marks
+pub mod Serving

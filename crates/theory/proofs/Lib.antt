@@ -19,3 +19,4 @@ pub mod Replay
 pub mod Machine
 pub mod Marks
 pub mod Serving
+pub mod Assurance

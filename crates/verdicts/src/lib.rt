@@ -1,0 +1,4 @@
+// Verdicts on the links of a description: spacings, rounds, the backward walk, and the verdict call.
+
+pub mod rounds;
+pub mod walk;

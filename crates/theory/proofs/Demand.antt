@@ -13,7 +13,7 @@ use Rattle.model.specs.Delays.{startOf}
 use Rattle.theory.proofs.Tests.{not-both, false-of, or-left, or-right, or-new, or-false, and-left, and-right, both, and-false-left}
 use Rattle.theory.proofs.Range.{All, Found, any-found, sumN-add, sumN-zero, le-sumN, le-given, sumN-cong, le-topTo}
 use Rattle.theory.proofs.WellFormed.{Loaded, Shaped}
-use Rattle.theory.proofs.PotentialLoads.{along, run-whole}
+use Rattle.theory.proofs.LoadLaws.{along, run-whole}
 use Rattle.theory.proofs.Potential.{live, Owed, Brings, firing, none-owed, owed-none, Ticks, ticking, Ends, ending, ending-above}
 use Rattle.theory.proofs.Trace.{Trace, pend, awakeAfter, after-stays, after-wakes, after-on, Good, good, mid-keeps, mid-off, used-other}
 

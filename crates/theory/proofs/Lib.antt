@@ -24,7 +24,6 @@ pub mod LoadLaws
 pub mod Fielded
 pub mod LoadBounds
 pub mod Alike
-pub mod PotentialLoads
 pub mod Potential
 pub mod Count
 pub mod Window
@@ -41,3 +40,4 @@ pub mod Machine
 pub mod Marks
 pub mod Serving
 pub mod Assurance
+pub mod Demand3

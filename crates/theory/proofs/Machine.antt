@@ -20,7 +20,6 @@ use Rattle.theory.proofs.Tests.{Cmp, less, same, more, cmp, not-both, f
 use Rattle.theory.proofs.Range.{none-any}
 use Rattle.theory.proofs.Table.{length-tab}
 use Rattle.theory.proofs.WellFormed.{WellFormed, Loaded, IsTask, IsSource}
-use Rattle.theory.proofs.PotentialLoads.{no-loop}
 use Rattle.theory.proofs.Firing.{Sized}
 use Rattle.theory.proofs.Arriving.{comes, comes-of, Arrived, arrived}
 use Rattle.theory.proofs.Ending.{highest-le, highest-above, highest-awake}

@@ -17,7 +17,6 @@ use Rattle.model.specs.History.{Call}
 use Rattle.theory.proofs.Tests.{Cmp, less, same, more, cmp, not-both, and-left, and-right, both, or-left, or-right, or-new, or-else}
 use Rattle.theory.proofs.Range.{any-at}
 use Rattle.theory.proofs.WellFormed.{WellFormed, Loaded, IsTask, IsSource}
-use Rattle.theory.proofs.PotentialLoads.{no-loop}
 use Rattle.theory.proofs.Firing.{eqb-sym}
 use Rattle.theory.proofs.Arriving.{comes}
 use Rattle.theory.proofs.Stepping.{Stepped}
@@ -217,7 +216,9 @@ module _ (d : Description) (wf : WellFormed d) (L : Loaded (system d)) (t : ℕ)
 
     pub not-self : from ≡ to → ⊥
     unfolding system
-    not-self e = no-loop (system d) L from (let h : linked d from from ≡ true = subst (λ (k : ℕ). linked d from k ≡ true) (sym e) link-here in h)
+    not-self e =
+        let h : linked d from from ≡ true = subst (λ (k : ℕ). linked d from k ≡ true) (sym e) link-here in
+        omega (arith, L .falls from from h)
 
     low : (x : ℕ) → highAt d wf t ks x ≤ 32
     low x = omega (arith, high-low d wf t ks x, wf .few-tasks)

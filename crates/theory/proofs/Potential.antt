@@ -11,7 +11,7 @@ use Rattle.model.specs.Loads.{work, added, load}
 use Rattle.theory.proofs.Tests.{at-or-not, not-both, false-of, or-left, or-right, or-new, or-cases, or-false-left, or-false-right}
 use Rattle.theory.proofs.Range.{All, topTo-le, le-topTo, given-le, le-given, sumTo-le, sumTo-add, sumTo-zero, le-sumTo, sumTo-parts}
 use Rattle.theory.proofs.WellFormed.{Loaded}
-use Rattle.theory.proofs.PotentialLoads.{added-le, back, along, run-whole}
+use Rattle.theory.proofs.LoadLaws.{added-le, back, along, run-whole}
 
 -- A state is, for each task, the ticks that its run has used and whether a run not yet begun is pending. It is live if either is so.
 abbrev pub live : (ℕ → ℕ) → (ℕ → Bool) → ℕ → Bool

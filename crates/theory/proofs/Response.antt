@@ -14,7 +14,8 @@ use Rattle.model.specs.Delays.{spacings, startOf, roundOf}
 use Rattle.theory.proofs.Tests.{Cmp, less, same, more, cmp, not-both, or-right, both}
 use Rattle.theory.proofs.Range.{any-at, le-sumN, le-sumTo}
 use Rattle.theory.proofs.WellFormed.{Loaded, Shaped}
-use Rattle.theory.proofs.Count.{Ages, spacings-some, count-spacings, apart}
+use Rattle.theory.proofs.Count.{Ages, count-spacings, apart}
+use Rattle.theory.proofs.Rounds.{spacings-some}
 use Rattle.theory.proofs.Window.{Run, bounded}
 use Rattle.theory.proofs.Trace.{Trace, endsAt, mid-keeps, after-stays}
 use Rattle.theory.proofs.Demand.{phi, phi-first, phi-none, falls, rests-at}

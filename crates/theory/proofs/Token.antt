@@ -12,7 +12,6 @@ use Rattle.model.specs.Order.{Set, Neighbourhood, InOrder}
 use Rattle.theory.proofs.Tests.{Cmp, less, same, more, cmp, not-both, false-of, or-else, or-cases, and-left, and-right, both}
 use Rattle.theory.proofs.Range.{any-none}
 use Rattle.theory.proofs.WellFormed.{Loaded, Shaped}
-use Rattle.theory.proofs.PotentialLoads.{no-loop}
 use Rattle.theory.proofs.Trace.{Trace, endsAt, mid-keeps, awake-low, after-stays, after-wakes, after-fires}
 
 module _ (s : System) (gap : ℕ → ℕ) (T : Trace s gap) where

@@ -12,7 +12,6 @@ use Rattle.model.specs.Loads.{work, added, load}
 use Rattle.theory.proofs.Tests.{Cmp, less, same, more, cmp, at-or-not, not-both, false-of, or-left, or-right, or-new, or-false-left, and-left, and-right, both}
 use Rattle.theory.proofs.Range.{All, Found, any-found, sumN-add, sumN-zero, le-sumN, le-given, sumN-cong}
 use Rattle.theory.proofs.WellFormed.{Loaded, Shaped}
-use Rattle.theory.proofs.PotentialLoads.{along, run-whole}
 use Rattle.theory.proofs.Potential.{live, Owed, Brings, firing, none-owed, owed-none, Ticks, ticking, Ends, ending, ending-above}
 
 -- a task once the run of one has gone on: awake before it, whether the run ended, whether it was this task's, whether the one that ended has a link to it

@@ -1,19 +1,18 @@
 -- What the arrivals of a tick do to each part of the machine's record. Assumes nothing.
 use Prim.Native.Nat.{ℕ, zero, suc, _+_, _-_, _≤_, _<_}
-use mathlib.Core.Path.{_≡_, refl, sym, ap, _∙_}
-use mathlib.Core.Bool.{Bool, true, false, _||_, _&&_, not, cond}
+use mathlib.Core.Path.{_≡_, refl, _∙_}
+use mathlib.Core.Bool.{Bool, true, false, _||_, _&&_, cond}
 use mathlib.Core.List.{List}
 use native.Mathlib.Omega.{arith}
-use lib.ListN.{length, getD, set, length-set}
+use lib.ListN.{getD, length-set}
 use lib.Dec.{ltb, eqb}
-use borrow.Author.Tests.{eqb-true, eqb-false, eq-eqb, ne-eqb, lt-ltb, le-ltb, ltb-true}
-use Rattle.model.specs.declared.Link.{Link}
+use borrow.Author.Tests.{eqb-true, eq-eqb, lt-ltb, le-ltb, ltb-true}
 use Rattle.model.specs.declared.Description.{Description}
 use Rattle.model.specs.declared.Machine.{Machine}
 use Rattle.model.specs.Basics.{anyN, upTo}
 use Rattle.model.specs.Graph.{linkAt, linked}
-use Rattle.model.specs.Machine.{awakeAt, usedAt, waitingAt, droppedAt, ageAt, setAge, fire, arriveOne, arrive}
-use Rattle.theory.proofs.Tests.{Cmp, less, same, more, cmp, not-both, same-test, and-left, and-right, both, or-left, or-right, or-cases}
+use Rattle.model.specs.Machine.{awakeAt, waitingAt, droppedAt, ageAt, setAge, fire, arriveOne, arrive}
+use Rattle.theory.proofs.Tests.{Cmp, less, same, more, cmp, same-test, and-left, and-right, both, or-left, or-right, or-cases}
 use Rattle.theory.proofs.WellFormed.{WellFormed}
 use Rattle.theory.proofs.Firing.{Sized, Fired, fired, getD-set, less-more, drop-more, or-assoc, or-idle}
 

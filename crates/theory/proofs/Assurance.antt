@@ -1,37 +1,35 @@
 -- Demand 3 for one accepted description, from what the other files show of it. Assumes nothing.
-use Prim.Native.Nat.{ℕ, zero, suc, _+_, _-_, _≤_, _<_}
+use Prim.Native.Nat.{ℕ, suc, _+_, _-_, _≤_, _<_}
 use mathlib.Core.Path.{_≡_, refl, sym, ap, _∙_}
-use mathlib.Core.Bool.{Bool, true, false, _||_, _&&_, not, cond}
-use mathlib.Core.List.{List, [], _∷_}
-use mathlib.Core.Logic.{_⊎_, inl, inr, _↔_}
+use mathlib.Core.Bool.{Bool, true, false, _&&_, not, cond}
+use mathlib.Core.List.{List, _∷_}
+use mathlib.Core.Logic.{_⊎_, inl, inr}
 use native.Mathlib.Omega.{arith}
 use lib.ListN.{length, getD}
 use lib.Dec.{ltb, eqb}
-use borrow.Author.Tests.{eqb-true, eq-eqb, ne-eqb, eqb-false, lt-ltb, le-ltb, ltb-false, not-true}
-use Rattle.model.specs.declared.Link.{Link}
+use borrow.Author.Tests.{eqb-true, eq-eqb, lt-ltb, le-ltb, ltb-false}
 use Rattle.model.specs.declared.Description.{Description}
 use Rattle.model.specs.declared.Machine.{Machine}
 use Rattle.model.specs.declared.Ticked.{Ticked}
 use Rattle.model.specs.declared.Verdict.{Verdict}
-use Rattle.model.specs.declared.Verdict.the-variants.{Free, HeldOrder, DoubtOrder, Held, Doubt}
-use Rattle.model.specs.Graph.{System, system, linkAt, linked}
+use Rattle.model.specs.declared.Verdict.the-variants.{DoubtOrder}
+use Rattle.model.specs.Graph.{system, linkAt, linked}
 use Rattle.model.specs.Delays.{Settled, unchanged, reached, delayOf, roundOf, spacingOf}
 use Rattle.model.specs.Order.{inOrder, InOrder}
 use Rattle.model.specs.Verdicts.{settledVerdict, sourceVerdict, orderVerdict, verdictOf, verdictAt, doubtful, delayIn, allHeld}
-use Rattle.model.specs.Machine.{idle, plainTick, waitingAt, droppedAt, usedAt}
+use Rattle.model.specs.Machine.{idle, waitingAt, droppedAt, usedAt}
 use Rattle.model.specs.History.{Call, Tick, answers, left, observe, ticks, fires, begins, ends, partDone, tickAt, servedBefore, Dropped, waitOf}
-use Rattle.model.specs.Promise.{TickMeets, Calls, none, call, Assured}
-use Rattle.theory.proofs.Tests.{Cmp, less, same, more, cmp, not-both, both, false-of}
+use Rattle.model.specs.Promise.{Calls, none, call, Assured}
+use Rattle.theory.proofs.Tests.{Cmp, less, same, more, cmp, not-both, both}
 use Rattle.theory.proofs.Range.{all-at}
 use Rattle.theory.proofs.WellFormed.{WellFormed, Loaded, Shaped, IsTask}
 use Rattle.theory.proofs.Firing.{eqb-sym}
 use Rattle.theory.proofs.Trace.{Trace, endsAt}
 use Rattle.theory.proofs.Response.{Waits, delay-some, wait-bound, source-kept}
-use Rattle.theory.proofs.Token.{WaitsFor, token-kept}
-use Rattle.theory.proofs.Replay.{callAt, stateAt, taken, Replayed, replayed}
-use Rattle.theory.proofs.Stepping.{Stepped}
+use Rattle.theory.proofs.Token.{token-kept}
+use Rattle.theory.proofs.Replay.{callAt, taken, Replayed, replayed}
 use Rattle.theory.proofs.Machine.{at, highAt, endAt, at-step, trace, trace-ends, trace-arr}
-use Rattle.theory.proofs.Marks.{Open, Drop, dropped-drop, drop-dropped, firesIn, endsIn, link-here, kind, waiting-next, dropped-next, waiting-first, dropped-first}
+use Rattle.theory.proofs.Marks.{Drop, dropped-drop, drop-dropped, firesIn, endsIn, link-here, kind, waiting-next, dropped-next, waiting-first, dropped-first}
 use Rattle.theory.proofs.Serving.{unserved, served-not, wait-le}
 
 -- what is known of an accepted description d with the quote q, and of a tempo t up to it

@@ -1,9 +1,9 @@
 -- How often a source fires in a stretch of ticks, by the age that the machine keeps for it. Assumes nothing.
-use Prim.Native.Nat.{ℕ, zero, suc, _+_, _-_, _*_, _/_, _≤_, _<_, max, min}
-use mathlib.Core.Path.{_≡_, refl, sym, ap, _∙_}
+use Prim.Native.Nat.{ℕ, zero, suc, _+_, _-_, _*_, _≤_, _<_, min}
+use mathlib.Core.Path.{_≡_, refl}
 use mathlib.Core.Bool.{Bool, true, false}
 use native.Mathlib.Omega.{arith}
-use native.Mathlib.Nat.{add-zero, add-suc, le-div-iff-mul-le}
+use native.Mathlib.Nat.{add-zero, add-suc}
 use Rattle.model.specs.Basics.{sumN, given}
 use Rattle.model.specs.Delays.{spacings}
 use Rattle.theory.proofs.Rounds.{spacings-some, spacings-of}

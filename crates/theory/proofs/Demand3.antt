@@ -1,5 +1,5 @@
 -- Demand 3. Assumes nothing.
-use Prim.Native.Nat.{ℕ, _≤_, _<_, _+_}
+use Prim.Native.Nat.{ℕ, _≤_}
 use mathlib.Core.Path.{_≡_}
 use native.Mathlib.Omega.{arith}
 use Rattle.model.specs.declared.Description.{Description}
@@ -9,7 +9,7 @@ use Rattle.model.specs.Delays.{spacingOf}
 use Rattle.model.specs.File.{Widths}
 use Rattle.model.specs.Verdicts.{quoteOf}
 use Rattle.model.specs.Promise.{Demand3}
-use Rattle.theory.proofs.WellFormed.{WellFormed, Loaded, Shaped}
+use Rattle.theory.proofs.WellFormed.{WellFormed, Shaped}
 use Rattle.theory.proofs.FileLaws.{judge-well-formed}
 use Rattle.theory.proofs.Fielded.{shaped}
 use Rattle.theory.proofs.LoadLaws.{loaded}

@@ -1,7 +1,7 @@
 -- What a firing does to each part of the machine's record. Assumes nothing.
-use Prim.Native.Nat.{ℕ, zero, suc, _+_, _-_, _≤_, _<_}
+use Prim.Native.Nat.{ℕ, zero, suc, _-_, _≤_, _<_}
 use mathlib.Core.Path.{_≡_, refl, sym, ap, _∙_}
-use mathlib.Core.Bool.{Bool, true, false, _||_, _&&_, not, cond}
+use mathlib.Core.Bool.{Bool, true, false, _||_, _&&_, cond}
 use mathlib.Core.List.{List}
 use native.Mathlib.Omega.{arith}
 use native.Mathlib.Nat.{zero-add}
@@ -9,13 +9,12 @@ use lib.ListN.{length, getD, set, length-set}
 use lib.Seq.{getD-set-same, getD-set-other}
 use lib.Dec.{ltb, eqb}
 use borrow.Author.Tests.{eqb-true, eqb-false, eq-eqb, ne-eqb, lt-ltb, le-ltb, ltb-true}
-use Rattle.model.specs.declared.Link.{Link}
 use Rattle.model.specs.declared.Description.{Description}
 use Rattle.model.specs.declared.Machine.{Machine}
 use Rattle.model.specs.Basics.{anyN, upTo}
-use Rattle.model.specs.Graph.{linkAt, linked, system}
-use Rattle.model.specs.Machine.{awakeAt, usedAt, waitingAt, droppedAt, ageAt, setAwake, setUsed, setWaiting, setDropped, setAge, markDropped, fireLink, fire}
-use Rattle.theory.proofs.Tests.{Cmp, less, same, more, cmp, not-both, same-test, and-left}
+use Rattle.model.specs.Graph.{linkAt, system}
+use Rattle.model.specs.Machine.{awakeAt, waitingAt, droppedAt, setAwake, setWaiting, setDropped, markDropped, fireLink, fire}
+use Rattle.theory.proofs.Tests.{Cmp, less, same, more, cmp, same-test, and-left}
 use Rattle.theory.proofs.WellFormed.{WellFormed}
 
 -- the record's lists have their lengths

@@ -28,7 +28,7 @@ pub mod Potential
 pub mod Count
 pub mod Window
 pub mod Trace
-pub mod Demand
+pub mod PotentialSteps
 pub mod Response
 pub mod Token
 pub mod Firing

@@ -1,30 +1,27 @@
 -- The plain machine's accepted ticks as a run by tick numbers, and its marks from tick to tick. Assumes nothing.
 use Prim.Native.Nat.{ℕ, zero, suc, _+_, _-_, _≤_, _<_, min}
-use mathlib.Core.Path.{_≡_, refl, sym, ap, _∙_}
-use mathlib.Core.Bool.{Bool, true, false, _||_, _&&_, not, cond}
-use mathlib.Core.List.{List, []}
-use mathlib.Core.Logic.{_⊎_, inl, inr}
+use mathlib.Core.Path.{_≡_, refl, ap}
+use mathlib.Core.Bool.{Bool, true, false, _&&_, not, cond}
+use mathlib.Core.List.{List}
 use native.Mathlib.Omega.{arith}
 use lib.ListN.{length, getD, replicate, length-replicate, getD-replicate, List·getD-eq-default}
 use lib.Dec.{ltb, eqb, leb}
-use borrow.Author.Tests.{eqb-true, eqb-false, eq-eqb, ne-eqb, lt-ltb, le-ltb, ltb-true, ltb-false, le-leb, not-true}
-use Rattle.model.specs.declared.Link.{Link}
+use borrow.Author.Tests.{eqb-false, eq-eqb, ne-eqb, ltb-false, le-leb, not-true}
 use Rattle.model.specs.declared.Description.{Description}
 use Rattle.model.specs.declared.Machine.{Machine}
-use Rattle.model.specs.Basics.{tab}
-use Rattle.model.specs.Graph.{System, system, linkAt, linked, runOf}
+use Rattle.model.specs.Graph.{system, runOf}
 use Rattle.model.specs.Delays.{spacingOf}
-use Rattle.model.specs.Machine.{awakeAt, usedAt, waitingAt, droppedAt, ageAt, idle, arrive, highest, stepped, tooSoon}
+use Rattle.model.specs.Machine.{awakeAt, usedAt, ageAt, idle, arrive, highest, tooSoon}
 use Rattle.model.specs.History.{Call}
-use Rattle.theory.proofs.Tests.{Cmp, less, same, more, cmp, not-both, false-of, and-left, or-left, and-right, both, same-test}
+use Rattle.theory.proofs.Tests.{Cmp, less, same, more, cmp, not-both, and-left, or-left, both}
 use Rattle.theory.proofs.Range.{none-any}
 use Rattle.theory.proofs.Table.{length-tab}
-use Rattle.theory.proofs.WellFormed.{WellFormed, Loaded, IsTask, IsSource}
+use Rattle.theory.proofs.WellFormed.{WellFormed}
 use Rattle.theory.proofs.Firing.{Sized}
-use Rattle.theory.proofs.Arriving.{comes, comes-of, Arrived, arrived}
+use Rattle.theory.proofs.Arriving.{arrived}
 use Rattle.theory.proofs.Ending.{highest-le, highest-above, highest-awake}
 use Rattle.theory.proofs.Stepping.{overAt, Stepped, step}
-use Rattle.theory.proofs.Trace.{Trace, awakeAfter, endsAt}
+use Rattle.theory.proofs.Trace.{Trace, endsAt}
 use Rattle.theory.proofs.Replay.{quietCall, callAt, stateAt, Passed}
 
 -- an entry of a list of one value is that value, past its end too

@@ -1,16 +1,14 @@
 -- A link's two marks: from tick to tick, and what they say of its events. Assumes nothing.
 use Prim.Native.Nat.{ℕ, zero, suc, _+_, _-_, _≤_, _<_}
-use mathlib.Core.Path.{_≡_, refl, sym, ap, subst, _∙_}
+use mathlib.Core.Path.{_≡_, refl, sym, subst, _∙_}
 use mathlib.Core.Bool.{Bool, true, false, _||_, _&&_, not, cond}
 use mathlib.Core.List.{List}
 use mathlib.Core.Logic.{_⊎_, inl, inr}
 use native.Mathlib.Omega.{arith}
-use lib.ListN.{getD, replicate}
+use lib.ListN.{getD}
 use lib.Dec.{ltb, eqb}
-use borrow.Author.Tests.{eqb-true, eqb-false, eq-eqb, ne-eqb, lt-ltb, le-ltb, not-true}
-use Rattle.model.specs.declared.Link.{Link}
+use borrow.Author.Tests.{eqb-true, eq-eqb, ne-eqb, lt-ltb, le-ltb, not-true}
 use Rattle.model.specs.declared.Description.{Description}
-use Rattle.model.specs.Basics.{anyN}
 use Rattle.model.specs.Graph.{system, linkAt, linked}
 use Rattle.model.specs.Machine.{waitingAt, droppedAt, idle}
 use Rattle.model.specs.History.{Call}
@@ -19,7 +17,6 @@ use Rattle.theory.proofs.Range.{any-at}
 use Rattle.theory.proofs.WellFormed.{WellFormed, Loaded, IsTask, IsSource}
 use Rattle.theory.proofs.Firing.{eqb-sym}
 use Rattle.theory.proofs.Arriving.{comes}
-use Rattle.theory.proofs.Stepping.{Stepped}
 use Rattle.theory.proofs.Machine.{getD-same, at, marksAt, highAt, endAt, at-step, high-low}
 use Rattle.theory.proofs.Replay.{stateAt}
 

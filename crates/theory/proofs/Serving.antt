@@ -1,14 +1,13 @@
 -- The run that takes an event is the first to end from its tick on: History's serves and waits by the ends of runs alone. Assumes nothing.
 use Prim.Native.Nat.{ℕ, zero, suc, _+_, _-_, _≤_, _<_}
-use mathlib.Core.Path.{_≡_, refl, sym, ap, _∙_}
-use mathlib.Core.Bool.{Bool, true, false, _||_, _&&_, not, cond}
+use mathlib.Core.Path.{_≡_, refl, _∙_}
+use mathlib.Core.Bool.{Bool, true, false, _||_, _&&_}
 use mathlib.Core.List.{List}
 use native.Mathlib.Omega.{arith}
-use native.Mathlib.Nat.{add-zero, add-suc}
-use lib.ListN.{length, getD}
-use lib.Dec.{ltb, eqb}
-use Rattle.model.specs.History.{Tick, begins, ends, partDone, tickAt, noTick, endsWithin, ticksUntil, servedBefore, waitOf}
-use Rattle.theory.proofs.Tests.{Cmp, less, same, more, cmp, not-both, false-of, or-left, or-right, or-false-left, or-false-right, and-left, and-right, both}
+use lib.ListN.{length}
+use lib.Dec.{eqb}
+use Rattle.model.specs.History.{Tick, begins, ends, partDone, tickAt, endsWithin, ticksUntil, servedBefore, waitOf}
+use Rattle.theory.proofs.Tests.{Cmp, less, same, more, cmp, not-both, false-of, or-false-left, or-false-right, and-left, both}
 
 -- a list of ticks and the ticks that task j has used before each of them
 module _ (h : List Tick) (j : ℕ) (used : ℕ → ℕ) (part : (x : ℕ) → x < length h → partDone (tickAt h x) j ≡ false → used x ≡ 0) (begin : (x : ℕ) → x < length h → used x ≡ 0 → eqb (tickAt h x .ran) j ≡ true → begins (tickAt h x) j ≡ true) (still : (x : ℕ) → x < length h → eqb (tickAt h x .ran) j ≡ false → used (suc x) ≡ used x) where

@@ -248,3 +248,17 @@ module _ (d : Description) (wf : WellFormed d) where
   pub fired : (x : ℕ) (m : Machine) → Sized m → Fired d x (d .«link_count») m (fire d x m)
   unfolding fire
   fired x m z = fired-to x (d .«link_count») (omega arith) m z
+
+-- nothing is set past the links
+or-none : (a : Bool) → (a || false) ≡ a
+or-none true = refl
+or-none false = refl
+
+or-none₂ : (a b : Bool) → (a || (b && false)) ≡ a
+or-none₂ true b = refl
+or-none₂ false true = refl
+or-none₂ false false = refl
+
+pub fired-past : (d : Description) (x : ℕ) (m m′ : Machine) → Fired d x (d .«link_count») m m′ → (l : ℕ) → d .«link_count» ≤ l → (waitingAt m′ l ≡ waitingAt m l) × (droppedAt m′ l ≡ droppedAt m l)
+fired-past d x m m′ f l p =
+    (f .waiting l ∙ rw (le-ltb l (d .«link_count») p) (or-none (waitingAt m l)), f .dropped l ∙ rw (le-ltb l (d .«link_count») p) (or-none₂ (droppedAt m l) (waitingAt m l)))

@@ -41,3 +41,4 @@ pub mod Marks
 pub mod Serving
 pub mod Assurance
 pub mod Demand3
+pub mod Lawful

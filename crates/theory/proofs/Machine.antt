@@ -16,12 +16,12 @@ use Rattle.model.specs.History.{Call}
 use Rattle.theory.proofs.Tests.{Cmp, less, same, more, cmp, not-both, and-left, or-left, both}
 use Rattle.theory.proofs.Range.{none-any}
 use Rattle.theory.proofs.Table.{length-tab}
-use Rattle.theory.proofs.WellFormed.{WellFormed}
+use Rattle.theory.proofs.WellFormed.{WellFormed, Shaped}
 use Rattle.theory.proofs.Firing.{Sized}
 use Rattle.theory.proofs.Arriving.{arrived}
 use Rattle.theory.proofs.Ending.{highest-le, highest-above, highest-awake}
 use Rattle.theory.proofs.Stepping.{overAt, Stepped, step}
-use Rattle.theory.proofs.Trace.{Trace, endsAt}
+use Rattle.theory.proofs.Trace.{Trace, endsAt, good}
 use Rattle.theory.proofs.Replay.{quietCall, callAt, stateAt, Passed}
 
 -- an entry of a list of one value is that value, past its end too
@@ -146,3 +146,14 @@ module _ (d : Description) (wf : WellFormed d) (t : ℕ) (ks : List Call) where
     pub trace-arr : (x u : ℕ) → trace .arr x u ≡ getD (marksAt x) (u - 33) false
     unfolding trace
     trace-arr x u = refl
+
+    -- who sleeps has used nothing, and nobody has used a whole run
+    pub at-rests : Shaped (system d) → (x k : ℕ) → 1 ≤ k → awakeAt (at x) k ≡ false → usedAt (at x) k ≡ 0
+    unfolding trace
+    at-rests G x k o e = good (system d) gap trace G x .rests k o e
+
+    pub at-below : Shaped (system d) → (x k : ℕ) → 1 ≤ k → k ≤ d .«task_count» → usedAt (at x) k < runOf d k
+    unfolding trace system
+    at-below G x k o p =
+        let h : usedAt (at x) k < cond (leb k (d .«task_count»)) (runOf d k) 0 = good (system d) gap trace G x .below k o p in
+        rw (le-leb k (d .«task_count») p) at h

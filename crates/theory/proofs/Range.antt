@@ -241,3 +241,7 @@ all-more p n = rw (add-one, allN, zero-add)
 pub upTo-more : {A : Type 0} (n : ℕ) (step : ℕ → A → A) (a : A) → upTo (n + 1) step a ≡ step n (upTo n step a)
 unfolding upTo
 upTo-more n step a = rw add-one refl
+
+pub top-more : (f : ℕ → ℕ) (n : ℕ) → topN f 0 (n + 1) ≡ max (topN f 0 n) (f n)
+unfolding topN
+top-more f n = rw (add-one, topN, zero-add)

@@ -1,2 +1,3 @@
 pub mod Level
 pub mod Matrix
+pub mod Plan

@@ -5,7 +5,8 @@ use mathlib.Core.Bool.{Bool, true, false}
 use mathlib.Core.List.{List, [], _∷_}
 use lib.ListN.{getD}
 use Rattle.model.specs.declared.Walk.{Walk}
-use Rattle.model.specs.Graph.{System}
+use Rattle.model.specs.declared.Description.{Description}
+use Rattle.model.specs.Graph.{System, linked}
 use Rattle.model.specs.Order.{visit}
 
 abbrev pub linkIn : List Bool → ℕ → ℕ → Bool
@@ -24,3 +25,7 @@ unmet (false ∷ l) = suc (unmet l)
 -- a visit, for every bound on its depth that is enough
 abbrev pub VisitIs : List Bool → ℕ → ℕ → Walk → Walk → Type 0
 VisitIs links j x w r = (f : ℕ) → unmet (w .met) < f → r ≡ visit f (matrixSystem links) j x w
+
+-- the links of a description as a matrix
+abbrev pub LinksOf : Description → List Bool → Type 0
+LinksOf d links = (i j : ℕ) → 1 ≤ i → i ≤ 48 → 1 ≤ j → j ≤ 32 → linkIn links i j ≡ linked d i j

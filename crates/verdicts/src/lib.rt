@@ -1,4 +1,5 @@
 // Verdicts on the links of a description: spacings, rounds, the backward walk, and the verdict call.
 
+pub mod plan;
 pub mod rounds;
 pub mod walk;

@@ -1,21 +1,20 @@
 -- What the arrivals of a tick do to each part of the machine's record. Assumes nothing.
 use Prim.Native.Nat.{ℕ, zero, suc, _+_, _-_, _≤_, _<_}
-use mathlib.Core.Path.{_≡_, refl, sym, ap, _∙_}
-use mathlib.Core.Bool.{Bool, true, false, _||_, _&&_, not, cond}
+use mathlib.Core.Path.{_≡_, refl, _∙_}
+use mathlib.Core.Bool.{Bool, true, false, _||_, _&&_, cond}
 use mathlib.Core.List.{List}
 use native.Mathlib.Omega.{arith}
-use lib.ListN.{length, getD, set, length-set}
+use lib.ListN.{getD, length-set}
 use lib.Dec.{ltb, eqb}
-use borrow.Author.Tests.{eqb-true, eqb-false, eq-eqb, ne-eqb, lt-ltb, le-ltb, ltb-true}
-use Rattle.model.specs.declared.Link.{Link}
+use borrow.Author.Tests.{eqb-true, eq-eqb, lt-ltb, le-ltb, ltb-true}
 use Rattle.model.specs.declared.Description.{Description}
 use Rattle.model.specs.declared.Machine.{Machine}
 use Rattle.model.specs.Basics.{anyN, upTo}
 use Rattle.model.specs.Graph.{linkAt, linked}
-use Rattle.model.specs.Machine.{awakeAt, usedAt, waitingAt, droppedAt, ageAt, setAge, fire, arriveOne, arrive}
-use Rattle.theory.proofs.Tests.{Cmp, less, same, more, cmp, not-both, same-test, and-left, and-right, both, or-left, or-right, or-cases}
+use Rattle.model.specs.Machine.{awakeAt, waitingAt, droppedAt, ageAt, setAge, fire, arriveOne, arrive}
+use Rattle.theory.proofs.Tests.{Cmp, less, same, more, cmp, same-test, and-left, and-right, both, or-left, or-right, or-cases}
 use Rattle.theory.proofs.WellFormed.{WellFormed}
-use Rattle.theory.proofs.Firing.{Sized, Fired, fired, getD-set, less-more, drop-more, or-assoc, or-idle}
+use Rattle.theory.proofs.Firing.{Sized, Fired, fired, fired-past, getD-set, less-more, drop-more, or-assoc, or-idle}
 
 -- node x is one of the first n sources and its mark is set
 unfoldable pub comes : List Bool → ℕ → ℕ → Bool
@@ -65,6 +64,7 @@ pub record Arrived (d : Description) (marks : List Bool) (n : ℕ) (m m′ : Mac
   pub awake : (k : ℕ) → 1 ≤ k → awakeAt m′ k ≡ (awakeAt m k || anyN (λ u. getD marks (u - 33) false && linked d u k) 33 n)
   pub waiting : (l : ℕ) → l < d .«link_count» → waitingAt m′ l ≡ (waitingAt m l || comes marks n (linkAt d l .from))
   pub dropped : (l : ℕ) → l < d .«link_count» → droppedAt m′ l ≡ (droppedAt m l || (waitingAt m l && comes marks n (linkAt d l .from)))
+  pub past : (l : ℕ) → d .«link_count» ≤ l → (waitingAt m′ l ≡ waitingAt m l) × (droppedAt m′ l ≡ droppedAt m l)
   pub age : (v : ℕ) → ageAt m′ v ≡ cond (ltb v n && getD marks v false) 0 (ageAt m v)
 
 -- and by the source at place u alone
@@ -74,6 +74,7 @@ record OneArrived (d : Description) (marks : List Bool) (u : ℕ) (m m′ : Mach
   awake : (k : ℕ) → 1 ≤ k → awakeAt m′ k ≡ (awakeAt m k || (getD marks u false && linked d (33 + u) k))
   waiting : (l : ℕ) → l < d .«link_count» → waitingAt m′ l ≡ (waitingAt m l || (getD marks u false && eqb (linkAt d l .from) (33 + u)))
   dropped : (l : ℕ) → l < d .«link_count» → droppedAt m′ l ≡ (droppedAt m l || (waitingAt m l && (getD marks u false && eqb (linkAt d l .from) (33 + u))))
+  past : (l : ℕ) → d .«link_count» ≤ l → (waitingAt m′ l ≡ waitingAt m l) × (droppedAt m′ l ≡ droppedAt m l)
   age : (v : ℕ) → ageAt m′ v ≡ cond (eqb v u && getD marks u false) 0 (ageAt m v)
 
 cond-or : (a b : Bool) (x : ℕ) → cond b 0 (cond a 0 x) ≡ cond (a || b) 0 x
@@ -110,6 +111,7 @@ module _ (d : Description) (wf : WellFormed d) (marks : List Bool) where
     awake = λ k o. or-idle (awakeAt m k) (getD marks u false) _ e;
     waiting = λ l p. or-idle (waitingAt m l) (getD marks u false) _ e;
     dropped = λ l p. or-idle₃ (droppedAt m l) (waitingAt m l) (getD marks u false) _ e;
+    past = λ l p. (refl, refl);
     age = λ v. rw (and-off (eqb v u) (getD marks u false) e) refl;
   }
 
@@ -129,6 +131,7 @@ module _ (d : Description) (wf : WellFormed d) (marks : List Bool) where
         awake = λ k o. rw e (f .awake k o);
         waiting = λ l q. rw e (rw (lt-ltb l (d .«link_count») q) at (f .waiting l));
         dropped = λ l q. rw e (rw (lt-ltb l (d .«link_count») q) at (f .dropped l));
+        past = λ l q. fired-past d (33 + u) m (fire d (33 + u) m) f l q;
         age = λ v. getD-set (fire d (33 + u) m .ages) u 0 0 v (omega (arith, f .sized .ages, wf .few-sources)) ∙ rw (e, f .ages) (test (eqb v u) (ageAt m v));
       }
     where
@@ -151,6 +154,7 @@ module _ (d : Description) (wf : WellFormed d) (marks : List Bool) where
     awake = λ k o. or-idle (awakeAt m k) false false refl;
     waiting = λ l p. rw (le-ltb (linkAt d l .from - 33) 0 (omega arith), and-off (ltb 32 (linkAt d l .from)) false refl) (or-idle (waitingAt m l) false false refl);
     dropped = λ l p. rw (le-ltb (linkAt d l .from - 33) 0 (omega arith), and-off (ltb 32 (linkAt d l .from)) false refl) (or-idle₃ (droppedAt m l) (waitingAt m l) false false refl);
+    past = λ l p. (refl, refl);
     age = λ v. rw (le-ltb v 0 (omega arith)) refl;
   }
 
@@ -163,6 +167,7 @@ module _ (d : Description) (wf : WellFormed d) (marks : List Bool) where
         awake = λ k o. rw (g .awake k o, f .awake k o, any-suc (λ u. getD marks (u - 33) false && linked d u k) 33 n, back) (or-assoc (awakeAt m k) _ _);
         waiting = λ l p. rw (g .waiting l p, f .waiting l p, comes-more marks n (linkAt d l .from)) (or-assoc (waitingAt m l) _ _);
         dropped = λ l p. rw (g .dropped l p, f .waiting l p, f .dropped l p, comes-more marks n (linkAt d l .from)) (drop-more (droppedAt m l) (waitingAt m l) _ _ (comes-apart marks n (linkAt d l .from)));
+        past = λ l p. (g .past l p .0 ∙ f .past l p .0, g .past l p .1 ∙ f .past l p .1);
         age = λ v. rw (g .age v, f .age v, less-more (λ u. getD marks u false) v n) (cond-or (ltb v n && getD marks v false) _ (ageAt m v));
       }
 

@@ -1,15 +1,12 @@
 -- How often a source fires in a stretch of ticks, by the age that the machine keeps for it. Assumes nothing.
-use Prim.Native.Nat.{ℕ, zero, suc, _+_, _-_, _*_, _/_, _≤_, _<_, max, min}
-use mathlib.Core.Path.{_≡_, refl, sym, ap, _∙_}
+use Prim.Native.Nat.{ℕ, zero, suc, _+_, _-_, _*_, _≤_, _<_, min}
+use mathlib.Core.Path.{_≡_, refl}
 use mathlib.Core.Bool.{Bool, true, false}
 use native.Mathlib.Omega.{arith}
-use native.Mathlib.Nat.{add-zero, add-suc, le-div-iff-mul-le}
+use native.Mathlib.Nat.{add-zero, add-suc}
 use Rattle.model.specs.Basics.{sumN, given}
 use Rattle.model.specs.Delays.{spacings}
-
-pub spacings-some : (d m : ℕ) → 1 ≤ spacings d m
-unfolding spacings
-spacings-some d m = omega arith
+use Rattle.theory.proofs.Rounds.{spacings-some, spacings-of}
 
 -- the firings in the n ticks from x on
 unfoldable pub count : (ℕ → Bool) → ℕ → ℕ → ℕ
@@ -34,14 +31,9 @@ count-age m f age g x (suc n) =
     rw (add-suc x n)
     (age-step (f (x + n)) (sumN (λ y. given (f y) 1) x n) m n (age (x + n)) (age (suc (x + n))) (count-age m f age g x n) (g .ready _) (g .fired _) (g .older _))
 
--- from a product to the rounded quotient
-spacings-of : (c n m : ℕ) → 1 ≤ m → c * m ≤ n + (m - 1) → c ≤ spacings n m
-unfolding spacings
-spacings-of c n m p h = omega (arith, le-div-iff-mul-le p .1 h)
-
 count-none : (f : ℕ → Bool) (x m : ℕ) → count f x 0 ≤ spacings 0 m
 unfolding count sumN
-count-none f x m = omega arith
+count-none f x m = omega (arith, spacings-some 0 m)
 
 pub count-spacings : (m : ℕ) (f : ℕ → Bool) (age : ℕ → ℕ) → 1 ≤ m → Ages m f age → (x n : ℕ) → count f x n ≤ spacings n m
 count-spacings m f age p g x zero = count-none f x m

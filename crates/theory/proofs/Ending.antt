@@ -1,24 +1,21 @@
 -- The highest awake task, and what the clearing of marks and the rise of ages do to the record. Assumes nothing.
 use Prim.Native.Nat.{ℕ, zero, suc, _+_, _-_, _≤_, _<_, min}
-use mathlib.Core.Path.{_≡_, refl, sym, ap, _∙_}
+use mathlib.Core.Path.{_≡_, refl, _∙_}
 use mathlib.Core.Bool.{Bool, true, false, _||_, _&&_, not, cond}
 use mathlib.Core.List.{List}
 use native.Mathlib.Omega.{arith}
-use lib.ListN.{length, getD, set, length-set}
+use lib.ListN.{getD, length-set}
 use lib.Dec.{ltb, eqb}
-use borrow.Author.Tests.{eqb-true, eqb-false, eq-eqb, ne-eqb, lt-ltb, le-ltb, ltb-true, not-true}
-use Rattle.model.specs.declared.Link.{Link}
+use borrow.Author.Tests.{eq-eqb, ne-eqb, lt-ltb, le-ltb}
 use Rattle.model.specs.declared.Description.{Description}
 use Rattle.model.specs.declared.Machine.{Machine}
-use Rattle.model.specs.Basics.{anyN, upTo}
-use Rattle.model.specs.Graph.{linkAt, linked, runOf}
+use Rattle.model.specs.Basics.{upTo}
+use Rattle.model.specs.Graph.{linkAt}
 use Rattle.model.specs.Delays.{spacingOf}
-use Rattle.model.specs.Machine.{awakeAt, usedAt, waitingAt, droppedAt, ageAt, setAwake, setUsed, setWaiting, setAge, fire, arrive, highestIn, highest, runTask, clearLink, clearInto, endRun, ageOne, ageAll, stepped}
-use Rattle.theory.proofs.Tests.{Cmp, less, same, more, cmp, not-both, and-left}
+use Rattle.model.specs.Machine.{waitingAt, ageAt, highestIn, clearLink, clearInto, ageOne, ageAll}
+use Rattle.theory.proofs.Tests.{Cmp, less, same, more, cmp}
 use Rattle.theory.proofs.WellFormed.{WellFormed}
-use Rattle.theory.proofs.Firing.{Sized, Fired, fired, getD-set, getD-task, less-more}
-use Rattle.theory.proofs.Arriving.{comes, Arrived, arrived}
-use Rattle.theory.proofs.Trace.{awakeAfter}
+use Rattle.theory.proofs.Firing.{Sized, getD-set, less-more}
 
 -- the highest awake task
 pub highest-le : (aw : List Bool) (n : ℕ) → highestIn aw n ≤ n

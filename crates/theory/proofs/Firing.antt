@@ -1,7 +1,7 @@
 -- What a firing does to each part of the machine's record. Assumes nothing.
-use Prim.Native.Nat.{ℕ, zero, suc, _+_, _-_, _≤_, _<_}
+use Prim.Native.Nat.{ℕ, zero, suc, _-_, _≤_, _<_}
 use mathlib.Core.Path.{_≡_, refl, sym, ap, _∙_}
-use mathlib.Core.Bool.{Bool, true, false, _||_, _&&_, not, cond}
+use mathlib.Core.Bool.{Bool, true, false, _||_, _&&_, cond}
 use mathlib.Core.List.{List}
 use native.Mathlib.Omega.{arith}
 use native.Mathlib.Nat.{zero-add}
@@ -9,13 +9,12 @@ use lib.ListN.{length, getD, set, length-set}
 use lib.Seq.{getD-set-same, getD-set-other}
 use lib.Dec.{ltb, eqb}
 use borrow.Author.Tests.{eqb-true, eqb-false, eq-eqb, ne-eqb, lt-ltb, le-ltb, ltb-true}
-use Rattle.model.specs.declared.Link.{Link}
 use Rattle.model.specs.declared.Description.{Description}
 use Rattle.model.specs.declared.Machine.{Machine}
 use Rattle.model.specs.Basics.{anyN, upTo}
-use Rattle.model.specs.Graph.{linkAt, linked, system}
-use Rattle.model.specs.Machine.{awakeAt, usedAt, waitingAt, droppedAt, ageAt, setAwake, setUsed, setWaiting, setDropped, setAge, markDropped, fireLink, fire}
-use Rattle.theory.proofs.Tests.{Cmp, less, same, more, cmp, not-both, same-test, and-left}
+use Rattle.model.specs.Graph.{linkAt, system}
+use Rattle.model.specs.Machine.{awakeAt, waitingAt, droppedAt, setAwake, setWaiting, setDropped, markDropped, fireLink, fire}
+use Rattle.theory.proofs.Tests.{Cmp, less, same, more, cmp, same-test, and-left}
 use Rattle.theory.proofs.WellFormed.{WellFormed}
 
 -- the record's lists have their lengths
@@ -156,7 +155,7 @@ and-on : (b c : Bool) → c ≡ true → (b && c) ≡ b
 and-on true c e = e
 and-on false c e = refl
 
-eqb-sym : (a b : ℕ) → eqb a b ≡ eqb b a
+pub eqb-sym : (a b : ℕ) → eqb a b ≡ eqb b a
 eqb-sym a b =
     same-test (eqb a b) (eqb b a) (λ e. eq-eqb b a (sym (eqb-true a b e))) (λ e. eq-eqb a b (sym (eqb-true b a e)))
 
@@ -249,3 +248,17 @@ module _ (d : Description) (wf : WellFormed d) where
   pub fired : (x : ℕ) (m : Machine) → Sized m → Fired d x (d .«link_count») m (fire d x m)
   unfolding fire
   fired x m z = fired-to x (d .«link_count») (omega arith) m z
+
+-- nothing is set past the links
+or-none : (a : Bool) → (a || false) ≡ a
+or-none true = refl
+or-none false = refl
+
+or-none₂ : (a b : Bool) → (a || (b && false)) ≡ a
+or-none₂ true b = refl
+or-none₂ false true = refl
+or-none₂ false false = refl
+
+pub fired-past : (d : Description) (x : ℕ) (m m′ : Machine) → Fired d x (d .«link_count») m m′ → (l : ℕ) → d .«link_count» ≤ l → (waitingAt m′ l ≡ waitingAt m l) × (droppedAt m′ l ≡ droppedAt m l)
+fired-past d x m m′ f l p =
+    (f .waiting l ∙ rw (le-ltb l (d .«link_count») p) (or-none (waitingAt m l)), f .dropped l ∙ rw (le-ltb l (d .«link_count») p) (or-none₂ (droppedAt m l) (waitingAt m l)))

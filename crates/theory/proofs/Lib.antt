@@ -24,12 +24,11 @@ pub mod LoadLaws
 pub mod Fielded
 pub mod LoadBounds
 pub mod Alike
-pub mod PotentialLoads
 pub mod Potential
 pub mod Count
 pub mod Window
 pub mod Trace
-pub mod Demand
+pub mod PotentialSteps
 pub mod Response
 pub mod Token
 pub mod Firing
@@ -37,3 +36,9 @@ pub mod Arriving
 pub mod Ending
 pub mod Stepping
 pub mod Replay
+pub mod Machine
+pub mod Marks
+pub mod Serving
+pub mod Assurance
+pub mod Demand3
+pub mod Lawful

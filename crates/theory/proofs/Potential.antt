@@ -1,17 +1,17 @@
 -- Work still owed: the potential of a state of any of the machines, and how a firing, a tick of a run and its end move it. Assumes nothing.
 use Prim.Native.Nat.{ℕ, zero, suc, _+_, _-_, _≤_, _<_, max}
-use mathlib.Core.Path.{_≡_, refl, sym, ap, _∙_}
+use mathlib.Core.Path.{_≡_, refl}
 use mathlib.Core.Bool.{Bool, true, false, _||_}
 use native.Mathlib.Omega.{arith}
 use lib.Dec.{ltb}
 use borrow.Author.Tests.{lt-ltb, ltb-true, ltb-false}
-use Rattle.model.specs.Basics.{sumN, sumTo, topTo, topN, given}
+use Rattle.model.specs.Basics.{sumTo, topTo, given}
 use Rattle.model.specs.Graph.{System}
 use Rattle.model.specs.Loads.{work, added, load}
 use Rattle.theory.proofs.Tests.{at-or-not, not-both, false-of, or-left, or-right, or-new, or-cases, or-false-left, or-false-right}
 use Rattle.theory.proofs.Range.{All, topTo-le, le-topTo, given-le, le-given, sumTo-le, sumTo-add, sumTo-zero, le-sumTo, sumTo-parts}
 use Rattle.theory.proofs.WellFormed.{Loaded}
-use Rattle.theory.proofs.PotentialLoads.{added-le, back, along, run-whole}
+use Rattle.theory.proofs.LoadLaws.{added-le, back, along}
 
 -- A state is, for each task, the ticks that its run has used and whether a run not yet begun is pending. It is live if either is so.
 abbrev pub live : (ℕ → ℕ) → (ℕ → Bool) → ℕ → Bool

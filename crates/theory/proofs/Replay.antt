@@ -1,20 +1,18 @@
 -- A list of calls from a record on: those that are ticks, the records between them, and that History's ticks are what they show. Assumes nothing.
-use Prim.Native.Nat.{ℕ, zero, suc, _+_, _-_, _≤_, _<_}
+use Prim.Native.Nat.{ℕ, zero, suc, _<_}
 use mathlib.Core.Path.{_≡_, refl, sym, ap, _∙_}
-use mathlib.Core.Bool.{Bool, true, false, cond}
+use mathlib.Core.Bool.{Bool, true, false}
 use mathlib.Core.List.{List, [], _∷_}
 use native.Mathlib.Omega.{arith}
 use lib.ListN.{length, getD}
 use Rattle.model.specs.declared.Description.{Description}
 use Rattle.model.specs.declared.Machine.{Machine}
-use Rattle.model.specs.declared.Arrivals.{Arrivals}
 use Rattle.model.specs.declared.Outcome.{Outcome}
 use Rattle.model.specs.declared.Outcome.the-variants.{Done, Refused}
 use Rattle.model.specs.declared.Refusal.the-variants.{TooSoon, Stranger, ForeignState}
-use Rattle.model.specs.Refusals.{onDone}
 use Rattle.model.specs.Verdicts.{judgeAt}
 use Rattle.model.specs.Machine.{lawful, stepped, strangers, tooSoon, judgeTick, plainTick}
-use Rattle.model.specs.History.{Call, Tick, left, observe, isDone, ticks, tickAt, noTick}
+use Rattle.model.specs.History.{Call, left, observe, isDone, ticks, tickAt, noTick}
 use Rattle.theory.proofs.Tests.{not-both}
 
 -- a call with no arrival, which stands past the end of a list

@@ -1,23 +1,23 @@
 -- A link from a source: every wait is at most the delay of the quote, and no event finds the one before it waiting. Assumes nothing.
-use Prim.Native.Nat.{ℕ, zero, suc, _+_, _-_, _*_, _≤_, _<_}
-use mathlib.Core.Path.{_≡_, refl, sym, ap, _∙_}
-use mathlib.Core.Bool.{Bool, true, false, _||_, _&&_, not, cond}
+use Prim.Native.Nat.{ℕ, zero, suc, _+_, _*_, _≤_, _<_}
+use mathlib.Core.Path.{_≡_, sym, _∙_}
+use mathlib.Core.Bool.{true, false}
 use mathlib.Core.Logic.{_⊎_, inl, inr}
 use native.Mathlib.Omega.{arith}
 use native.Mathlib.Nat.{mul-le-mul-left}
 use lib.Dec.{leb, eqb}
 use borrow.Author.Tests.{leb-true, leb-false, eqb-true, eq-eqb}
-use Rattle.model.specs.Basics.{sumN, sumTo, anyN, given}
 use Rattle.model.specs.Graph.{System}
-use Rattle.model.specs.Loads.{work, added, load}
+use Rattle.model.specs.Loads.{added, load}
 use Rattle.model.specs.Delays.{spacings, startOf, roundOf}
 use Rattle.theory.proofs.Tests.{Cmp, less, same, more, cmp, not-both, or-right, both}
 use Rattle.theory.proofs.Range.{any-at, le-sumN, le-sumTo}
 use Rattle.theory.proofs.WellFormed.{Loaded, Shaped}
-use Rattle.theory.proofs.Count.{Ages, spacings-some, count-spacings, apart}
+use Rattle.theory.proofs.Count.{Ages, count-spacings, apart}
+use Rattle.theory.proofs.Rounds.{spacings-some}
 use Rattle.theory.proofs.Window.{Run, bounded}
 use Rattle.theory.proofs.Trace.{Trace, endsAt, mid-keeps, after-stays}
-use Rattle.theory.proofs.Demand.{phi, phi-first, phi-none, falls, rests-at}
+use Rattle.theory.proofs.PotentialSteps.{phi, phi-first, phi-none, falls, rests-at}
 
 module _ (s : System) (gap : ℕ → ℕ) (T : Trace s gap) where
   -- an event of source i in tick x that no run of j has served before tick y

@@ -1,24 +1,21 @@
 -- What one tick does to each part of the machine's record. Assumes nothing.
 use Prim.Native.Nat.{ℕ, zero, suc, _+_, _-_, _≤_, _<_, min}
-use mathlib.Core.Path.{_≡_, refl, sym, ap, _∙_}
+use mathlib.Core.Path.{_≡_, refl, ap, _∙_}
 use mathlib.Core.Bool.{Bool, true, false, _||_, _&&_, not, cond}
 use mathlib.Core.List.{List}
 use native.Mathlib.Omega.{arith}
 use native.Mathlib.Numerals.{add-one}
 use lib.ListN.{length, getD, set, length-set}
 use lib.Seq.{getD-set-same}
-use lib.Dec.{ltb, eqb}
-use borrow.Author.Tests.{eqb-true, eqb-false, eq-eqb, ne-eqb, lt-ltb}
-use Rattle.model.specs.declared.Link.{Link}
+use lib.Dec.{eqb}
+use borrow.Author.Tests.{eqb-true, ne-eqb, lt-ltb, le-ltb}
 use Rattle.model.specs.declared.Description.{Description}
 use Rattle.model.specs.declared.Machine.{Machine}
-use Rattle.model.specs.Basics.{anyN}
 use Rattle.model.specs.Graph.{linkAt, linked, runOf}
 use Rattle.model.specs.Delays.{spacingOf}
 use Rattle.model.specs.Machine.{awakeAt, usedAt, waitingAt, droppedAt, ageAt, setAwake, setUsed, fire, arrive, highest, runTask, clearInto, endRun, ageAll, stepped}
-use Rattle.theory.proofs.Tests.{not-both, and-left}
 use Rattle.theory.proofs.WellFormed.{WellFormed}
-use Rattle.theory.proofs.Firing.{Sized, Fired, fired, getD-task}
+use Rattle.theory.proofs.Firing.{Sized, Fired, fired, fired-past, getD-task}
 use Rattle.theory.proofs.Arriving.{comes, Arrived, arrived}
 use Rattle.theory.proofs.Ending.{highest-le, Cleared, cleared, Aged, aged}
 use Rattle.theory.proofs.Trace.{awakeAfter}
@@ -35,6 +32,7 @@ pub record Ran (d : Description) (h : ℕ) (o : Bool) (m m′ : Machine) : Type 
   pub used : (k : ℕ) → 1 ≤ k → usedAt m′ k ≡ cond (eqb k h) (cond o 0 (suc (usedAt m k))) (usedAt m k)
   pub waiting : (l : ℕ) → l < d .«link_count» → waitingAt m′ l ≡ ((waitingAt m l && not (o && eqb (linkAt d l .to) h)) || (o && eqb (linkAt d l .from) h))
   pub dropped : (l : ℕ) → l < d .«link_count» → droppedAt m′ l ≡ (droppedAt m l || (waitingAt m l && not (o && eqb (linkAt d l .to) h) && (o && eqb (linkAt d l .from) h)))
+  pub past : (l : ℕ) → d .«link_count» ≤ l → (waitingAt m′ l ≡ waitingAt m l) × (droppedAt m′ l ≡ droppedAt m l)
 
 keep : (b : Bool) → b ≡ (b && true || false)
 keep true = refl
@@ -80,6 +78,7 @@ module _ (d : Description) (wf : WellFormed d) where
     used = λ k o. rw (ne-eqb k 0 (λ e. omega arith)) refl;
     waiting = λ l p. keep (waitingAt m l);
     dropped = λ l p. keep₂ (droppedAt m l) (waitingAt m l);
+    past = λ l p. (refl, refl);
   }
 
   -- the run goes on
@@ -97,6 +96,7 @@ module _ (d : Description) (wf : WellFormed d) where
     used = λ k o. getD-task (m .used) h (usedAt m h + 1) 0 k o p (omega (arith, z .useds)) ∙ one k (eqb k h) refl;
     waiting = λ l r. keep (waitingAt m l);
     dropped = λ l r. keep₂ (droppedAt m l) (waitingAt m l);
+    past = λ l r. (refl, refl);
   }
     where
       one : (k : ℕ) (b : Bool) → eqb k h ≡ b → cond (eqb k h) (usedAt m h + 1) (usedAt m k) ≡ cond (eqb k h) (suc (usedAt m k)) (usedAt m k)
@@ -120,8 +120,13 @@ module _ (d : Description) (wf : WellFormed d) where
         used = λ k o. rw (f .used, c .used) (getD-task us h 0 0 k o p (omega arith) ∙ zeroed k o (eqb k h) refl);
         waiting = λ l r. f .waiting l ∙ rw (lt-ltb l (d .«link_count») r, c .waiting l, lt-ltb l (d .«link_count») r) refl;
         dropped = λ l r. f .dropped l ∙ rw (lt-ltb l (d .«link_count») r, c .waiting l, c .dropped, lt-ltb l (d .«link_count») r) refl;
+        past = λ l r. (fired-past d h (clearInto d h m₃) (fire d h (clearInto d h m₃)) f l r .0 ∙ (c .waiting l ∙ rw (le-ltb l (d .«link_count») r) (on (waitingAt m l))), fired-past d h (clearInto d h m₃) (fire d h (clearInto d h m₃)) f l r .1 ∙ ap (λ (ds : List Bool). getD ds l false) (c .dropped));
       }
     where
+      on : (b : Bool) → (b && true) ≡ b
+      on true = refl
+      on false = refl
+
       zeroed : (k : ℕ) → 1 ≤ k → (b : Bool) → eqb k h ≡ b → cond (eqb k h) 0 (getD (set (m .used) (h - 1) (usedAt m h + 1)) (k - 1) 0) ≡ cond (eqb k h) 0 (usedAt m k)
       zeroed k o true e = rw e refl
       zeroed k o false e =
@@ -142,6 +147,8 @@ module _ (d : Description) (wf : WellFormed d) where
     pub used : (k : ℕ) → 1 ≤ k → usedAt m′ k ≡ cond (eqb k h) (cond o 0 (suc (usedAt m k))) (usedAt m k)
     pub waiting : (l : ℕ) → l < d .«link_count» → waitingAt m′ l ≡ (((waitingAt m l || comes marks (d .«source_count») (linkAt d l .from)) && not (o && eqb (linkAt d l .to) h)) || (o && eqb (linkAt d l .from) h))
     pub dropped : (l : ℕ) → l < d .«link_count» → droppedAt m′ l ≡ (droppedAt m l || (waitingAt m l && comes marks (d .«source_count») (linkAt d l .from)) || ((waitingAt m l || comes marks (d .«source_count») (linkAt d l .from)) && not (o && eqb (linkAt d l .to) h) && (o && eqb (linkAt d l .from) h)))
+    pub past : (l : ℕ) → d .«link_count» ≤ l → (waitingAt m′ l ≡ waitingAt m l) × (droppedAt m′ l ≡ droppedAt m l)
+    pub age-past : (v : ℕ) → d .«source_count» ≤ v → ageAt m′ v ≡ ageAt m v
     pub age : (v : ℕ) → v < d .«source_count» → ageAt m′ v ≡ min (spacingOf d t (33 + v)) (cond (getD marks v false) 0 (ageAt m v) + 1)
 
   pub step : (t : ℕ) (marks : List Bool) (finish : Bool) (m : Machine) → Sized m → Stepped t marks (highest d (arrive d marks m)) (overAt d (highest d (arrive d marks m)) finish m) m (stepped d t marks finish m)
@@ -159,5 +166,7 @@ module _ (d : Description) (wf : WellFormed d) where
         used = λ k o. rw (g .used) (r .used k o ∙ ap (λ (l : List ℕ). cond (eqb k h) (cond (overAt d h finish m) 0 (suc (getD l (k - 1) 0))) (getD l (k - 1) 0)) (a .used));
         waiting = λ l p. rw (g .waiting) (rw (a .waiting l p) at (r .waiting l p));
         dropped = λ l p. rw (g .dropped) (rw (a .waiting l p, a .dropped l p) at (r .dropped l p));
+        past = λ l p. (ap (λ (ws : List Bool). getD ws l false) (g .waiting) ∙ (r .past l p .0 ∙ a .past l p .0), ap (λ (ds : List Bool). getD ds l false) (g .dropped) ∙ (r .past l p .1 ∙ a .past l p .1));
+        age-past = λ v p. g .age v ∙ rw (le-ltb v (d .«source_count») p, r .ages, a .age v, le-ltb v (d .«source_count») p) refl;
         age = λ v p. g .age v ∙ rw (lt-ltb v (d .«source_count») p, r .ages, a .age v, lt-ltb v (d .«source_count») p) refl;
       }

@@ -1,18 +1,16 @@
 -- A link between tasks with an exclusive neighbourhood: at most one token is under way, so no event finds the one before it waiting. Assumes nothing.
-use Prim.Native.Nat.{ℕ, zero, suc, _+_, _-_, _≤_, _<_}
-use mathlib.Core.Path.{_≡_, refl, sym, ap, _∙_}
-use mathlib.Core.Bool.{Bool, true, false, _||_, _&&_, not, cond}
+use Prim.Native.Nat.{ℕ, zero, suc, _≤_, _<_}
+use mathlib.Core.Path.{_≡_, sym, _∙_}
+use mathlib.Core.Bool.{true, false, _||_}
 use mathlib.Core.Logic.{_⊎_, inl, inr}
 use native.Mathlib.Omega.{arith}
 use lib.Dec.{eqb}
 use borrow.Author.Tests.{eqb-true, eq-eqb}
-use Rattle.model.specs.Basics.{anyN}
 use Rattle.model.specs.Graph.{System}
-use Rattle.model.specs.Order.{Set, Neighbourhood, InOrder}
+use Rattle.model.specs.Order.{Set, Neighbourhood}
 use Rattle.theory.proofs.Tests.{Cmp, less, same, more, cmp, not-both, false-of, or-else, or-cases, and-left, and-right, both}
 use Rattle.theory.proofs.Range.{any-none}
 use Rattle.theory.proofs.WellFormed.{Loaded, Shaped}
-use Rattle.theory.proofs.PotentialLoads.{no-loop}
 use Rattle.theory.proofs.Trace.{Trace, endsAt, mid-keeps, awake-low, after-stays, after-wakes, after-fires}
 
 module _ (s : System) (gap : ℕ → ℕ) (T : Trace s gap) where

@@ -1,19 +1,16 @@
 -- A run of the tick machine by tick numbers, its rules, and how the potential moves in each tick. Assumes nothing.
-use Prim.Native.Nat.{ℕ, zero, suc, _+_, _-_, _≤_, _<_}
-use mathlib.Core.Path.{_≡_, refl, sym, ap, _∙_}
+use Prim.Native.Nat.{ℕ, zero, suc, _+_, _≤_, _<_}
+use mathlib.Core.Path.{_≡_, refl, sym, _∙_}
 use mathlib.Core.Bool.{Bool, true, false, _||_, _&&_, not, cond}
 use mathlib.Core.Logic.{_⊎_, inl, inr}
 use native.Mathlib.Omega.{arith}
-use lib.Dec.{ltb, eqb}
+use lib.Dec.{eqb}
 use borrow.Author.Tests.{eq-eqb, ne-eqb, eqb-true, eqb-false}
-use Rattle.model.specs.Basics.{sumN, sumTo, anyN, given}
+use Rattle.model.specs.Basics.{anyN}
 use Rattle.model.specs.Graph.{System}
-use Rattle.model.specs.Loads.{work, added, load}
-use Rattle.theory.proofs.Tests.{Cmp, less, same, more, cmp, at-or-not, not-both, false-of, or-left, or-right, or-new, or-false-left, and-left, and-right, both}
-use Rattle.theory.proofs.Range.{All, Found, any-found, sumN-add, sumN-zero, le-sumN, le-given, sumN-cong}
-use Rattle.theory.proofs.WellFormed.{Loaded, Shaped}
-use Rattle.theory.proofs.PotentialLoads.{along, run-whole}
-use Rattle.theory.proofs.Potential.{live, Owed, Brings, firing, none-owed, owed-none, Ticks, ticking, Ends, ending, ending-above}
+use Rattle.theory.proofs.Tests.{Cmp, less, same, more, cmp, not-both, false-of, or-left, or-right, or-false-left}
+use Rattle.theory.proofs.Range.{All}
+use Rattle.theory.proofs.WellFormed.{Shaped}
 
 -- a task once the run of one has gone on: awake before it, whether the run ended, whether it was this task's, whether the one that ended has a link to it
 abbrev pub awakeAfter : Bool → Bool → Bool → Bool → Bool

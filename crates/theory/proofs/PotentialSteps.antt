@@ -1,21 +1,21 @@
 -- How the potential of a run of the machine moves in each tick: it falls where a task at or above j runs, and starts anew where none does. Assumes nothing.
 use Prim.Native.Nat.{ℕ, zero, suc, _+_, _-_, _≤_, _<_}
-use mathlib.Core.Path.{_≡_, refl, sym, ap, _∙_}
-use mathlib.Core.Bool.{Bool, true, false, _||_, _&&_, not, cond}
+use mathlib.Core.Path.{_≡_, refl, sym, _∙_}
+use mathlib.Core.Bool.{Bool, true, false, _||_, _&&_, cond}
 use mathlib.Core.Logic.{_⊎_, inl, inr}
 use native.Mathlib.Omega.{arith}
 use lib.Dec.{ltb, eqb}
 use borrow.Author.Tests.{eq-eqb, ne-eqb, eqb-true, eqb-false, lt-ltb}
-use Rattle.model.specs.Basics.{sumN, sumTo, anyN, given, topTo}
+use Rattle.model.specs.Basics.{sumN, sumTo, given}
 use Rattle.model.specs.Graph.{System}
 use Rattle.model.specs.Loads.{work, added, load}
 use Rattle.model.specs.Delays.{startOf}
-use Rattle.theory.proofs.Tests.{not-both, false-of, or-left, or-right, or-new, or-false, and-left, and-right, both, and-false-left}
+use Rattle.theory.proofs.Tests.{not-both, false-of, or-left, or-new, and-left, and-right, both}
 use Rattle.theory.proofs.Range.{All, Found, any-found, sumN-add, sumN-zero, le-sumN, le-given, sumN-cong, le-topTo}
 use Rattle.theory.proofs.WellFormed.{Loaded, Shaped}
-use Rattle.theory.proofs.PotentialLoads.{along, run-whole}
+use Rattle.theory.proofs.LoadLaws.{along, run-whole}
 use Rattle.theory.proofs.Potential.{live, Owed, Brings, firing, none-owed, owed-none, Ticks, ticking, Ends, ending, ending-above}
-use Rattle.theory.proofs.Trace.{Trace, pend, awakeAfter, after-stays, after-wakes, after-on, Good, good, mid-keeps, mid-off, used-other}
+use Rattle.theory.proofs.Trace.{Trace, pend, after-wakes, after-on, good, mid-off, used-other}
 
 -- sums over a table, by rows and by columns
 sum-swap : (f : ℕ → ℕ → ℕ) (a n b m : ℕ) → sumN (λ k. sumN (λ u. f u k) a n) b m ≡ sumN (λ u. sumN (f u) b m) a n

@@ -4,7 +4,6 @@ use model::Description;
 use model::Link;
 use model::Verdict;
 use model::VerdictSlot;
-
 ghost use mathlib.Core.Path.{_≡_};
 ghost use mathlib.Core.Bool.{false, not};
 ghost use Prim.Native.Nat.{ℕ, _+_, _-_, _≤_, _<_};
@@ -80,7 +79,9 @@ pub fn decide_all(
     requires { ⌜ WellFormed d × ((u : ℕ) → getD (now gaps) u 0 ≤ 1000000000) ⌝ }
     ensures { λ r. ⌜ r ≡ tab 256 (slotBy d (now (orders .entry)) (now (gaps .entry)) (now (reaches .entry))) ⌝ }
 {
-    let mut slots = [VerdictSlot { verdict: Verdict::Free }; 256];
+    let mut slots = [VerdictSlot {
+        verdict: Verdict::Free,
+    }; 256];
     let mut l: usize = 0;
     while l < d.link_count {
         let link = d.links[l];

@@ -1,40 +1,35 @@
+-- `verdict_by` meets its contract. Assumes nothing.
+use borrow.Author.Tests.{lt-ltb, le-ltb}
+use Rattle.verdicts.proofs.DecideLaws.{by-free, by-order, by-disorder, by-rounds}
 use borrow.Author.Needs.{needs}
 use Rattle.verdicts.proofs.decide.verdict_by.Statement.{statement}
 use Rattle.verdicts.proofs.decide.verdict_by.Tie as tie
 use Rattle.verdicts.proofs.decide.verdict_by.Reads as reads
 use Rattle.verdicts.proofs.decide.verdict_by.Lts as lts
 
--- src/decide.rt:24:9
 returns : tie.Need-returns
-returns c = ?
+returns c = by-free (c .before .before .args .link) (c .before .before .args .order) (c .before .before .args .gap) (c .before .before .args .reach) (c .if1 .taken)
 
--- src/decide.rt:28:13
 returns-2 : tie.Need-returns-2
-returns-2 c = ?
+returns-2 c = (by-order (c .before .before .before .before .before .args .link) (c .before .before .before .before .before .args .order) (c .before .before .before .before .before .args .gap) (c .before .before .before .before .before .args .reach) (c .before .before .before .if1 .left) (c .before .if2 .taken) (c .if3 .taken))
 
--- src/decide.rt:30:9
 returns-3 : tie.Need-returns-3
-returns-3 c = ?
+returns-3 c = (by-disorder (c .before .before .before .before .before .args .link) (c .before .before .before .before .before .args .order) (c .before .before .before .before .before .args .gap) (c .before .before .before .before .before .args .reach) (c .before .before .before .if1 .left) (c .before .if2 .taken) (c .if3 .left))
 
--- src/decide.rt:33:30
 cast-t7 : tie.Need-cast-t7
 cast-t7 c = search needs
 
--- src/decide.rt:33:44
 cast-t8 : tie.Need-cast-t8
 cast-t8 c = search needs
 
--- src/decide.rt:33:9
 returns-4 : tie.Need-returns-4
-returns-4 c = ?
+returns-4 c = rw (lt-ltb _ _ (c .if4 .taken)) at (by-rounds (c .before .before .before .before .before .args .link) (c .before .before .before .before .before .args .order) (c .before .before .before .before .before .args .gap) (c .before .before .before .before .before .args .reach) (c .before .before .before .if1 .left) (c .before .if2 .left))
 
--- src/decide.rt:35:20
 cast-t9 : tie.Need-cast-t9
 cast-t9 c = search needs
 
--- src/decide.rt:19:1
 returns-5 : tie.Need-returns-5
-returns-5 c = ?
+returns-5 c = rw (le-ltb _ _ (c .if4 .left)) at (by-rounds (c .before .before .before .before .before .args .link) (c .before .before .before .before .before .args .order) (c .before .before .before .before .before .args .gap) (c .before .before .before .before .before .args .reach) (c .before .before .before .if1 .left) (c .before .if2 .left))
 
 pub verdict-by-spec : {M : Type 1} → statement M
 verdict-by-spec =

@@ -1,13 +1,10 @@
 -- The four ways that the last checks end. Assumes nothing.
-use Prim.Native.Nat.{ℕ}
-use mathlib.Core.Path.{_≡_, refl}
-use mathlib.Core.Bool.{Bool, true, false, cond}
-use lib.Dec.{eqb}
+use mathlib.Core.Path.{_≡_}
+use mathlib.Core.Bool.{true, false}
 use borrow.Author.Tests.{eq-eqb, ne-eqb}
 use Rattle.model.specs.declared.Description.{Description}
 use Rattle.model.specs.declared.Refusal.the-variants.{NoTask, Loop, TooHeavy}
 use Rattle.model.specs.declared.Outcome.the-variants.{Done}
-use Rattle.model.specs.declared.LoadSheet.{LoadSheet}
 use Rattle.model.specs.Graph.{system, cyclic}
 use Rattle.model.specs.Loads.{tooHeavy, sheet}
 use Rattle.model.specs.File.{lastChecks}

@@ -1,19 +1,19 @@
 -- A finished load sheet: whether it is too heavy, and its rows in the public answer. Assumes nothing.
-use Prim.Native.Nat.{ℕ, zero, suc, _+_, _-_, _*_, _≤_, _<_}
-use mathlib.Core.Path.{_≡_, refl, sym, ap, _∙_}
-use mathlib.Core.Bool.{Bool, true, false}
+use Prim.Native.Nat.{ℕ, suc, _-_, _≤_, _<_}
+use mathlib.Core.Path.{_≡_, ap, _∙_}
+use mathlib.Core.Bool.{true, false}
 use mathlib.Core.List.{List, []}
 use native.Mathlib.Omega.{arith}
 use lib.ListN.{length, getD}
 use lib.Dec.{ltb}
 use borrow.Author.Tests.{lt-ltb, le-ltb}
 use Rattle.model.specs.declared.Row.{Row}
-use Rattle.model.specs.Basics.{anyN, tab}
+use Rattle.model.specs.Basics.{tab}
 use Rattle.model.specs.Graph.{System}
 use Rattle.model.specs.Loads.{load, tooHeavy, sheet, noRow}
 use Rattle.theory.proofs.Range.{any-at, any-none}
 use Rattle.theory.proofs.Table.{is-tab}
-use Rattle.loads.specs.Tables.{RowIs, SheetIs}
+use Rattle.loads.specs.Tables.{SheetIs}
 
 -- the load of row r at task 1
 first-is : (s : System) (t : List (List ℕ)) → SheetIs s t → (r : ℕ) → r < 48 → getD (getD t r []) 0 0 ≡ load s (suc r) 1

@@ -1,8 +1,8 @@
 -- The graph that a matrix and a table of runs stand for. Assumes nothing.
-use Prim.Native.Nat.{ℕ, suc, _+_, _-_, _*_, _≤_, _<_}
-use mathlib.Core.Path.{_≡_, refl, sym, ap, _∙_}
+use Prim.Native.Nat.{ℕ, _+_, _-_, _≤_, _<_}
+use mathlib.Core.Path.{_≡_, refl, sym, _∙_}
 use mathlib.Core.Bool.{Bool, true, false, cond, _&&_, _||_}
-use mathlib.Core.List.{List, []}
+use mathlib.Core.List.{List}
 use mathlib.Core.Logic.{⊎-elim}
 use native.Mathlib.Omega.{arith}
 use lib.ListN.{length, getD, set}
@@ -10,13 +10,12 @@ use lib.Dec.{leb, eqb}
 use borrow.Author.Tests.{leb-true, le-leb, eqb-true, eq-eqb}
 use Rattle.model.specs.declared.Description.{Description}
 use Rattle.model.specs.Basics.{anyN}
-use Rattle.model.specs.Graph.{System, system, linked, linkAt, cyclic}
+use Rattle.model.specs.Graph.{system, linked, linkAt, cyclic}
 use Rattle.model.specs.Loads.{work, added, load}
-use Rattle.theory.proofs.Tests.{not-both, false-of, same-test, or-right, and-left, and-right, both}
+use Rattle.theory.proofs.Tests.{false-of, same-test, or-right, and-left, and-right, both}
 use Rattle.theory.proofs.Range.{any-more}
-use Rattle.theory.proofs.WellFormed.{IsTask, Shaped, Loaded}
+use Rattle.theory.proofs.WellFormed.{Loaded}
 use Rattle.theory.proofs.Fielded.{Fielded, shaped-fields}
-use Rattle.theory.proofs.Rank.{Ends}
 use Rattle.theory.proofs.LoadLaws.{loaded-ends}
 use Rattle.theory.proofs.LoadBounds.{work-most, added-most, load-most}
 use Rattle.theory.proofs.Alike.{SameLinks, same-cyclic, same-load}

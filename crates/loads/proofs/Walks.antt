@@ -1,11 +1,10 @@
 -- The tables of the cycle test: what a search through one of them finds. Assumes nothing.
-use Prim.Native.Nat.{ℕ, zero, suc, _+_, _-_, _*_, _≤_, _<_}
-use mathlib.Core.Path.{_≡_, refl, sym, ap, _∙_}
-use mathlib.Core.Bool.{Bool, true, false, _&&_, _||_}
+use Prim.Native.Nat.{ℕ, suc, _+_, _-_, _≤_, _<_}
+use mathlib.Core.Path.{_≡_, ap, _∙_}
+use mathlib.Core.Bool.{Bool, true, false, _&&_}
 use mathlib.Core.List.{List, []}
 use native.Mathlib.Omega.{arith}
-use lib.ListN.{length, getD, replicate, getD-replicate}
-use Rattle.model.specs.Basics.{anyN}
+use lib.ListN.{getD, replicate, getD-replicate}
 use Rattle.model.specs.Graph.{System, walks, cyclic}
 use Rattle.theory.proofs.Tests.{both}
 use Rattle.theory.proofs.Range.{any-at, any-none, any-cong}

@@ -1,12 +1,12 @@
 -- Working loads out on a graph: the partial sums and maxima of the loops, the falling rank, and the memo. Assumes nothing.
-use Prim.Native.Nat.{ℕ, zero, suc, _+_, _-_, _*_, _≤_, _<_, max}
+use Prim.Native.Nat.{ℕ, suc, _+_, _-_, _≤_, _<_, max}
 use mathlib.Core.Path.{_≡_, refl, sym, ap, _∙_}
 use mathlib.Core.Bool.{Bool, true, false}
-use mathlib.Core.List.{List, []}
+use mathlib.Core.List.{List}
 use native.Mathlib.Omega.{arith}
-use lib.ListN.{length, getD, set, length-set, replicate, length-replicate, getD-replicate}
+use lib.ListN.{length, getD, set, length-set, replicate, getD-replicate}
 use lib.Seq.{getD-set-same, getD-set-other}
-use Rattle.model.specs.Basics.{sumN, topN, sumTo, topTo, given}
+use Rattle.model.specs.Basics.{sumN, topN, given}
 use Rattle.model.specs.Graph.{System}
 use Rattle.model.specs.Loads.{work, added, load}
 use Rattle.theory.proofs.Tests.{Cmp, less, same, more, cmp, not-both}
@@ -15,7 +15,7 @@ use Rattle.theory.proofs.Rank.{rankOf, ends-fall}
 use Rattle.theory.proofs.LoadBounds.{sumN-part}
 use Rattle.loads.specs.Tables.{placeOf, InMatrix, graph, NodeOf, TaskOf, Ready, Memo}
 use Rattle.loads.proofs.Fill.{put}
-use Rattle.loads.proofs.Tabled.{link-is, link-inside, run-is, graph-loaded, graph-work, graph-load}
+use Rattle.loads.proofs.Tabled.{link-is, link-inside, run-is, graph-loaded, graph-work}
 
 -- W(j) with the added loads of the tasks below k alone
 unfoldable pub workTo : System → ℕ → ℕ → ℕ

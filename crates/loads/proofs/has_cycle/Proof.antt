@@ -1,23 +1,17 @@
+-- `loads::has_cycle` meets its contract: the matrix has the description's links. Assumes nothing.
 use borrow.Author.Needs.{needs}
 use mathlib.Core.Path.{_∙_}
 use mathlib.Core.List.{[]}
 use Rattle.loads.proofs.Tabled.{matrix-cyclic}
 use Rattle.loads.proofs.has_cycle.Statement.{statement}
 use Rattle.loads.proofs.has_cycle.Tie as tie
-use Rattle.loads.proofs.has_cycle.Reads as reads
-use Rattle.loads.proofs.has_cycle.Lts as lts
-use Rattle.loads.proofs.cycle.cycle_in.Reads as cycle-in-reads
-use Rattle.loads.proofs.matrix.link_matrix.Reads as link-matrix-reads
 
--- src/lib.rt:24:17
 link-matrix-requires : tie.Need-link-matrix-requires
 link-matrix-requires c κs = search needs
 
--- src/lib.rt:26:5
 cycle-in-requires : tie.Need-cycle-in-requires
 cycle-in-requires c κs = search needs
 
--- src/lib.rt:20:1
 returns : tie.Need-returns
 returns c =
     let S = c .before .before .before in

@@ -1,5 +1,6 @@
+-- `loads::last_checks` meets its contract: a return for each end of the checks. Assumes nothing.
 use borrow.Author.Needs.{needs}
-use mathlib.Core.Path.{_≡_, sym, ap, _∙_}
+use mathlib.Core.Path.{sym, ap, _∙_}
 use mathlib.Core.List.{List}
 use Rattle.model.specs.declared.Row.{Row}
 use Rattle.model.specs.declared.LoadSheet.{LoadSheet}
@@ -8,52 +9,36 @@ use Rattle.model.specs.Graph.{system}
 use Rattle.loads.proofs.Checks.{ends-empty, ends-loop, ends-heavy, ends-done}
 use Rattle.loads.proofs.last_checks.Statement.{statement}
 use Rattle.loads.proofs.last_checks.Tie as tie
-use Rattle.loads.proofs.last_checks.Reads as reads
-use Rattle.loads.proofs.last_checks.Lts as lts
-use Rattle.loads.proofs.as_rows.Reads as as-rows-reads
-use Rattle.loads.proofs.has_cycle.Reads as has-cycle-reads
-use Rattle.loads.proofs.load_sheet.Reads as load-sheet-reads
-use Rattle.loads.proofs.refused.Reads as refused-reads
-use Rattle.loads.proofs.too_heavy.Reads as too-heavy-reads
 
 done : List Row → LoadSheet
 done rows = record { outcome = Done; rows = rows }
 
--- src/lib.rt:84:9
 refused-requires : tie.Need-refused-requires
 refused-requires c κs = search needs
 
--- src/lib.rt:84:9
 returns : tie.Need-returns
 returns c = c .refused .ensures ∙ sym (ends-empty (c .before .before .before .args .d) (c .before .if1 .taken))
 
--- src/lib.rt:86:8
 has-cycle-requires : tie.Need-has-cycle-requires
 has-cycle-requires c κs = search needs
 
--- src/lib.rt:87:9
 refused-requires-2 : tie.Need-refused-requires-2
 refused-requires-2 c κs = search needs
 
--- src/lib.rt:87:9
 returns-2 : tie.Need-returns-2
 returns-2 c =
     let d = c .before .before .before .before .before .args .d in
     c .refused2 .ensures ∙ sym (ends-loop d (c .before .before .before .if1 .left) (sym (c .before .before .has-cycle .ensures) ∙ c .before .if2 .taken))
 
--- src/lib.rt:89:9
 load-sheet-requires : tie.Need-load-sheet-requires
 load-sheet-requires c κs = (c .before .before .before .before .pre, sym (c .before .has-cycle .ensures) ∙ c .if2 .left)
 
--- src/lib.rt:90:8
 too-heavy-requires : tie.Need-too-heavy-requires
 too-heavy-requires c κs = search needs
 
--- src/lib.rt:91:9
 refused-requires-3 : tie.Need-refused-requires-3
 refused-requires-3 c κs = search needs
 
--- src/lib.rt:91:9
 returns-3 : tie.Need-returns-3
 returns-3 c =
     let d = c .before .before .before .before .before .before .before .before .args .d in
@@ -61,11 +46,9 @@ returns-3 c =
     let heavy = sym (c .before .before .too-heavy .ensures (system d) (c .before .before .before .load-sheet .ensures)) ∙ c .before .if3 .taken in
     c .refused3 .ensures ∙ sym (ends-heavy d (c .before .before .before .before .before .before .if1 .left) acyclic heavy)
 
--- src/lib.rt:93:9
 as-rows-requires : tie.Need-as-rows-requires
 as-rows-requires c κs = search needs
 
--- src/lib.rt:79:1
 returns-4 : tie.Need-returns-4
 unfolding done
 returns-4 c =

@@ -1,25 +1,19 @@
+-- `loads::load_sheet` meets its contract: the tables' graph has the description's loads. Assumes nothing.
 use borrow.Author.Needs.{needs}
 use Prim.Native.Nat.{suc}
 use mathlib.Core.Path.{_∙_}
 use Rattle.loads.proofs.Tabled.{matrix-ready, matrix-load}
 use Rattle.loads.proofs.load_sheet.Statement.{statement}
 use Rattle.loads.proofs.load_sheet.Tie as tie
-use Rattle.loads.proofs.load_sheet.Reads as reads
-use Rattle.loads.proofs.load_sheet.Lts as lts
-use Rattle.loads.proofs.matrix.link_matrix.Reads as link-matrix-reads
-use Rattle.loads.proofs.rows.load_rows.Reads as load-rows-reads
 
--- src/lib.rt:34:17
 link-matrix-requires : tie.Need-link-matrix-requires
 link-matrix-requires c κs = search needs
 
--- src/lib.rt:37:5
 load-rows-requires : tie.Need-load-rows-requires
 load-rows-requires c κs =
     let S = c .before .before .before .before in
     matrix-ready (S .args .d) (c .before .before .before .link-matrix .result) (S .pre .0) (c .before .before .before .link-matrix .ensures) (S .pre .1)
 
--- src/lib.rt:30:1
 returns : tie.Need-returns
 returns c =
     let S = c .before .before .before .before .before in

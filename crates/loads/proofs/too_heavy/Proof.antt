@@ -1,18 +1,14 @@
+-- `loads::too_heavy` meets its contract: no row passed so far exceeds the limit. Assumes nothing.
 use borrow.Author.Needs.{needs}
-use borrow.Author.Tests.{le-leb, lt-leb, lt-ltb, le-ltb, eq-eqb, ne-eqb}
 use native.Mathlib.Omega.{arith}
-use Prim.Native.Nat.{ℕ, zero, suc, _≤_, _<_, _-_, _*_, _+_}
-use mathlib.Core.Path.{_≡_, refl, ap, sym, subst, _∙_}
-use mathlib.Core.Bool.{Bool, true, false, _&&_, _||_}
-use mathlib.Core.Logic.{⊎-elim}
-use mathlib.Core.List.{List, [], _∷_}
-use lib.ListN.{length, getD, set, replicate, length-set, length-replicate}
+use Prim.Native.Nat.{ℕ, _≤_, _<_, _-_}
+use mathlib.Core.Path.{sym}
+use mathlib.Core.List.{[]}
+use lib.ListN.{getD}
 use borrow.Author.Count.{below-none, below-more}
 use Rattle.loads.proofs.Sheets.{heavy-found, heavy-none}
 use Rattle.loads.proofs.too_heavy.Statement.{statement}
 use Rattle.loads.proofs.too_heavy.Tie as tie
-use Rattle.loads.proofs.too_heavy.Reads as reads
-use Rattle.loads.proofs.too_heavy.Lts as lts
 
 abbrev Inv-loop : tie.InvT-loop
 Inv-loop t i₀ i = (i ≤ 48) × ((k : ℕ) → k < i → getD (getD t k []) 0 0 ≤ 1000000000)
@@ -20,40 +16,31 @@ Inv-loop t i₀ i = (i ≤ 48) × ((k : ℕ) → k < i → getD (getD t k []) 0 
 abbrev μ-loop : tie.MeasureT-loop
 μ-loop t i₀ i = 48 - i
 
--- src/lib.rt:45:5
 loop-holds : tie.Need-loop-holds Inv-loop μ-loop
 loop-holds c = (omega arith, below-none (λ k. _))
 
--- src/lib.rt:46:28
 mul-if1 : tie.Need-mul-if1 Inv-loop μ-loop
 mul-if1 c = search needs
 
--- src/lib.rt:46:28
 index-1-if1 : tie.Need-index-1-if1 Inv-loop μ-loop
 index-1-if1 c = search needs
 
--- src/lib.rt:46:28
 index-2-if1 : tie.Need-index-2-if1 Inv-loop μ-loop
 index-2-if1 c = search needs
 
--- src/lib.rt:47:13
 returns : tie.Need-returns Inv-loop μ-loop
 returns c s S =
     sym (heavy-found (c .before .before .before .before .args .t1) (c .before .before .before .loop .i) (omega arith) (c .if1 .taken) s S)
 
--- src/lib.rt:49:9
 add-i : tie.Need-add-i Inv-loop μ-loop
 add-i c = search needs
 
--- src/lib.rt:45:5
 loop-less : tie.Need-loop-less Inv-loop μ-loop
 loop-less c = search needs
 
--- src/lib.rt:45:5
 loop-again : tie.Need-loop-again Inv-loop μ-loop
 loop-again c = (omega arith, below-more _ _ (c .before .before .before .loop .inv .1) (c .if1 .left))
 
--- src/lib.rt:41:1
 returns-2 : tie.Need-returns-2 Inv-loop μ-loop
 returns-2 c s S =
     sym (heavy-none (c .before .before .args .t1) (λ k p. c .before .loop .inv .1 k (omega arith)) s S)

@@ -1,20 +1,13 @@
+-- `loads::cycle::cycle_in` meets its contract: after each turn the table tells which tasks begin a walk of one link more. Assumes nothing.
 use borrow.Author.Needs.{needs}
-use borrow.Author.Tests.{le-leb, lt-leb, lt-ltb, le-ltb, eq-eqb, ne-eqb}
 use native.Mathlib.Omega.{arith}
-use Prim.Native.Nat.{ℕ, zero, suc, _≤_, _<_, _-_, _*_, _+_}
-use mathlib.Core.Path.{_≡_, refl, ap, sym, subst, _∙_}
-use mathlib.Core.Bool.{Bool, true, false, _&&_, _||_}
-use mathlib.Core.Logic.{⊎-elim}
-use mathlib.Core.List.{List, [], _∷_}
-use lib.ListN.{length, getD, set, replicate, length-set, length-replicate}
+use Prim.Native.Nat.{_≤_, _-_}
+use mathlib.Core.Path.{_≡_, _∙_}
+use mathlib.Core.List.{[]}
 use Rattle.loads.specs.Tables.{graph}
 use Rattle.loads.proofs.Walks.{WalksAre, walks-none, walks-longer, walks-some}
 use Rattle.loads.proofs.cycle.cycle_in.Statement.{statement}
 use Rattle.loads.proofs.cycle.cycle_in.Tie as tie
-use Rattle.loads.proofs.cycle.cycle_in.Reads as reads
-use Rattle.loads.proofs.cycle.cycle_in.Lts as lts
-use Rattle.loads.proofs.cycle.longer.Reads as longer-reads
-use Rattle.loads.proofs.cycle.some_of.Reads as some-of-reads
 
 abbrev Inv-loop : tie.InvT-loop
 Inv-loop links n walk₀ count₀ walk count = (count ≤ n) × WalksAre (graph links [] n) count walk
@@ -22,23 +15,18 @@ Inv-loop links n walk₀ count₀ walk count = (count ≤ n) × WalksAre (graph 
 abbrev μ-loop : tie.MeasureT-loop
 μ-loop links n walk₀ count₀ walk count = n - count
 
--- src/cycle.rt:64:5
 loop-holds : tie.Need-loop-holds Inv-loop μ-loop
 loop-holds c = (omega arith, walks-none (c .args .links .now) (c .args .n) (c .pre))
 
--- src/cycle.rt:65:13
 longer-requires : tie.Need-longer-requires Inv-loop μ-loop
 longer-requires c κs = search needs
 
--- src/cycle.rt:67:9
 add-count : tie.Need-add-count Inv-loop μ-loop
 add-count c = search needs
 
--- src/cycle.rt:64:5
 loop-less : tie.Need-loop-less Inv-loop μ-loop
 loop-less c = search needs
 
--- src/cycle.rt:64:5
 loop-again : tie.Need-loop-again Inv-loop μ-loop
 loop-again c =
     let S = c .before .before .before in
@@ -46,11 +34,9 @@ loop-again c =
     let s = graph (S .args .links .now) [] (S .args .n) in
     (omega arith, walks-longer s (L .count) (L .walk) (c .longer .result) (L .inv .1) (c .longer .ensures))
 
--- src/cycle.rt:69:5
 some-of-requires : tie.Need-some-of-requires Inv-loop μ-loop
 some-of-requires c κs = search needs
 
--- src/cycle.rt:58:1
 returns : tie.Need-returns Inv-loop μ-loop
 unfolding graph
 returns c =

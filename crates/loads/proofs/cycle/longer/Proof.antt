@@ -1,20 +1,16 @@
+-- `loads::cycle::longer` meets its contract: the entries passed so far tell of walks one longer. Assumes nothing.
 use borrow.Author.Needs.{needs}
-use borrow.Author.Tests.{le-leb, lt-leb, lt-ltb, le-ltb, eq-eqb, ne-eqb}
 use native.Mathlib.Omega.{arith}
-use Prim.Native.Nat.{ℕ, zero, suc, _≤_, _<_, _-_, _*_, _+_}
-use mathlib.Core.Path.{_≡_, refl, ap, sym, subst, _∙_}
-use mathlib.Core.Bool.{Bool, true, false, _&&_, _||_}
-use mathlib.Core.Logic.{⊎-elim}
-use mathlib.Core.List.{List, [], _∷_}
-use lib.ListN.{length, getD, set, replicate, length-set, length-replicate}
-use borrow.Author.Count.{below-none, below-more}
+use Prim.Native.Nat.{ℕ, _≤_, _<_, _-_, _+_}
+use mathlib.Core.Path.{_≡_, refl}
+use mathlib.Core.Bool.{false}
+use mathlib.Core.List.{[]}
+use lib.ListN.{length, getD, length-set}
+use borrow.Author.Count.{below-none}
 use Rattle.loads.specs.Tables.{graph, walksOn}
 use Rattle.loads.proofs.Fill.{stored}
 use Rattle.loads.proofs.cycle.longer.Statement.{statement}
 use Rattle.loads.proofs.cycle.longer.Tie as tie
-use Rattle.loads.proofs.cycle.longer.Reads as reads
-use Rattle.loads.proofs.cycle.longer.Lts as lts
-use Rattle.loads.proofs.cycle.walks_on.Reads as walks-on-reads
 
 abbrev Inv-loop : tie.InvT-loop
 Inv-loop links n walk next₀ i₀ next i =
@@ -23,31 +19,24 @@ Inv-loop links n walk next₀ i₀ next i =
 abbrev μ-loop : tie.MeasureT-loop
 μ-loop links n walk next₀ i₀ next i = n - i
 
--- src/cycle.rt:34:5
 loop-holds : tie.Need-loop-holds Inv-loop μ-loop
 loop-holds c = (omega arith, refl, below-none (λ k. _))
 
--- src/cycle.rt:35:43
 add-walks-on : tie.Need-add-walks-on Inv-loop μ-loop
 add-walks-on c = search needs
 
--- src/cycle.rt:35:13
 walks-on-requires : tie.Need-walks-on-requires Inv-loop μ-loop
 walks-on-requires c κs = search needs
 
--- src/cycle.rt:36:9
 array-write-next : tie.Need-array-write-next Inv-loop μ-loop
 array-write-next c = search needs
 
--- src/cycle.rt:37:9
 add-i : tie.Need-add-i Inv-loop μ-loop
 add-i c = search needs
 
--- src/cycle.rt:34:5
 loop-less : tie.Need-loop-less Inv-loop μ-loop
 loop-less c = search needs
 
--- src/cycle.rt:34:5
 loop-again : tie.Need-loop-again Inv-loop μ-loop
 loop-again c =
     let S = c .before .before .before in
@@ -56,7 +45,6 @@ loop-again c =
     let h : L .i < length (L .next) = omega arith in
     (omega arith, simp length-set (L .inv .1), stored (λ k v. v ≡ walksOn s (S .args .walk) (k + 1)) false (L .next) (L .i) (c .walks-on .result) h (L .inv .2) (c .walks-on .ensures))
 
--- src/cycle.rt:28:1
 returns : tie.Need-returns Inv-loop μ-loop
 unfolding graph
 returns c i t =

@@ -1,21 +1,16 @@
+-- `loads::cycle::walks_on` meets its contract: no task passed so far is both linked and walking on. Assumes nothing.
 use borrow.Author.Needs.{needs}
-use borrow.Author.Tests.{le-leb, lt-leb, lt-ltb, le-ltb, eq-eqb, ne-eqb}
 use native.Mathlib.Omega.{arith}
-use Prim.Native.Nat.{ℕ, zero, suc, _≤_, _<_, _-_, _*_, _+_}
-use mathlib.Core.Path.{_≡_, refl, ap, sym, subst, _∙_}
-use mathlib.Core.Bool.{Bool, true, false, _&&_, _||_}
-use mathlib.Core.Logic.{⊎-elim}
-use mathlib.Core.List.{List, [], _∷_}
-use lib.ListN.{length, getD, set, replicate, length-set, length-replicate}
+use Prim.Native.Nat.{ℕ, _≤_, _<_, _-_, _+_}
+use mathlib.Core.Path.{_≡_, sym}
+use mathlib.Core.Bool.{false, _&&_}
+use lib.ListN.{getD}
 use Rattle.loads.specs.Tables.{placeOf}
 use Rattle.theory.proofs.Tests.{and-false-left, and-false-right}
 use Rattle.loads.proofs.Fill.{cases, below}
 use Rattle.loads.proofs.Walks.{on-found, on-none}
 use Rattle.loads.proofs.cycle.walks_on.Statement.{statement}
 use Rattle.loads.proofs.cycle.walks_on.Tie as tie
-use Rattle.loads.proofs.cycle.walks_on.Reads as reads
-use Rattle.loads.proofs.cycle.walks_on.Lts as lts
-use Rattle.loads.proofs.matrix.place.Reads as place-reads
 
 abbrev Inv-loop : tie.InvT-loop
 Inv-loop links n i walk k₀ k = (1 ≤ k) × (k ≤ n + 1) × ((m : ℕ) → 1 ≤ m → m < k → (getD links (placeOf i m) false && getD walk (m - 1) false) ≡ false)
@@ -23,27 +18,21 @@ Inv-loop links n i walk k₀ k = (1 ≤ k) × (k ≤ n + 1) × ((m : ℕ) → 1 
 abbrev μ-loop : tie.MeasureT-loop
 μ-loop links n i walk k₀ k = n + 1 - k
 
--- src/cycle.rt:15:5
 loop-holds : tie.Need-loop-holds Inv-loop μ-loop
 loop-holds c = (omega arith, omega arith, λ m p q. absurd (omega arith))
 
--- src/cycle.rt:16:13
 place-requires : tie.Need-place-requires Inv-loop μ-loop
 place-requires c κs = search needs
 
--- src/cycle.rt:17:12
 element-copy-out-if1 : tie.Need-element-copy-out-if1 Inv-loop μ-loop
 element-copy-out-if1 c = search needs
 
--- src/cycle.rt:18:21
 sub-if2 : tie.Need-sub-if2 Inv-loop μ-loop
 sub-if2 c = search needs
 
--- src/cycle.rt:18:16
 array-read-if2 : tie.Need-array-read-if2 Inv-loop μ-loop
 array-read-if2 c = search needs
 
--- src/cycle.rt:19:17
 returns : tie.Need-returns Inv-loop μ-loop
 returns c =
     let S = c .before .before .before .before .before .before in
@@ -51,15 +40,12 @@ returns c =
     let e : c .before .before .before .place .result ≡ placeOf (S .args .i) (L .k) = c .before .before .before .place .ensures .0 in
     sym (on-found (S .args .links .now) (S .args .n) (S .args .t3) (S .args .i) (S .pre .1, S .pre .2) (L .k) (L .inv .0, omega arith) (rw e at (c .before .if1 .taken)) (c .if2 .taken))
 
--- src/cycle.rt:22:9
 add-k : tie.Need-add-k Inv-loop μ-loop
 add-k c = search needs
 
--- src/cycle.rt:15:5
 loop-less : tie.Need-loop-less Inv-loop μ-loop
 loop-less c = search needs
 
--- src/cycle.rt:15:5
 loop-again : tie.Need-loop-again Inv-loop μ-loop
 loop-again c =
     let S = c .before .before .before .before .before in
@@ -73,7 +59,6 @@ loop-again c =
     in
     (omega arith, omega arith, below (λ m. (getD links (placeOf i m) false && getD walk (m - 1) false) ≡ false) (L .k) (L .inv .2) off)
 
--- src/cycle.rt:10:1
 returns-2 : tie.Need-returns-2 Inv-loop μ-loop
 returns-2 c =
     let S = c .before .before in

@@ -1,22 +1,16 @@
+-- `loads::matrix::link_matrix` meets its contract: the matrix holds the links passed so far. Assumes nothing.
 use borrow.Author.Needs.{needs}
-use borrow.Author.Tests.{le-leb, lt-leb, lt-ltb, le-ltb, eq-eqb, ne-eqb}
 use native.Mathlib.Omega.{arith}
-use Prim.Native.Nat.{ℕ, zero, suc, _≤_, _<_, _-_, _*_, _+_}
-use mathlib.Core.Path.{_≡_, refl, ap, sym, subst, _∙_}
-use mathlib.Core.Bool.{Bool, true, false, _&&_, _||_}
-use mathlib.Core.Logic.{⊎-elim}
-use mathlib.Core.List.{List, [], _∷_}
-use lib.ListN.{length, getD, set, replicate, length-set, length-replicate, getD-replicate}
+use Prim.Native.Nat.{ℕ, _≤_, _-_}
+use mathlib.Core.Path.{_≡_, refl, ap, _∙_}
+use mathlib.Core.Bool.{false}
+use lib.ListN.{length, getD, length-set, getD-replicate}
 use Rattle.model.specs.Basics.{anyN}
 use Rattle.model.specs.Graph.{linked, linkAt}
-use Rattle.loads.specs.Tables.{placeOf, InMatrix, MatrixIs, linkedTo}
+use Rattle.loads.specs.Tables.{placeOf, InMatrix, linkedTo}
 use Rattle.loads.proofs.Tabled.{matrix-more, ends-inside}
 use Rattle.loads.proofs.matrix.link_matrix.Statement.{statement}
 use Rattle.loads.proofs.matrix.link_matrix.Tie as tie
-use Rattle.loads.proofs.matrix.link_matrix.Reads as reads
-use Rattle.loads.proofs.matrix.link_matrix.Lts as lts
-use Rattle.loads.proofs.matrix.number.Reads as number-reads
-use Rattle.loads.proofs.matrix.place.Reads as place-reads
 
 abbrev Inv-loop : tie.InvT-loop
 Inv-loop d links₀ l₀ links l =
@@ -25,28 +19,22 @@ Inv-loop d links₀ l₀ links l =
 abbrev μ-loop : tie.MeasureT-loop
 μ-loop d links₀ l₀ links l = d .«link_count» - l
 
--- src/matrix.rt:29:5
 loop-holds : tie.Need-loop-holds Inv-loop μ-loop
 unfolding linkedTo anyN
 loop-holds c = (omega arith, refl, λ i j p. getD-replicate 1536 (placeOf i j) false false (omega arith))
 
--- src/matrix.rt:30:20
 mul-link : tie.Need-mul-link Inv-loop μ-loop
 mul-link c = search needs
 
--- src/matrix.rt:30:20
 element-copy-out-link : tie.Need-element-copy-out-link Inv-loop μ-loop
 element-copy-out-link c = search needs
 
--- src/matrix.rt:31:24
 number-requires : tie.Need-number-requires Inv-loop μ-loop
 number-requires c κs = search needs
 
--- src/matrix.rt:31:43
 number-requires-2 : tie.Need-number-requires-2 Inv-loop μ-loop
 number-requires-2 c κs = search needs
 
--- src/matrix.rt:31:13
 place-requires : tie.Need-place-requires Inv-loop μ-loop
 place-requires c κs =
     let S = c .before .before .before .before .before in
@@ -67,19 +55,15 @@ at-place c =
     let e2 : c .before .number2 .result ≡ linkAt d (L .l) .to = c .before .number2 .ensures in
     rw (e1, e2) at (c .place .ensures .0)
 
--- src/matrix.rt:32:9
 array-write-links : tie.Need-array-write-links Inv-loop μ-loop
 array-write-links c = search needs
 
--- src/matrix.rt:33:9
 add-l : tie.Need-add-l Inv-loop μ-loop
 add-l c = search needs
 
--- src/matrix.rt:29:5
 loop-less : tie.Need-loop-less Inv-loop μ-loop
 loop-less c = search needs
 
--- src/matrix.rt:29:5
 loop-again : tie.Need-loop-again Inv-loop μ-loop
 loop-again c =
     let S = c .before .before .before .before .before .before in
@@ -91,7 +75,6 @@ loop-again c =
       rw e (matrix-more d (L .links) (L .l) (L .inv .1) (ends-inside d (S .pre) (L .l) (omega arith)) (L .inv .2)),
     )
 
--- src/matrix.rt:23:1
 returns : tie.Need-returns Inv-loop μ-loop
 unfolding linked linkedTo
 returns c =

@@ -1,21 +1,14 @@
+-- `loads::rows::load_row` meets its contract: the entries from the highest task down hold their loads. Assumes nothing.
 use borrow.Author.Needs.{needs}
-use borrow.Author.Tests.{le-leb, lt-leb, lt-ltb, le-ltb, eq-eqb, ne-eqb}
 use native.Mathlib.Omega.{arith}
-use Prim.Native.Nat.{ℕ, zero, suc, _≤_, _<_, _-_, _*_, _+_}
-use mathlib.Core.Path.{_≡_, refl, ap, sym, subst, _∙_}
-use mathlib.Core.Bool.{Bool, true, false, _&&_, _||_}
-use mathlib.Core.Logic.{⊎-elim}
-use mathlib.Core.List.{List, [], _∷_}
-use lib.ListN.{length, getD, set, replicate, length-set, length-replicate}
+use Prim.Native.Nat.{ℕ, suc, _≤_, _-_, _+_}
+use mathlib.Core.Path.{_≡_, sym}
 use Rattle.model.specs.Loads.{load}
 use Rattle.loads.specs.Tables.{graph, Memo}
 use Rattle.loads.proofs.Tabled.{graph-load}
 use Rattle.loads.proofs.Working.{RowFrom, load-none, load-step, row-none, row-put}
 use Rattle.loads.proofs.rows.load_row.Statement.{statement}
 use Rattle.loads.proofs.rows.load_row.Tie as tie
-use Rattle.loads.proofs.rows.load_row.Reads as reads
-use Rattle.loads.proofs.rows.load_row.Lts as lts
-use Rattle.loads.proofs.work.added.Reads as added-reads
 
 abbrev Inv-loop : tie.InvT-loop
 Inv-loop links runs n i known₀ value₀ row₀ sum₀ j₀ known value row sum j =
@@ -24,21 +17,18 @@ Inv-loop links runs n i known₀ value₀ row₀ sum₀ j₀ known value row sum
 abbrev μ-loop : tie.MeasureT-loop
 μ-loop links runs n i known₀ value₀ row₀ sum₀ j₀ known value row sum j = j
 
--- src/rows.rt:20:5
 loop-holds : tie.Need-loop-holds Inv-loop μ-loop
 unfolding graph
 loop-holds c =
     let s = graph (c .args .links .now) (c .args .runs .now) (c .args .n) in
     (omega arith, sym (load-none s (c .args .i) (suc (c .args .n)) (omega arith)), row-none s (c .args .i), c .pre .2)
 
--- src/rows.rt:21:13
 added-requires : tie.Need-added-requires Inv-loop μ-loop
 added-requires c κs =
     let S = c .before .before .before .before in
     let L = c .before .before .before .loop in
     (S .pre .0, S .pre .1, omega arith, L .inv .3)
 
--- src/rows.rt:22:15
 add-sum : tie.Need-add-sum Inv-loop μ-loop
 unfolding graph
 add-sum c =
@@ -48,23 +38,18 @@ add-sum c =
     let j : ℕ = L .j in
     omega (arith, load-step s (S .args .i) (L .j) (L .inv .0), graph-load (S .args .links .now) (S .args .runs .now) (S .args .n) (S .pre .0) (S .args .i) (L .j) (omega arith), c .added .ensures .0, L .inv .1)
 
--- src/rows.rt:23:13
 sub-j : tie.Need-sub-j Inv-loop μ-loop
 sub-j c = search needs
 
--- src/rows.rt:24:9
 mul-row : tie.Need-mul-row Inv-loop μ-loop
 mul-row c = search needs
 
--- src/rows.rt:24:9
 array-write-row : tie.Need-array-write-row Inv-loop μ-loop
 array-write-row c = search needs
 
--- src/rows.rt:20:5
 loop-less : tie.Need-loop-less Inv-loop μ-loop
 loop-less c = search needs
 
--- src/rows.rt:20:5
 loop-again : tie.Need-loop-again Inv-loop μ-loop
 unfolding graph
 loop-again c =
@@ -76,7 +61,6 @@ loop-again c =
     let sum′ : L .sum + c .added .result ≡ load s (S .args .i) (suc (L .j - 1)) = rw e sum in
     (omega arith, sum′, row-put s (S .args .i) (L .j - 1) (L .row) (L .sum + c .added .result) (omega (arith, S .pre .0 .few)) sum′ (rw e (L .inv .2)), c .added .ensures .1)
 
--- src/rows.rt:6:1
 returns : tie.Need-returns Inv-loop μ-loop
 returns c =
     let L = c .before .loop in

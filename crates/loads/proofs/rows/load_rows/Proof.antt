@@ -1,21 +1,15 @@
+-- `loads::rows::load_rows` meets its contract: the rows passed so far hold their loads, and the memo is right. Assumes nothing.
 use borrow.Author.Needs.{needs}
-use borrow.Author.Tests.{le-leb, lt-leb, lt-ltb, le-ltb, eq-eqb, ne-eqb}
 use native.Mathlib.Omega.{arith}
-use Prim.Native.Nat.{ℕ, zero, suc, _≤_, _<_, _-_, _*_, _+_}
-use mathlib.Core.Path.{_≡_, refl, ap, sym, subst, _∙_}
-use mathlib.Core.Bool.{Bool, true, false, _&&_, _||_}
-use mathlib.Core.Logic.{⊎-elim}
-use mathlib.Core.List.{List, [], _∷_}
-use lib.ListN.{length, getD, set, replicate, length-set, length-replicate}
-use borrow.Author.Count.{below-none}
+use Prim.Native.Nat.{ℕ, suc, _≤_, _<_, _-_, _+_}
+use mathlib.Core.Path.{_≡_, refl}
+use mathlib.Core.List.{[]}
+use lib.ListN.{length, getD, length-set}
 use Rattle.loads.specs.Tables.{graph, Memo, RowIs}
 use Rattle.loads.proofs.Fill.{stored}
 use Rattle.loads.proofs.Working.{memo-none}
 use Rattle.loads.proofs.rows.load_rows.Statement.{statement}
 use Rattle.loads.proofs.rows.load_rows.Tie as tie
-use Rattle.loads.proofs.rows.load_rows.Reads as reads
-use Rattle.loads.proofs.rows.load_rows.Lts as lts
-use Rattle.loads.proofs.rows.load_row.Reads as load-row-reads
 
 abbrev Inv-loop : tie.InvT-loop
 Inv-loop links runs n known₀ value₀ t₀ i₀ known value t i =
@@ -24,40 +18,32 @@ Inv-loop links runs n known₀ value₀ t₀ i₀ known value t i =
 abbrev μ-loop : tie.MeasureT-loop
 μ-loop links runs n known₀ value₀ t₀ i₀ known value t i = 48 - i
 
--- src/rows.rt:38:5
 loop-holds : tie.Need-loop-holds Inv-loop μ-loop
 loop-holds c =
     let s = graph (c .args .links .now) (c .args .runs .now) (c .args .n) in
     (omega arith, refl, (λ r p. absurd (omega arith)), memo-none s)
 
--- src/rows.rt:39:44
 add-load-row : tie.Need-add-load-row Inv-loop μ-loop
 add-load-row c = search needs
 
--- src/rows.rt:39:13
 load-row-requires : tie.Need-load-row-requires Inv-loop μ-loop
 load-row-requires c κs =
     let S = c .before .before .before .before in
     let L = c .before .before .before .loop in
     (S .pre, omega arith, L .inv .3)
 
--- src/rows.rt:40:9
 mul-t : tie.Need-mul-t Inv-loop μ-loop
 mul-t c = search needs
 
--- src/rows.rt:40:9
 array-set-from-t : tie.Need-array-set-from-t Inv-loop μ-loop
 array-set-from-t c = search needs
 
--- src/rows.rt:41:9
 add-i : tie.Need-add-i Inv-loop μ-loop
 add-i c = search needs
 
--- src/rows.rt:38:5
 loop-less : tie.Need-loop-less Inv-loop μ-loop
 loop-less c = search needs
 
--- src/rows.rt:38:5
 loop-again : tie.Need-loop-again Inv-loop μ-loop
 loop-again c =
     let S = c .before .before .before .before .before in
@@ -67,7 +53,6 @@ loop-again c =
     let h : L .i < length (L .t) = omega arith in
     (omega arith, simp length-set (L .inv .1), stored (λ r row. RowIs s (suc r) row) [] (L .t) (L .i) (c .load-row .result) h (L .inv .2) (rw e at (c .load-row .ensures .0)), c .load-row .ensures .1)
 
--- src/rows.rt:30:1
 returns : tie.Need-returns Inv-loop μ-loop
 returns c =
     let L = c .before .loop in

@@ -1,16 +1,13 @@
+-- `loads::work::work`, `added` and `fresh`, which call each other, meet their contracts. The rank of the node falls along every link, and
+-- the memo is right throughout. Assumes nothing.
 use borrow.Author.Needs.{needs}
-use borrow.Author.Tests.{le-leb, lt-leb, lt-ltb, le-ltb, eq-eqb, ne-eqb}
 use native.Mathlib.Omega.{arith}
-use Prim.Native.Nat.{ℕ, zero, suc, _≤_, _<_, _-_, _*_, _+_}
-use mathlib.Core.Path.{_≡_, refl, ap, sym, subst, _∙_}
-use mathlib.Core.Bool.{Bool, true, false, _&&_, _||_}
-use mathlib.Core.Logic.{⊎-elim}
-use mathlib.Core.List.{List, [], _∷_}
-use lib.ListN.{length, getD, set, replicate, length-set, length-replicate}
+use Prim.Native.Nat.{ℕ, _<_, _≤_, _-_, _*_, _+_}
+use mathlib.Core.Path.{_≡_, sym, _∙_}
 use borrow.Fn.Kinds.{In}
 use borrow.Fn.PlainCycle.{Measures, is, falls, and}
 use Rattle.theory.proofs.Rank.{rankOf}
-use Rattle.loads.specs.Tables.{placeOf, InMatrix, graph, NodeOf, TaskOf, Ready, Memo}
+use Rattle.loads.specs.Tables.{placeOf, InMatrix, graph, NodeOf, TaskOf, Memo}
 use Rattle.loads.proofs.Fill.{cases}
 use Rattle.loads.proofs.Working.{workTo, topOf, workTo-more, workTo-start, workTo-end, workTo-most, topOf-start, topOf-link, topOf-none, topOf-end, direct-is, rank-down, memo-put}
 use Rattle.loads.proofs.work.added.Reads as added
@@ -54,7 +51,6 @@ work-at t = and 4 work-kinds.ps (is 4 work-kinds.ps μ-work t) work.Pre
 abbrev work-below : ℕ → In 4 work-kinds.ps
 work-below t = and 4 work-kinds.ps (falls 4 work-kinds.ps _<_ μ-work t) work.Pre
 
--- src/work.rt:49:9
 added-place-requires : (t : ℕ) → added-lts.Need-place-requires (
   place-reads.Asked,
   place-reads.Learnt,
@@ -63,7 +59,6 @@ added-place-requires : (t : ℕ) → added-lts.Need-place-requires (
 ) (added-at t) added.Post
 added-place-requires t c κs = search needs
 
--- src/work.rt:50:8
 added-element-copy-out-if1 : (t : ℕ) → added-lts.Need-element-copy-out-if1 (
   place-reads.Asked,
   place-reads.Learnt,
@@ -72,7 +67,6 @@ added-element-copy-out-if1 : (t : ℕ) → added-lts.Need-element-copy-out-if1 (
 ) (added-at t) added.Post
 added-element-copy-out-if1 t c = search needs
 
--- src/work.rt:51:16
 added-mul-result : (t : ℕ) → added-lts.Need-mul-result (
   place-reads.Asked,
   place-reads.Learnt,
@@ -81,7 +75,6 @@ added-mul-result : (t : ℕ) → added-lts.Need-mul-result (
 ) (added-at t) added.Post
 added-mul-result t c = search needs
 
--- src/work.rt:51:16
 added-element-copy-out-result : (t : ℕ) → added-lts.Need-element-copy-out-result (
   place-reads.Asked,
   place-reads.Learnt,
@@ -90,7 +83,6 @@ added-element-copy-out-result : (t : ℕ) → added-lts.Need-element-copy-out-re
 ) (added-at t) added.Post
 added-element-copy-out-result t c = search needs
 
--- src/work.rt:51:9
 added-returns : (t : ℕ) → added-lts.Need-returns (
   place-reads.Asked,
   place-reads.Learnt,
@@ -104,7 +96,6 @@ added-returns t c =
     let inside : InMatrix (S .args .i) (S .args .j) = omega (arith, p .1, p .2, p .0 .few) in
     (rw e (p .3 .right (S .args .i) (S .args .j) inside (rw e at (c .before .if1 .taken))), p .3)
 
--- src/work.rt:53:9
 added-fresh-requires : (t : ℕ) → added-lts.Need-fresh-requires (
   place-reads.Asked,
   place-reads.Learnt,
@@ -116,7 +107,6 @@ added-fresh-requires t c κs =
     let e = S .pre .0 in
     (omega arith, S .pre .1)
 
--- src/work.rt:54:5
 added-mul-value : (t : ℕ) → added-lts.Need-mul-value (
   place-reads.Asked,
   place-reads.Learnt,
@@ -125,7 +115,6 @@ added-mul-value : (t : ℕ) → added-lts.Need-mul-value (
 ) (added-at t) added.Post
 added-mul-value t c = search needs
 
--- src/work.rt:54:5
 added-element-write-value : (t : ℕ) → added-lts.Need-element-write-value (
   place-reads.Asked,
   place-reads.Learnt,
@@ -134,7 +123,6 @@ added-element-write-value : (t : ℕ) → added-lts.Need-element-write-value (
 ) (added-at t) added.Post
 added-element-write-value t c = search needs
 
--- src/work.rt:55:5
 added-element-write-known : (t : ℕ) → added-lts.Need-element-write-known (
   place-reads.Asked,
   place-reads.Learnt,
@@ -143,7 +131,6 @@ added-element-write-known : (t : ℕ) → added-lts.Need-element-write-known (
 ) (added-at t) added.Post
 added-element-write-known t c = search needs
 
--- src/work.rt:37:1
 added-returns-2 : (t : ℕ) → added-lts.Need-returns-2 (
   place-reads.Asked,
   place-reads.Learnt,
@@ -165,7 +152,6 @@ fresh-Inv-loop links runs n i j known₀ value₀ direct best₀ k₀ known valu
 abbrev fresh-μ-loop : fresh-lts.MeasureT-loop
 fresh-μ-loop links runs n i j known₀ value₀ direct best₀ k₀ known value best k = n + 1 - k
 
--- src/work.rt:72:9
 fresh-place-requires : (t : ℕ) → fresh-lts.Need-place-requires (
   place-reads.Asked,
   place-reads.Learnt,
@@ -176,7 +162,6 @@ fresh-place-requires : (t : ℕ) → fresh-lts.Need-place-requires (
 ) (fresh-at t) fresh.Post fresh-Inv-loop fresh-μ-loop
 fresh-place-requires t c κs = search needs
 
--- src/work.rt:73:8
 fresh-element-copy-out-if1 : (t : ℕ) → fresh-lts.Need-element-copy-out-if1 (
   place-reads.Asked,
   place-reads.Learnt,
@@ -187,7 +172,6 @@ fresh-element-copy-out-if1 : (t : ℕ) → fresh-lts.Need-element-copy-out-if1 (
 ) (fresh-at t) fresh.Post fresh-Inv-loop fresh-μ-loop
 fresh-element-copy-out-if1 t c = search needs
 
--- src/work.rt:74:9
 fresh-work-requires : (t : ℕ) → fresh-lts.Need-work-requires (
   place-reads.Asked,
   place-reads.Learnt,
@@ -204,7 +188,6 @@ fresh-work-requires t c κs =
     let e = S .pre .0 in
     (omega arith, (p .0, p .2, p .3))
 
--- src/work.rt:74:9
 fresh-returns : (t : ℕ) → fresh-lts.Need-returns (
   place-reads.Asked,
   place-reads.Learnt,
@@ -220,7 +203,6 @@ fresh-returns t c =
     let e = direct-is (S .args .links .now) (S .args .runs .now) (S .args .n) (p .0) (S .args .i) (S .args .j) (p .1) (p .2) (rw here at (c .before .before .before .if1 .taken)) in
     (c .work .ensures .0 ∙ e, c .work .ensures .1)
 
--- src/work.rt:77:17
 fresh-add-k : (t : ℕ) → fresh-lts.Need-add-k (
   place-reads.Asked,
   place-reads.Learnt,
@@ -231,7 +213,6 @@ fresh-add-k : (t : ℕ) → fresh-lts.Need-add-k (
 ) (fresh-at t) fresh.Post fresh-Inv-loop fresh-μ-loop
 fresh-add-k t c = search needs
 
--- src/work.rt:78:5
 fresh-loop-holds : (t : ℕ) → fresh-lts.Need-loop-holds (
   place-reads.Asked,
   place-reads.Learnt,
@@ -245,7 +226,6 @@ fresh-loop-holds t c =
     let s = graph (S .args .links .now) (S .args .runs .now) (S .args .n) in
     (omega arith, omega arith, sym (topOf-start s (S .args .i) (S .args .j)), S .pre .1 .3)
 
--- src/work.rt:79:13
 fresh-place-requires-2 : (t : ℕ) → fresh-lts.Need-place-requires-2 (
   place-reads.Asked,
   place-reads.Learnt,
@@ -256,7 +236,6 @@ fresh-place-requires-2 : (t : ℕ) → fresh-lts.Need-place-requires-2 (
 ) (fresh-at t) fresh.Post fresh-Inv-loop fresh-μ-loop
 fresh-place-requires-2 t c κs = search needs
 
--- src/work.rt:80:12
 fresh-element-copy-out-if2 : (t : ℕ) → fresh-lts.Need-element-copy-out-if2 (
   place-reads.Asked,
   place-reads.Learnt,
@@ -267,7 +246,6 @@ fresh-element-copy-out-if2 : (t : ℕ) → fresh-lts.Need-element-copy-out-if2 (
 ) (fresh-at t) fresh.Post fresh-Inv-loop fresh-μ-loop
 fresh-element-copy-out-if2 t c = search needs
 
--- src/work.rt:81:17
 fresh-added-requires : (t : ℕ) → fresh-lts.Need-added-requires (
   place-reads.Asked,
   place-reads.Learnt,
@@ -287,7 +265,6 @@ fresh-added-requires t c κs =
     let e = S .pre .0 in
     (omega arith, (p .0, N, p .2, L .inv .3))
 
--- src/work.rt:86:13
 fresh-add-k-2 : (t : ℕ) → fresh-lts.Need-add-k-2 (
   place-reads.Asked,
   place-reads.Learnt,
@@ -298,7 +275,6 @@ fresh-add-k-2 : (t : ℕ) → fresh-lts.Need-add-k-2 (
 ) (fresh-at t) fresh.Post fresh-Inv-loop fresh-μ-loop
 fresh-add-k-2 t c = search needs
 
--- src/work.rt:78:5
 fresh-loop-less : (t : ℕ) → fresh-lts.Need-loop-less (
   place-reads.Asked,
   place-reads.Learnt,
@@ -309,7 +285,6 @@ fresh-loop-less : (t : ℕ) → fresh-lts.Need-loop-less (
 ) (fresh-at t) fresh.Post fresh-Inv-loop fresh-μ-loop
 fresh-loop-less t c = search needs
 
--- src/work.rt:78:5
 fresh-loop-again : (t : ℕ) → fresh-lts.Need-loop-again (
   place-reads.Asked,
   place-reads.Learnt,
@@ -341,7 +316,6 @@ fresh-loop-again t c =
           (λ v. cases v (λ w. rw (w .5, w .6) (w .3 .ensures .1)) (λ w. rw (w .1, w .2) (L .inv .3))),
     )
 
--- src/work.rt:60:1
 fresh-returns-2 : (t : ℕ) → fresh-lts.Need-returns-2 (
   place-reads.Asked,
   place-reads.Learnt,
@@ -366,7 +340,6 @@ work-Inv-loop links runs n j known₀ value₀ sum₀ k₀ known value sum k =
 abbrev work-μ-loop : work-lts.MeasureT-loop
 work-μ-loop links runs n j known₀ value₀ sum₀ k₀ known value sum k = n + 1 - k
 
--- src/work.rt:26:29
 work-sub-wide : (t : ℕ) → work-lts.Need-sub-wide (
   wide-reads.Asked,
   wide-reads.Learnt,
@@ -375,7 +348,6 @@ work-sub-wide : (t : ℕ) → work-lts.Need-sub-wide (
 ) (work-at t) work.Post work-Inv-loop work-μ-loop
 work-sub-wide t c = search needs
 
--- src/work.rt:26:24
 work-mul-wide : (t : ℕ) → work-lts.Need-mul-wide (
   wide-reads.Asked,
   wide-reads.Learnt,
@@ -384,7 +356,6 @@ work-mul-wide : (t : ℕ) → work-lts.Need-mul-wide (
 ) (work-at t) work.Post work-Inv-loop work-μ-loop
 work-mul-wide t c = search needs
 
--- src/work.rt:26:24
 work-element-copy-out-wide : (t : ℕ) → work-lts.Need-element-copy-out-wide (
   wide-reads.Asked,
   wide-reads.Learnt,
@@ -393,7 +364,6 @@ work-element-copy-out-wide : (t : ℕ) → work-lts.Need-element-copy-out-wide (
 ) (work-at t) work.Post work-Inv-loop work-μ-loop
 work-element-copy-out-wide t c = search needs
 
--- src/work.rt:26:9
 work-wide-requires : (t : ℕ) → work-lts.Need-wide-requires (
   wide-reads.Asked,
   wide-reads.Learnt,
@@ -402,7 +372,6 @@ work-wide-requires : (t : ℕ) → work-lts.Need-wide-requires (
 ) (work-at t) work.Post work-Inv-loop work-μ-loop
 work-wide-requires t c κs = search needs
 
--- src/work.rt:27:17
 work-add-k : (t : ℕ) → work-lts.Need-add-k (
   wide-reads.Asked,
   wide-reads.Learnt,
@@ -411,7 +380,6 @@ work-add-k : (t : ℕ) → work-lts.Need-add-k (
 ) (work-at t) work.Post work-Inv-loop work-μ-loop
 work-add-k t c = search needs
 
--- src/work.rt:28:5
 work-loop-holds : (t : ℕ) → work-lts.Need-loop-holds (
   wide-reads.Asked,
   wide-reads.Learnt,
@@ -423,7 +391,6 @@ work-loop-holds t c =
     let p = S .pre .1 in
     (omega arith, omega arith, c .wide .ensures ∙ sym (workTo-start (S .args .links .now) (S .args .runs .now) (S .args .n) (p .0) (S .args .j) (p .1)), p .2)
 
--- src/work.rt:29:13
 work-added-requires : (t : ℕ) → work-lts.Need-added-requires (
   wide-reads.Asked,
   wide-reads.Learnt,
@@ -437,7 +404,6 @@ work-added-requires t c κs =
     let e = S .pre .0 in
     (omega arith, (p .0, omega (arith, p .0 .few), omega arith, L .inv .3))
 
--- src/work.rt:30:15
 work-add-sum : (t : ℕ) → work-lts.Need-add-sum (
   wide-reads.Asked,
   wide-reads.Learnt,
@@ -452,7 +418,6 @@ work-add-sum t c =
     let most = workTo-most (S .args .links .now) (S .args .runs .now) (S .args .n) (p .0) (S .args .j) (L .k + 1) (p .1) (omega arith) in
     omega (arith, most, workTo-more s (S .args .j) (L .k) (L .inv .0), c .added .ensures .0, L .inv .2)
 
--- src/work.rt:31:13
 work-add-k-2 : (t : ℕ) → work-lts.Need-add-k-2 (
   wide-reads.Asked,
   wide-reads.Learnt,
@@ -461,7 +426,6 @@ work-add-k-2 : (t : ℕ) → work-lts.Need-add-k-2 (
 ) (work-at t) work.Post work-Inv-loop work-μ-loop
 work-add-k-2 t c = search needs
 
--- src/work.rt:28:5
 work-loop-less : (t : ℕ) → work-lts.Need-loop-less (
   wide-reads.Asked,
   wide-reads.Learnt,
@@ -470,7 +434,6 @@ work-loop-less : (t : ℕ) → work-lts.Need-loop-less (
 ) (work-at t) work.Post work-Inv-loop work-μ-loop
 work-loop-less t c = search needs
 
--- src/work.rt:28:5
 work-loop-again : (t : ℕ) → work-lts.Need-loop-again (
   wide-reads.Asked,
   wide-reads.Learnt,
@@ -483,7 +446,6 @@ work-loop-again t c =
     let s = graph (S .args .links .now) (S .args .runs .now) (S .args .n) in
     (omega arith, omega arith, omega (arith, workTo-more s (S .args .j) (L .k) (L .inv .0), c .added .ensures .0, L .inv .2), c .added .ensures .1)
 
--- src/work.rt:15:1
 work-returns : (t : ℕ) → work-lts.Need-returns (
   wide-reads.Asked,
   wide-reads.Learnt,

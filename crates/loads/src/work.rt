@@ -2,6 +2,7 @@
 // and the memo lets each pair of a node and a task be worked out once.
 use crate::matrix::place;
 ghost use mathlib.Core.Path.{_≡_};
+ghost use Prim.Native.Nat.{max};
 ghost use Rattle.loads.specs.Tables.{Ready, NodeOf, TaskOf, Memo, WorkIs, AddedIs, graph};
 
 // A run as a load.
@@ -9,6 +10,15 @@ fn wide(x: u32) -> u64
     ensures { λ r. ⌜ r ≡ x ⌝ }
 {
     x as u64
+}
+
+fn larger(a: u64, b: u64) -> u64
+    ensures { λ r. ⌜ r ≡ max a b ⌝ }
+{
+    if a < b {
+        return b;
+    }
+    a
 }
 
 // W(j): the run of j and all that j adds above it.
@@ -74,16 +84,14 @@ fn fresh(
         return work(links, runs, n, j, &mut *known, &mut *value);
     }
     let mut best: u64 = 0;
-    let mut k = j + 1;
-    while k <= n {
-        let at = place(i, k);
+    let mut via = j + 1;
+    while via <= n {
+        let at = place(i, via);
         if links[at] {
-            let a = added(links, runs, n, k, j, &mut *known, &mut *value);
-            if best < a {
-                best = a;
-            }
+            let a = added(links, runs, n, via, j, &mut *known, &mut *value);
+            best = larger(best, a);
         }
-        k = k + 1;
+        via = via + 1;
     }
     best
 }

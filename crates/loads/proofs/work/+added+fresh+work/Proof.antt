@@ -20,6 +20,7 @@ use Rattle.loads.proofs.work.work.Reads as work
 use Rattle.loads.proofs.work.work.Kinds as work-kinds
 use Rattle.loads.proofs.work.+added+fresh+work.Lts-work as work-lts
 use Rattle.loads.proofs.matrix.place.Reads as place-reads
+use Rattle.loads.proofs.work.larger.Reads as larger-reads
 use Rattle.loads.proofs.work.wide.Reads as wide-reads
 use Rattle.loads.proofs.work.+added+fresh+work.{statement}
 use Rattle.loads.proofs.work.+added+fresh+work.Tie.{close}
@@ -146,11 +147,11 @@ added-returns-2 t c =
     (c .fresh .ensures .0, rw e (memo-put s (c .fresh .last .1 .1 .1 .1 .1 .0) (c .fresh .last .1 .1 .1 .1 .1 .1 .0) (S .args .i) (S .args .j) (c .fresh .result) inside (c .fresh .ensures .1) (c .fresh .ensures .0)))
 
 abbrev fresh-Inv-loop : fresh-lts.InvT-loop
-fresh-Inv-loop links runs n i j known₀ value₀ direct best₀ k₀ known value best k =
-    (j + 1 ≤ k) × (k ≤ n + 1) × (best ≡ topOf (graph links runs n) i j k) × Memo (graph links runs n) known value
+fresh-Inv-loop links runs n i j known₀ value₀ direct best₀ via₀ known value best via =
+    (j + 1 ≤ via) × (via ≤ n + 1) × (best ≡ topOf (graph links runs n) i j via) × Memo (graph links runs n) known value
 
 abbrev fresh-μ-loop : fresh-lts.MeasureT-loop
-fresh-μ-loop links runs n i j known₀ value₀ direct best₀ k₀ known value best k = n + 1 - k
+fresh-μ-loop links runs n i j known₀ value₀ direct best₀ via₀ known value best via = n + 1 - via
 
 fresh-place-requires : (t : ℕ) → fresh-lts.Need-place-requires (
   place-reads.Asked,
@@ -159,6 +160,8 @@ fresh-place-requires : (t : ℕ) → fresh-lts.Need-place-requires (
   work.Post,
   added-below t,
   added.Post,
+  larger-reads.Asked,
+  larger-reads.Learnt,
 ) (fresh-at t) fresh.Post fresh-Inv-loop fresh-μ-loop
 fresh-place-requires t c κs = search needs
 
@@ -169,6 +172,8 @@ fresh-element-copy-out-if1 : (t : ℕ) → fresh-lts.Need-element-copy-out-if1 (
   work.Post,
   added-below t,
   added.Post,
+  larger-reads.Asked,
+  larger-reads.Learnt,
 ) (fresh-at t) fresh.Post fresh-Inv-loop fresh-μ-loop
 fresh-element-copy-out-if1 t c = search needs
 
@@ -179,6 +184,8 @@ fresh-work-requires : (t : ℕ) → fresh-lts.Need-work-requires (
   work.Post,
   added-below t,
   added.Post,
+  larger-reads.Asked,
+  larger-reads.Learnt,
 ) (fresh-at t) fresh.Post fresh-Inv-loop fresh-μ-loop
 fresh-work-requires t c κs =
     let S = c .before .before .before .before .before in
@@ -195,6 +202,8 @@ fresh-returns : (t : ℕ) → fresh-lts.Need-returns (
   work.Post,
   added-below t,
   added.Post,
+  larger-reads.Asked,
+  larger-reads.Learnt,
 ) (fresh-at t) fresh.Post fresh-Inv-loop fresh-μ-loop
 fresh-returns t c =
     let S = c .before .before .before .before .before .before in
@@ -203,15 +212,17 @@ fresh-returns t c =
     let e = direct-is (S .args .links .now) (S .args .runs .now) (S .args .n) (p .0) (S .args .i) (S .args .j) (p .1) (p .2) (rw here at (c .before .before .before .if1 .taken)) in
     (c .work .ensures .0 ∙ e, c .work .ensures .1)
 
-fresh-add-k : (t : ℕ) → fresh-lts.Need-add-k (
+fresh-add-via : (t : ℕ) → fresh-lts.Need-add-via (
   place-reads.Asked,
   place-reads.Learnt,
   work-below t,
   work.Post,
   added-below t,
   added.Post,
+  larger-reads.Asked,
+  larger-reads.Learnt,
 ) (fresh-at t) fresh.Post fresh-Inv-loop fresh-μ-loop
-fresh-add-k t c = search needs
+fresh-add-via t c = search needs
 
 fresh-loop-holds : (t : ℕ) → fresh-lts.Need-loop-holds (
   place-reads.Asked,
@@ -220,6 +231,8 @@ fresh-loop-holds : (t : ℕ) → fresh-lts.Need-loop-holds (
   work.Post,
   added-below t,
   added.Post,
+  larger-reads.Asked,
+  larger-reads.Learnt,
 ) (fresh-at t) fresh.Post fresh-Inv-loop fresh-μ-loop
 fresh-loop-holds t c =
     let S = c .before .before .before in
@@ -233,6 +246,8 @@ fresh-place-requires-2 : (t : ℕ) → fresh-lts.Need-place-requires-2 (
   work.Post,
   added-below t,
   added.Post,
+  larger-reads.Asked,
+  larger-reads.Learnt,
 ) (fresh-at t) fresh.Post fresh-Inv-loop fresh-μ-loop
 fresh-place-requires-2 t c κs = search needs
 
@@ -243,6 +258,8 @@ fresh-element-copy-out-if2 : (t : ℕ) → fresh-lts.Need-element-copy-out-if2 (
   work.Post,
   added-below t,
   added.Post,
+  larger-reads.Asked,
+  larger-reads.Learnt,
 ) (fresh-at t) fresh.Post fresh-Inv-loop fresh-μ-loop
 fresh-element-copy-out-if2 t c = search needs
 
@@ -253,27 +270,43 @@ fresh-added-requires : (t : ℕ) → fresh-lts.Need-added-requires (
   work.Post,
   added-below t,
   added.Post,
+  larger-reads.Asked,
+  larger-reads.Learnt,
 ) (fresh-at t) fresh.Post fresh-Inv-loop fresh-μ-loop
 fresh-added-requires t c κs =
     let S = c .before .before .before .before .before .before .before .before .before .before in
     let L = c .before .before .before .before .before .before .loop in
     let p = S .pre .1 in
-    let here : c .before .before .before .before .place2 .result ≡ placeOf (S .args .i) (L .k) = c .before .before .before .before .place2 .ensures .0 in
-    let T : TaskOf (S .args .n) (L .k) = omega arith in
-    let N : NodeOf (L .k) = omega (arith, p .0 .few) in
-    let h = rank-down (S .args .links .now) (S .args .runs .now) (S .args .n) (p .0) (S .args .i) (L .k) (p .1) T (rw here at (c .before .before .if2 .taken)) in
+    let here : c .before .before .before .before .place2 .result ≡ placeOf (S .args .i) (L .via) = c .before .before .before .before .place2 .ensures .0 in
+    let T : TaskOf (S .args .n) (L .via) = omega arith in
+    let N : NodeOf (L .via) = omega (arith, p .0 .few) in
+    let h = rank-down (S .args .links .now) (S .args .runs .now) (S .args .n) (p .0) (S .args .i) (L .via) (p .1) T (rw here at (c .before .before .if2 .taken)) in
     let e = S .pre .0 in
     (omega arith, (p .0, N, p .2, L .inv .3))
 
-fresh-add-k-2 : (t : ℕ) → fresh-lts.Need-add-k-2 (
+fresh-larger-requires : (t : ℕ) → fresh-lts.Need-larger-requires (
   place-reads.Asked,
   place-reads.Learnt,
   work-below t,
   work.Post,
   added-below t,
   added.Post,
+  larger-reads.Asked,
+  larger-reads.Learnt,
 ) (fresh-at t) fresh.Post fresh-Inv-loop fresh-μ-loop
-fresh-add-k-2 t c = search needs
+fresh-larger-requires t c κs = search needs
+
+fresh-add-via-2 : (t : ℕ) → fresh-lts.Need-add-via-2 (
+  place-reads.Asked,
+  place-reads.Learnt,
+  work-below t,
+  work.Post,
+  added-below t,
+  added.Post,
+  larger-reads.Asked,
+  larger-reads.Learnt,
+) (fresh-at t) fresh.Post fresh-Inv-loop fresh-μ-loop
+fresh-add-via-2 t c = search needs
 
 fresh-loop-less : (t : ℕ) → fresh-lts.Need-loop-less (
   place-reads.Asked,
@@ -282,6 +315,8 @@ fresh-loop-less : (t : ℕ) → fresh-lts.Need-loop-less (
   work.Post,
   added-below t,
   added.Post,
+  larger-reads.Asked,
+  larger-reads.Learnt,
 ) (fresh-at t) fresh.Post fresh-Inv-loop fresh-μ-loop
 fresh-loop-less t c = search needs
 
@@ -292,6 +327,8 @@ fresh-loop-again : (t : ℕ) → fresh-lts.Need-loop-again (
   work.Post,
   added-below t,
   added.Post,
+  larger-reads.Asked,
+  larger-reads.Learnt,
 ) (fresh-at t) fresh.Post fresh-Inv-loop fresh-μ-loop
 fresh-loop-again t c =
     let S = c .before .before .before .before .before .before .before .before in
@@ -302,18 +339,14 @@ fresh-loop-again t c =
     let n = S .args .n in
     let i = S .args .i in
     let j = S .args .j in
-    let here : c .before .before .place2 .result ≡ placeOf i (L .k) = c .before .before .place2 .ensures .0 in
-    let T : TaskOf n (L .k) = omega arith in (
+    let here : c .before .before .place2 .result ≡ placeOf i (L .via) = c .before .before .place2 .ensures .0 in
+    let T : TaskOf n (L .via) = omega arith in (
       omega arith,
       omega arith,
       cases (c .if2 .came)
-          (λ w. omega (arith, topOf-link links runs n (p .0) i j (L .k) (p .1) T (L .inv .0) (rw here at (w .0 .taken)), w .3 .ensures .0, w .4 .taken, w .7, L .inv .2))
-          (λ v. cases v
-          (λ w. omega (arith, topOf-link links runs n (p .0) i j (L .k) (p .1) T (L .inv .0) (rw here at (w .0 .taken)), w .3 .ensures .0, w .4 .left, w .7, L .inv .2))
-          (λ w. omega (arith, topOf-none links runs n (p .0) i j (L .k) (p .1) T (L .inv .0) (rw here at (w .0 .left)), w .3, L .inv .2))),
-      cases (c .if2 .came)
-          (λ w. rw (w .5, w .6) (w .3 .ensures .1))
-          (λ v. cases v (λ w. rw (w .5, w .6) (w .3 .ensures .1)) (λ w. rw (w .1, w .2) (L .inv .3))),
+          (λ w. omega (arith, topOf-link links runs n (p .0) i j (L .via) (p .1) T (L .inv .0) (rw here at (w .0 .taken)), w .3 .ensures .0, w .4 .ensures, w .7, L .inv .2))
+          (λ w. omega (arith, topOf-none links runs n (p .0) i j (L .via) (p .1) T (L .inv .0) (rw here at (w .0 .left)), w .3, L .inv .2)),
+      cases (c .if2 .came) (λ w. rw (w .5, w .6) (w .3 .ensures .1)) (λ w. rw (w .1, w .2) (L .inv .3)),
     )
 
 fresh-returns-2 : (t : ℕ) → fresh-lts.Need-returns-2 (
@@ -323,13 +356,15 @@ fresh-returns-2 : (t : ℕ) → fresh-lts.Need-returns-2 (
   work.Post,
   added-below t,
   added.Post,
+  larger-reads.Asked,
+  larger-reads.Learnt,
 ) (fresh-at t) fresh.Post fresh-Inv-loop fresh-μ-loop
 fresh-returns-2 t c =
     let S = c .before .before .before .before .before in
     let L = c .before .loop in
     let p = S .pre .1 in
     let here : c .before .before .before .before .place .result ≡ placeOf (S .args .i) (S .args .j) = c .before .before .before .before .place .ensures .0 in
-    let e : L .k ≡ S .args .n + 1 = omega arith in
+    let e : L .via ≡ S .args .n + 1 = omega arith in
     let h = topOf-end (S .args .links .now) (S .args .runs .now) (S .args .n) (p .0) (S .args .i) (S .args .j) (p .1) (p .2) (rw here at (c .before .before .if1 .left)) in
     (rw e at (L .inv .2) ∙ h, L .inv .3)
 
@@ -485,6 +520,8 @@ pub +added+fresh+work-spec : {M : Type 1} → statement M
       work.Post,
       added-below t,
       added.Post,
+      larger-reads.Asked,
+      larger-reads.Learnt,
     )
     (fresh-at t)
     fresh.Post
@@ -494,12 +531,13 @@ pub +added+fresh+work-spec : {M : Type 1} → statement M
     (fresh-element-copy-out-if1 t)
     (fresh-work-requires t)
     (fresh-returns t)
-    (fresh-add-k t)
+    (fresh-add-via t)
     (fresh-loop-holds t)
     (fresh-place-requires-2 t)
     (fresh-element-copy-out-if2 t)
     (fresh-added-requires t)
-    (fresh-add-k-2 t)
+    (fresh-larger-requires t)
+    (fresh-add-via-2 t)
     (fresh-loop-less t)
     (fresh-loop-again t)
     (fresh-returns-2 t))

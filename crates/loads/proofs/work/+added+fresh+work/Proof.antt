@@ -52,44 +52,31 @@ work-at t = and 4 work-kinds.ps (is 4 work-kinds.ps μ-work t) work.Pre
 abbrev work-below : ℕ → In 4 work-kinds.ps
 work-below t = and 4 work-kinds.ps (falls 4 work-kinds.ps _<_ μ-work t) work.Pre
 
-added-place-requires : (t : ℕ) → added-lts.Need-place-requires (
-  place-reads.Asked,
-  place-reads.Learnt,
-  fresh-below t,
-  fresh.Post,
-) (added-at t) added.Post
+-- what added's callees ask and promise
+abbrev added-claims : ℕ → added-lts.Claims
+added-claims t = (place-reads.Asked, place-reads.Learnt, fresh-below t, fresh.Post)
+
+-- what fresh's callees ask and promise
+abbrev fresh-claims : ℕ → fresh-lts.Claims
+fresh-claims t = (place-reads.Asked, place-reads.Learnt, work-below t, work.Post, added-below t, added.Post, larger-reads.Asked, larger-reads.Learnt)
+
+-- what work's callees ask and promise
+abbrev work-claims : ℕ → work-lts.Claims
+work-claims t = (wide-reads.Asked, wide-reads.Learnt, added-below t, added.Post)
+
+added-place-requires : (t : ℕ) → added-lts.Need-place-requires (added-claims t) (added-at t) added.Post
 added-place-requires t c κs = search needs
 
-added-element-copy-out-if1 : (t : ℕ) → added-lts.Need-element-copy-out-if1 (
-  place-reads.Asked,
-  place-reads.Learnt,
-  fresh-below t,
-  fresh.Post,
-) (added-at t) added.Post
+added-element-copy-out-if1 : (t : ℕ) → added-lts.Need-element-copy-out-if1 (added-claims t) (added-at t) added.Post
 added-element-copy-out-if1 t c = search needs
 
-added-mul-result : (t : ℕ) → added-lts.Need-mul-result (
-  place-reads.Asked,
-  place-reads.Learnt,
-  fresh-below t,
-  fresh.Post,
-) (added-at t) added.Post
+added-mul-result : (t : ℕ) → added-lts.Need-mul-result (added-claims t) (added-at t) added.Post
 added-mul-result t c = search needs
 
-added-element-copy-out-result : (t : ℕ) → added-lts.Need-element-copy-out-result (
-  place-reads.Asked,
-  place-reads.Learnt,
-  fresh-below t,
-  fresh.Post,
-) (added-at t) added.Post
+added-element-copy-out-result : (t : ℕ) → added-lts.Need-element-copy-out-result (added-claims t) (added-at t) added.Post
 added-element-copy-out-result t c = search needs
 
-added-returns : (t : ℕ) → added-lts.Need-returns (
-  place-reads.Asked,
-  place-reads.Learnt,
-  fresh-below t,
-  fresh.Post,
-) (added-at t) added.Post
+added-returns : (t : ℕ) → added-lts.Need-returns (added-claims t) (added-at t) added.Post
 added-returns t c =
     let S = c .before .before .before .before in
     let p = S .pre .1 in
@@ -97,47 +84,22 @@ added-returns t c =
     let inside : InMatrix (S .args .i) (S .args .j) = omega (arith, p .1, p .2, p .0 .few) in
     (rw e (p .3 .right (S .args .i) (S .args .j) inside (rw e at (c .before .if1 .taken))), p .3)
 
-added-fresh-requires : (t : ℕ) → added-lts.Need-fresh-requires (
-  place-reads.Asked,
-  place-reads.Learnt,
-  fresh-below t,
-  fresh.Post,
-) (added-at t) added.Post
+added-fresh-requires : (t : ℕ) → added-lts.Need-fresh-requires (added-claims t) (added-at t) added.Post
 added-fresh-requires t c κs =
     let S = c .before .before .before .before .before in
     let e = S .pre .0 in
     (omega arith, S .pre .1)
 
-added-mul-value : (t : ℕ) → added-lts.Need-mul-value (
-  place-reads.Asked,
-  place-reads.Learnt,
-  fresh-below t,
-  fresh.Post,
-) (added-at t) added.Post
+added-mul-value : (t : ℕ) → added-lts.Need-mul-value (added-claims t) (added-at t) added.Post
 added-mul-value t c = search needs
 
-added-element-write-value : (t : ℕ) → added-lts.Need-element-write-value (
-  place-reads.Asked,
-  place-reads.Learnt,
-  fresh-below t,
-  fresh.Post,
-) (added-at t) added.Post
+added-element-write-value : (t : ℕ) → added-lts.Need-element-write-value (added-claims t) (added-at t) added.Post
 added-element-write-value t c = search needs
 
-added-element-write-known : (t : ℕ) → added-lts.Need-element-write-known (
-  place-reads.Asked,
-  place-reads.Learnt,
-  fresh-below t,
-  fresh.Post,
-) (added-at t) added.Post
+added-element-write-known : (t : ℕ) → added-lts.Need-element-write-known (added-claims t) (added-at t) added.Post
 added-element-write-known t c = search needs
 
-added-returns-2 : (t : ℕ) → added-lts.Need-returns-2 (
-  place-reads.Asked,
-  place-reads.Learnt,
-  fresh-below t,
-  fresh.Post,
-) (added-at t) added.Post
+added-returns-2 : (t : ℕ) → added-lts.Need-returns-2 (added-claims t) (added-at t) added.Post
 added-returns-2 t c =
     let S = c .before .before .before .before .before .before in
     let p = S .pre .1 in
@@ -153,40 +115,13 @@ fresh-Inv-loop links runs n i j known₀ value₀ direct best₀ via₀ known va
 abbrev fresh-μ-loop : fresh-lts.MeasureT-loop
 fresh-μ-loop links runs n i j known₀ value₀ direct best₀ via₀ known value best via = n + 1 - via
 
-fresh-place-requires : (t : ℕ) → fresh-lts.Need-place-requires (
-  place-reads.Asked,
-  place-reads.Learnt,
-  work-below t,
-  work.Post,
-  added-below t,
-  added.Post,
-  larger-reads.Asked,
-  larger-reads.Learnt,
-) (fresh-at t) fresh.Post fresh-Inv-loop fresh-μ-loop
+fresh-place-requires : (t : ℕ) → fresh-lts.Need-place-requires (fresh-claims t) (fresh-at t) fresh.Post fresh-Inv-loop fresh-μ-loop
 fresh-place-requires t c κs = search needs
 
-fresh-element-copy-out-if1 : (t : ℕ) → fresh-lts.Need-element-copy-out-if1 (
-  place-reads.Asked,
-  place-reads.Learnt,
-  work-below t,
-  work.Post,
-  added-below t,
-  added.Post,
-  larger-reads.Asked,
-  larger-reads.Learnt,
-) (fresh-at t) fresh.Post fresh-Inv-loop fresh-μ-loop
+fresh-element-copy-out-if1 : (t : ℕ) → fresh-lts.Need-element-copy-out-if1 (fresh-claims t) (fresh-at t) fresh.Post fresh-Inv-loop fresh-μ-loop
 fresh-element-copy-out-if1 t c = search needs
 
-fresh-work-requires : (t : ℕ) → fresh-lts.Need-work-requires (
-  place-reads.Asked,
-  place-reads.Learnt,
-  work-below t,
-  work.Post,
-  added-below t,
-  added.Post,
-  larger-reads.Asked,
-  larger-reads.Learnt,
-) (fresh-at t) fresh.Post fresh-Inv-loop fresh-μ-loop
+fresh-work-requires : (t : ℕ) → fresh-lts.Need-work-requires (fresh-claims t) (fresh-at t) fresh.Post fresh-Inv-loop fresh-μ-loop
 fresh-work-requires t c κs =
     let S = c .before .before .before .before .before in
     let p = S .pre .1 in
@@ -195,16 +130,7 @@ fresh-work-requires t c κs =
     let e = S .pre .0 in
     (omega arith, (p .0, p .2, p .3))
 
-fresh-returns : (t : ℕ) → fresh-lts.Need-returns (
-  place-reads.Asked,
-  place-reads.Learnt,
-  work-below t,
-  work.Post,
-  added-below t,
-  added.Post,
-  larger-reads.Asked,
-  larger-reads.Learnt,
-) (fresh-at t) fresh.Post fresh-Inv-loop fresh-μ-loop
+fresh-returns : (t : ℕ) → fresh-lts.Need-returns (fresh-claims t) (fresh-at t) fresh.Post fresh-Inv-loop fresh-μ-loop
 fresh-returns t c =
     let S = c .before .before .before .before .before .before in
     let p = S .pre .1 in
@@ -212,67 +138,22 @@ fresh-returns t c =
     let e = direct-is (S .args .links .now) (S .args .runs .now) (S .args .n) (p .0) (S .args .i) (S .args .j) (p .1) (p .2) (rw here at (c .before .before .before .if1 .taken)) in
     (c .work .ensures .0 ∙ e, c .work .ensures .1)
 
-fresh-add-via : (t : ℕ) → fresh-lts.Need-add-via (
-  place-reads.Asked,
-  place-reads.Learnt,
-  work-below t,
-  work.Post,
-  added-below t,
-  added.Post,
-  larger-reads.Asked,
-  larger-reads.Learnt,
-) (fresh-at t) fresh.Post fresh-Inv-loop fresh-μ-loop
+fresh-add-via : (t : ℕ) → fresh-lts.Need-add-via (fresh-claims t) (fresh-at t) fresh.Post fresh-Inv-loop fresh-μ-loop
 fresh-add-via t c = search needs
 
-fresh-loop-holds : (t : ℕ) → fresh-lts.Need-loop-holds (
-  place-reads.Asked,
-  place-reads.Learnt,
-  work-below t,
-  work.Post,
-  added-below t,
-  added.Post,
-  larger-reads.Asked,
-  larger-reads.Learnt,
-) (fresh-at t) fresh.Post fresh-Inv-loop fresh-μ-loop
+fresh-loop-holds : (t : ℕ) → fresh-lts.Need-loop-holds (fresh-claims t) (fresh-at t) fresh.Post fresh-Inv-loop fresh-μ-loop
 fresh-loop-holds t c =
     let S = c .before .before .before in
     let s = graph (S .args .links .now) (S .args .runs .now) (S .args .n) in
     (omega arith, omega arith, sym (topOf-start s (S .args .i) (S .args .j)), S .pre .1 .3)
 
-fresh-place-requires-2 : (t : ℕ) → fresh-lts.Need-place-requires-2 (
-  place-reads.Asked,
-  place-reads.Learnt,
-  work-below t,
-  work.Post,
-  added-below t,
-  added.Post,
-  larger-reads.Asked,
-  larger-reads.Learnt,
-) (fresh-at t) fresh.Post fresh-Inv-loop fresh-μ-loop
+fresh-place-requires-2 : (t : ℕ) → fresh-lts.Need-place-requires-2 (fresh-claims t) (fresh-at t) fresh.Post fresh-Inv-loop fresh-μ-loop
 fresh-place-requires-2 t c κs = search needs
 
-fresh-element-copy-out-if2 : (t : ℕ) → fresh-lts.Need-element-copy-out-if2 (
-  place-reads.Asked,
-  place-reads.Learnt,
-  work-below t,
-  work.Post,
-  added-below t,
-  added.Post,
-  larger-reads.Asked,
-  larger-reads.Learnt,
-) (fresh-at t) fresh.Post fresh-Inv-loop fresh-μ-loop
+fresh-element-copy-out-if2 : (t : ℕ) → fresh-lts.Need-element-copy-out-if2 (fresh-claims t) (fresh-at t) fresh.Post fresh-Inv-loop fresh-μ-loop
 fresh-element-copy-out-if2 t c = search needs
 
-fresh-added-requires : (t : ℕ) → fresh-lts.Need-added-requires (
-  place-reads.Asked,
-  place-reads.Learnt,
-  work-below t,
-  work.Post,
-  added-below t,
-  added.Post,
-  larger-reads.Asked,
-  larger-reads.Learnt,
-) (fresh-at t) fresh.Post fresh-Inv-loop fresh-μ-loop
+fresh-added-requires : (t : ℕ) → fresh-lts.Need-added-requires (fresh-claims t) (fresh-at t) fresh.Post fresh-Inv-loop fresh-μ-loop
 fresh-added-requires t c κs =
     let S = c .before .before .before .before .before .before .before .before .before .before in
     let L = c .before .before .before .before .before .before .loop in
@@ -284,52 +165,16 @@ fresh-added-requires t c κs =
     let e = S .pre .0 in
     (omega arith, (p .0, N, p .2, L .inv .3))
 
-fresh-larger-requires : (t : ℕ) → fresh-lts.Need-larger-requires (
-  place-reads.Asked,
-  place-reads.Learnt,
-  work-below t,
-  work.Post,
-  added-below t,
-  added.Post,
-  larger-reads.Asked,
-  larger-reads.Learnt,
-) (fresh-at t) fresh.Post fresh-Inv-loop fresh-μ-loop
+fresh-larger-requires : (t : ℕ) → fresh-lts.Need-larger-requires (fresh-claims t) (fresh-at t) fresh.Post fresh-Inv-loop fresh-μ-loop
 fresh-larger-requires t c κs = search needs
 
-fresh-add-via-2 : (t : ℕ) → fresh-lts.Need-add-via-2 (
-  place-reads.Asked,
-  place-reads.Learnt,
-  work-below t,
-  work.Post,
-  added-below t,
-  added.Post,
-  larger-reads.Asked,
-  larger-reads.Learnt,
-) (fresh-at t) fresh.Post fresh-Inv-loop fresh-μ-loop
+fresh-add-via-2 : (t : ℕ) → fresh-lts.Need-add-via-2 (fresh-claims t) (fresh-at t) fresh.Post fresh-Inv-loop fresh-μ-loop
 fresh-add-via-2 t c = search needs
 
-fresh-loop-less : (t : ℕ) → fresh-lts.Need-loop-less (
-  place-reads.Asked,
-  place-reads.Learnt,
-  work-below t,
-  work.Post,
-  added-below t,
-  added.Post,
-  larger-reads.Asked,
-  larger-reads.Learnt,
-) (fresh-at t) fresh.Post fresh-Inv-loop fresh-μ-loop
+fresh-loop-less : (t : ℕ) → fresh-lts.Need-loop-less (fresh-claims t) (fresh-at t) fresh.Post fresh-Inv-loop fresh-μ-loop
 fresh-loop-less t c = search needs
 
-fresh-loop-again : (t : ℕ) → fresh-lts.Need-loop-again (
-  place-reads.Asked,
-  place-reads.Learnt,
-  work-below t,
-  work.Post,
-  added-below t,
-  added.Post,
-  larger-reads.Asked,
-  larger-reads.Learnt,
-) (fresh-at t) fresh.Post fresh-Inv-loop fresh-μ-loop
+fresh-loop-again : (t : ℕ) → fresh-lts.Need-loop-again (fresh-claims t) (fresh-at t) fresh.Post fresh-Inv-loop fresh-μ-loop
 fresh-loop-again t c =
     let S = c .before .before .before .before .before .before .before .before in
     let L = c .before .before .before .before .loop in
@@ -349,16 +194,7 @@ fresh-loop-again t c =
       cases (c .if2 .came) (λ w. rw (w .5, w .6) (w .3 .ensures .1)) (λ w. rw (w .1, w .2) (L .inv .3)),
     )
 
-fresh-returns-2 : (t : ℕ) → fresh-lts.Need-returns-2 (
-  place-reads.Asked,
-  place-reads.Learnt,
-  work-below t,
-  work.Post,
-  added-below t,
-  added.Post,
-  larger-reads.Asked,
-  larger-reads.Learnt,
-) (fresh-at t) fresh.Post fresh-Inv-loop fresh-μ-loop
+fresh-returns-2 : (t : ℕ) → fresh-lts.Need-returns-2 (fresh-claims t) (fresh-at t) fresh.Post fresh-Inv-loop fresh-μ-loop
 fresh-returns-2 t c =
     let S = c .before .before .before .before .before in
     let L = c .before .loop in
@@ -375,63 +211,28 @@ work-Inv-loop links runs n j known₀ value₀ sum₀ k₀ known value sum k =
 abbrev work-μ-loop : work-lts.MeasureT-loop
 work-μ-loop links runs n j known₀ value₀ sum₀ k₀ known value sum k = n + 1 - k
 
-work-sub-wide : (t : ℕ) → work-lts.Need-sub-wide (
-  wide-reads.Asked,
-  wide-reads.Learnt,
-  added-below t,
-  added.Post,
-) (work-at t) work.Post work-Inv-loop work-μ-loop
+work-sub-wide : (t : ℕ) → work-lts.Need-sub-wide (work-claims t) (work-at t) work.Post work-Inv-loop work-μ-loop
 work-sub-wide t c = search needs
 
-work-mul-wide : (t : ℕ) → work-lts.Need-mul-wide (
-  wide-reads.Asked,
-  wide-reads.Learnt,
-  added-below t,
-  added.Post,
-) (work-at t) work.Post work-Inv-loop work-μ-loop
+work-mul-wide : (t : ℕ) → work-lts.Need-mul-wide (work-claims t) (work-at t) work.Post work-Inv-loop work-μ-loop
 work-mul-wide t c = search needs
 
-work-element-copy-out-wide : (t : ℕ) → work-lts.Need-element-copy-out-wide (
-  wide-reads.Asked,
-  wide-reads.Learnt,
-  added-below t,
-  added.Post,
-) (work-at t) work.Post work-Inv-loop work-μ-loop
+work-element-copy-out-wide : (t : ℕ) → work-lts.Need-element-copy-out-wide (work-claims t) (work-at t) work.Post work-Inv-loop work-μ-loop
 work-element-copy-out-wide t c = search needs
 
-work-wide-requires : (t : ℕ) → work-lts.Need-wide-requires (
-  wide-reads.Asked,
-  wide-reads.Learnt,
-  added-below t,
-  added.Post,
-) (work-at t) work.Post work-Inv-loop work-μ-loop
+work-wide-requires : (t : ℕ) → work-lts.Need-wide-requires (work-claims t) (work-at t) work.Post work-Inv-loop work-μ-loop
 work-wide-requires t c κs = search needs
 
-work-add-k : (t : ℕ) → work-lts.Need-add-k (
-  wide-reads.Asked,
-  wide-reads.Learnt,
-  added-below t,
-  added.Post,
-) (work-at t) work.Post work-Inv-loop work-μ-loop
+work-add-k : (t : ℕ) → work-lts.Need-add-k (work-claims t) (work-at t) work.Post work-Inv-loop work-μ-loop
 work-add-k t c = search needs
 
-work-loop-holds : (t : ℕ) → work-lts.Need-loop-holds (
-  wide-reads.Asked,
-  wide-reads.Learnt,
-  added-below t,
-  added.Post,
-) (work-at t) work.Post work-Inv-loop work-μ-loop
+work-loop-holds : (t : ℕ) → work-lts.Need-loop-holds (work-claims t) (work-at t) work.Post work-Inv-loop work-μ-loop
 work-loop-holds t c =
     let S = c .before .before in
     let p = S .pre .1 in
     (omega arith, omega arith, c .wide .ensures ∙ sym (workTo-start (S .args .links .now) (S .args .runs .now) (S .args .n) (p .0) (S .args .j) (p .1)), p .2)
 
-work-added-requires : (t : ℕ) → work-lts.Need-added-requires (
-  wide-reads.Asked,
-  wide-reads.Learnt,
-  added-below t,
-  added.Post,
-) (work-at t) work.Post work-Inv-loop work-μ-loop
+work-added-requires : (t : ℕ) → work-lts.Need-added-requires (work-claims t) (work-at t) work.Post work-Inv-loop work-μ-loop
 work-added-requires t c κs =
     let S = c .before .before .before .before .before .before in
     let L = c .before .before .before .loop in
@@ -439,12 +240,7 @@ work-added-requires t c κs =
     let e = S .pre .0 in
     (omega arith, (p .0, omega (arith, p .0 .few), omega arith, L .inv .3))
 
-work-add-sum : (t : ℕ) → work-lts.Need-add-sum (
-  wide-reads.Asked,
-  wide-reads.Learnt,
-  added-below t,
-  added.Post,
-) (work-at t) work.Post work-Inv-loop work-μ-loop
+work-add-sum : (t : ℕ) → work-lts.Need-add-sum (work-claims t) (work-at t) work.Post work-Inv-loop work-μ-loop
 work-add-sum t c =
     let S = c .before .before .before .before .before .before .before in
     let L = c .before .before .before .before .loop in
@@ -453,40 +249,20 @@ work-add-sum t c =
     let most = workTo-most (S .args .links .now) (S .args .runs .now) (S .args .n) (p .0) (S .args .j) (L .k + 1) (p .1) (omega arith) in
     omega (arith, most, workTo-more s (S .args .j) (L .k) (L .inv .0), c .added .ensures .0, L .inv .2)
 
-work-add-k-2 : (t : ℕ) → work-lts.Need-add-k-2 (
-  wide-reads.Asked,
-  wide-reads.Learnt,
-  added-below t,
-  added.Post,
-) (work-at t) work.Post work-Inv-loop work-μ-loop
+work-add-k-2 : (t : ℕ) → work-lts.Need-add-k-2 (work-claims t) (work-at t) work.Post work-Inv-loop work-μ-loop
 work-add-k-2 t c = search needs
 
-work-loop-less : (t : ℕ) → work-lts.Need-loop-less (
-  wide-reads.Asked,
-  wide-reads.Learnt,
-  added-below t,
-  added.Post,
-) (work-at t) work.Post work-Inv-loop work-μ-loop
+work-loop-less : (t : ℕ) → work-lts.Need-loop-less (work-claims t) (work-at t) work.Post work-Inv-loop work-μ-loop
 work-loop-less t c = search needs
 
-work-loop-again : (t : ℕ) → work-lts.Need-loop-again (
-  wide-reads.Asked,
-  wide-reads.Learnt,
-  added-below t,
-  added.Post,
-) (work-at t) work.Post work-Inv-loop work-μ-loop
+work-loop-again : (t : ℕ) → work-lts.Need-loop-again (work-claims t) (work-at t) work.Post work-Inv-loop work-μ-loop
 work-loop-again t c =
     let S = c .before .before .before .before .before .before .before in
     let L = c .before .before .before .before .loop in
     let s = graph (S .args .links .now) (S .args .runs .now) (S .args .n) in
     (omega arith, omega arith, omega (arith, workTo-more s (S .args .j) (L .k) (L .inv .0), c .added .ensures .0, L .inv .2), c .added .ensures .1)
 
-work-returns : (t : ℕ) → work-lts.Need-returns (
-  wide-reads.Asked,
-  wide-reads.Learnt,
-  added-below t,
-  added.Post,
-) (work-at t) work.Post work-Inv-loop work-μ-loop
+work-returns : (t : ℕ) → work-lts.Need-returns (work-claims t) (work-at t) work.Post work-Inv-loop work-μ-loop
 work-returns t c =
     let S = c .before .before .before .before in
     let L = c .before .loop in
@@ -495,12 +271,7 @@ work-returns t c =
     (rw e at (L .inv .2) ∙ workTo-end (S .args .links .now) (S .args .runs .now) (S .args .n) (p .0) (S .args .j), L .inv .3)
 
 pub +added+fresh+work-spec : {M : Type 1} → statement M
-+added+fresh+work-spec = close μ-added μ-fresh μ-work (λ t. added-lts.spec (
-  place-reads.Asked,
-  place-reads.Learnt,
-  fresh-below t,
-  fresh.Post,
-)
++added+fresh+work-spec = close μ-added μ-fresh μ-work (λ t. added-lts.spec (added-claims t)
     (added-at t)
     added.Post
     (added-place-requires t)
@@ -513,16 +284,7 @@ pub +added+fresh+work-spec : {M : Type 1} → statement M
     (added-element-write-value t)
     (added-element-write-known t)
     (added-returns-2 t))
-    (λ t. fresh-lts.spec (
-      place-reads.Asked,
-      place-reads.Learnt,
-      work-below t,
-      work.Post,
-      added-below t,
-      added.Post,
-      larger-reads.Asked,
-      larger-reads.Learnt,
-    )
+    (λ t. fresh-lts.spec (fresh-claims t)
     (fresh-at t)
     fresh.Post
     fresh-Inv-loop
@@ -542,7 +304,7 @@ pub +added+fresh+work-spec : {M : Type 1} → statement M
     (fresh-loop-again t)
     (fresh-returns-2 t))
     λ t. work-lts.spec
-    (wide-reads.Asked, wide-reads.Learnt, added-below t, added.Post)
+    (work-claims t)
     (work-at t)
     work.Post
     work-Inv-loop

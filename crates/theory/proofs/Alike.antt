@@ -1,8 +1,8 @@
 -- Two systems with the same tasks, runs and links have the same cycles and loads, whatever their sources. Assumes nothing.
-use Prim.Native.Nat.{ℕ, zero, suc, _+_, _-_, _*_, _≤_, _<_}
+use Prim.Native.Nat.{ℕ, zero, suc, _+_, _*_}
 use mathlib.Core.Path.{_≡_, refl, sym, ap, _∙_}
 use mathlib.Core.Bool.{Bool, true, false, _&&_}
-use Rattle.model.specs.Basics.{sumN, topN, sumTo, topTo, anyN, given}
+use Rattle.model.specs.Basics.{sumTo, given}
 use Rattle.model.specs.Graph.{System, walks, cyclic}
 use Rattle.model.specs.Loads.{workF, addedF, work, added, load}
 use Rattle.theory.proofs.Range.{any-cong, sumTo-cong, topTo-cong}

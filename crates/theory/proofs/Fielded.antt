@@ -8,9 +8,8 @@ use lib.Dec.{eqb, leb}
 use borrow.Author.Tests.{eqb-true, leb-true, le-leb}
 use Rattle.model.specs.declared.Description.{Description}
 use Rattle.model.specs.declared.Field.the-variants.{OfSource}
-use Rattle.model.specs.Basics.{anyN}
 use Rattle.model.specs.Field.{onScale}
-use Rattle.model.specs.Graph.{System, system, linked, runOf, linkAt, sourceAt, cyclic}
+use Rattle.model.specs.Graph.{system, linked, runOf, linkAt, sourceAt, cyclic}
 use Rattle.model.specs.Loads.{tooHeavy}
 use Rattle.theory.proofs.Tests.{and-left, and-right}
 use Rattle.theory.proofs.Range.{Found, any-found}

@@ -1,17 +1,15 @@
 -- How large loads are: below 2^63 for every system without a cycle, at most 1,000,000,000 for one that is not too heavy. Assumes nothing.
-use Prim.Native.Nat.{ℕ, zero, suc, _+_, _-_, _*_, _≤_, _<_}
-use mathlib.Core.Path.{_≡_, refl, sym, ap, _∙_}
-use mathlib.Core.Bool.{Bool, true, false}
+use Prim.Native.Nat.{ℕ, zero, suc, _+_, _-_, _≤_, _<_}
+use mathlib.Core.Path.{_≡_, ap}
+use mathlib.Core.Bool.{false}
 use mathlib.Core.Logic.{⊎-elim}
 use native.Mathlib.Omega.{arith}
-use native.Mathlib.Nat.{zero-add}
-use lib.Dec.{ltb}
 use borrow.Author.Tests.{ltb-false}
-use Rattle.model.specs.Basics.{sumN, sumTo, anyN}
+use Rattle.model.specs.Basics.{sumN, sumTo}
 use Rattle.model.specs.Graph.{System}
 use Rattle.model.specs.Loads.{work, added, load, tooHeavy}
 use Rattle.theory.proofs.Tests.{Cmp, less, same, more, cmp, false-of}
-use Rattle.theory.proofs.Range.{All, Each, sumN-le, sumN-split, sumN-first, sumTo-le, sumTo-zero, none-any}
+use Rattle.theory.proofs.Range.{All, Each, sumN-split, sumN-first, none-any}
 use Rattle.theory.proofs.WellFormed.{IsTask, IsSource, Shaped, Loaded}
 use Rattle.theory.proofs.LoadLaws.{added-le, no-link-load}
 

@@ -3,11 +3,11 @@ use Prim.Native.Nat.{ℕ, zero, suc, _+_, _-_, _*_, _≤_, _<_}
 use mathlib.Core.Path.{_≡_, refl, sym, ap, _∙_}
 use mathlib.Core.Bool.{Bool, true, false}
 use native.Mathlib.Omega.{arith}
-use Rattle.model.specs.Basics.{sumN, topN, sumTo, topTo, given}
+use Rattle.model.specs.Basics.{sumTo, topTo, given}
 use Rattle.model.specs.Graph.{System, cyclic}
-use Rattle.model.specs.Loads.{workF, addedF, work, added, load, tooHeavy}
-use Rattle.theory.proofs.Tests.{Cmp, less, same, more, cmp, not-both}
-use Rattle.theory.proofs.Range.{All, sumTo-cong, sumTo-le, sumTo-zero, le-sumTo, sumTo-cut, topTo-cong, topTo-le, le-topTo, given-le, le-given, given-cong}
+use Rattle.model.specs.Loads.{workF, addedF, work, added, load}
+use Rattle.theory.proofs.Tests.{not-both}
+use Rattle.theory.proofs.Range.{All, sumTo-cong, sumTo-zero, le-sumTo, topTo-cong, topTo-le, le-topTo, given-le, le-given, given-cong}
 use Rattle.theory.proofs.WellFormed.{Shaped, Loaded}
 use Rattle.theory.proofs.Rank.{Ends, rankOf, ends-fall, rank-most}
 

@@ -1,10 +1,10 @@
 -- The test for a cycle is exact, and links without a cycle have a rank that falls along each of them. Assumes nothing.
 use Prim.Native.Nat.{ℕ, zero, suc, _+_, _-_, _≤_, _<_}
-use mathlib.Core.Path.{_≡_, refl, sym, ap, _∙_}
+use mathlib.Core.Path.{_≡_, refl}
 use mathlib.Core.Bool.{Bool, true, false, _&&_}
 use native.Mathlib.Omega.{arith}
 use native.Mathlib.Nat.{zero-add}
-use Rattle.model.specs.Basics.{sumN, anyN, given}
+use Rattle.model.specs.Basics.{sumN, given}
 use Rattle.model.specs.Graph.{System, Reaches, Cycle, walks, cyclic}
 use Rattle.model.specs.Graph.Reaches.{one, more}
 use Rattle.theory.proofs.Tests.{not-both, true-of, and-left, and-right, both}

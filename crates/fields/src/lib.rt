@@ -1,0 +1,220 @@
+// Description files, field by field: taking a field, checking it, reading a file, judging a record and writing its file.
+use model::Check;
+use model::Description;
+use model::Field;
+use model::Filled;
+use model::Link;
+use model::Outcome;
+use model::Progress;
+use model::Reading;
+use model::Refusal;
+use model::Source;
+use model::SourceSlot;
+use model::Taken;
+ghost use mathlib.Core.Path.{_≡_};
+ghost use mathlib.Core.Bool.{true, false, _||_};
+ghost use Prim.Native.Nat.{_+_, _-_, _*_, _≤_, _<_};
+ghost use lib.ListN.{length, getD};
+ghost use Rattle.model.specs.Field.{numberIn, bodyLength, fieldIn, takeField, inTurn, hasRoom, onScale, hasEnds, isTask, isSource, checkField, passed, fieldOf, fieldBytes};
+ghost use Rattle.model.specs.declared.Check.the-variants.{Fine};
+ghost use Rattle.fields.specs.Steps.{checkedTaken, stoppedAt, recordChecks};
+
+// The byte at a place.
+fn byte_at(s: &[u8], at: usize) -> u32
+    requires { ⌜ at < length (now s) ⌝ }
+    ensures { λ r. ⌜ (r ≡ getD (now (s .entry)) at 0) × (r < 256) ⌝ }
+{
+    s[at] as u32
+}
+
+// The number in two bytes, high byte first.
+fn half_at(s: &[u8], at: usize) -> u16
+    requires { ⌜ at + 2 ≤ length (now s) ⌝ }
+    ensures { λ r. ⌜ r ≡ numberIn (now (s .entry)) at 2 ⌝ }
+{
+    let a = byte_at(s, at);
+    let b = byte_at(s, at + 1);
+    (a * 256 + b) as u16
+}
+
+// The number in four bytes, high byte first.
+fn word_at(s: &[u8], at: usize) -> u32
+    requires { ⌜ at + 4 ≤ length (now s) ⌝ }
+    ensures { λ r. ⌜ r ≡ numberIn (now (s .entry)) at 4 ⌝ }
+{
+    let a = byte_at(s, at);
+    let b = byte_at(s, at + 1);
+    let c = byte_at(s, at + 2);
+    let d = byte_at(s, at + 3);
+    ((a * 256 + b) * 256 + c) * 256 + d
+}
+
+// Whether a field comes in its turn.
+fn in_turn(p: Progress, f: Field) -> bool
+    ensures { λ r. ⌜ r ≡ inTurn p f ⌝ }
+{
+    match f {
+        Field::OfTask(_) => p.sources == 0 && p.links == 0,
+        Field::OfSource(_) => p.links == 0,
+        Field::OfLink(l) => p.links == 0 || (p.from < l.from || (p.from == l.from && p.to < l.to)),
+    }
+}
+
+// Whether there is room for one field more of its kind.
+fn has_room(p: Progress, f: Field) -> bool
+    ensures { λ r. ⌜ r ≡ hasRoom p f ⌝ }
+{
+    match f {
+        Field::OfTask(_) => p.tasks < 32,
+        Field::OfSource(_) => p.sources < 16,
+        Field::OfLink(_) => p.links < 256,
+    }
+}
+
+// Whether the numbers of a field are in their ranges.
+fn on_scale(f: Field) -> bool
+    ensures { λ r. ⌜ r ≡ onScale f ⌝ }
+{
+    match f {
+        Field::OfTask(e) => 1 <= e && e <= 10000000,
+        Field::OfSource(s) => match s {
+            Source::Fixed(m) => 1 <= m && m <= 1000000000,
+            Source::Paced(n) => 1 <= n && n <= 960,
+        },
+        Field::OfLink(l) => l.critical <= 1,
+    }
+}
+
+// Whether a number is a task's, and whether it is a source's.
+fn is_task(tasks: usize, i: u8) -> bool
+    ensures { λ r. ⌜ r ≡ isTask tasks i ⌝ }
+{
+    1 <= i && (i as usize) <= tasks
+}
+
+fn is_source(sources: usize, i: u8) -> bool
+    ensures { λ r. ⌜ r ≡ isSource sources i ⌝ }
+{
+    if i < 33 {
+        return false;
+    }
+    let place = (i as usize) - 32;
+    place <= sources
+}
+
+fn is_node(tasks: usize, sources: usize, i: u8) -> bool
+    ensures { λ r. ⌜ r ≡ (isTask tasks i || isSource sources i) ⌝ }
+{
+    is_task(tasks, i) || is_source(sources, i)
+}
+
+// Whether a link's ends are there.
+fn has_ends(p: Progress, f: Field) -> bool
+    ensures { λ r. ⌜ r ≡ hasEnds p f ⌝ }
+{
+    match f {
+        Field::OfTask(_) => true,
+        Field::OfSource(_) => true,
+        Field::OfLink(l) => is_node(p.tasks, p.sources, l.from) && is_task(p.tasks, l.to),
+    }
+}
+
+// Whether a field may stand where it does: the one check of a field, for a file and for a record.
+pub fn check_field(p: Progress, f: Field) -> Check
+    ensures { λ r. ⌜ r ≡ checkField p f ⌝ }
+{
+    if !in_turn(p, f) {
+        return Check::Unfit(Refusal::OutOfTurn);
+    }
+    if !has_room(p, f) {
+        return Check::Unfit(Refusal::TooMany);
+    }
+    if !on_scale(f) {
+        return Check::Unfit(Refusal::OffScale);
+    }
+    if !has_ends(p, f) {
+        return Check::Unfit(Refusal::NoSuchEnd);
+    }
+    Check::Fine
+}
+
+// The length of the body that a tag has.
+fn body_length(tag: u8) -> u16
+    ensures { λ r. ⌜ r ≡ bodyLength tag ⌝ }
+{
+    if tag <= 2 {
+        return 4;
+    }
+    if tag == 3 {
+        return 2;
+    }
+    3
+}
+
+// The field of a tag whose body begins at b.
+fn field_in(s: &[u8], tag: u8, b: usize) -> Field
+    requires { ⌜ b + bodyLength tag ≤ length (now s) ⌝ }
+    ensures { λ r. ⌜ r ≡ fieldIn (now (s .entry)) tag b ⌝ }
+{
+    if tag == 1 {
+        return Field::OfTask(word_at(s, b));
+    }
+    if tag == 2 {
+        return Field::OfSource(Source::Fixed(word_at(s, b)));
+    }
+    if tag == 3 {
+        return Field::OfSource(Source::Paced(half_at(s, b)));
+    }
+    Field::OfLink(Link {
+        from: s[b],
+        to: s[b + 1],
+        critical: s[b + 2],
+    })
+}
+
+// The field at a reading place: whole header, tag, length, whole body.
+pub fn field_at(s: &[u8], at: usize) -> Taken
+    ensures { λ r. ⌜ r ≡ takeField (now (s .entry)) at ⌝ }
+{
+    if s.len() <= at {
+        return Taken::End;
+    }
+    let left = s.len() - at;
+    if left < 3 {
+        return Taken::Broken(Refusal::CutShort);
+    }
+    let tag = s[at];
+    if tag == 0 {
+        return Taken::Broken(Refusal::StrangeTag);
+    }
+    if 4 < tag {
+        return Taken::Broken(Refusal::StrangeTag);
+    }
+    let size = body_length(tag);
+    if half_at(s, at + 1) != size {
+        return Taken::Broken(Refusal::WrongLength);
+    }
+    if left - 3 < size as usize {
+        return Taken::Broken(Refusal::CutShort);
+    }
+    Taken::Whole(field_in(s, tag, at + 3), at + 3 + size as usize)
+}
+
+// Field k of a record's file.
+fn field_of(d: Description, k: usize) -> Field
+    requires { ⌜ (d .«task_count» ≤ 32) × (d .«source_count» ≤ 16) × (d .«link_count» ≤ 256) × (k < d .«task_count» + d .«source_count» + d .«link_count») ⌝ }
+    ensures { λ r. ⌜ r ≡ fieldOf d k ⌝ }
+{
+    if k < d.task_count {
+        return Field::OfTask(d.runs[k]);
+    }
+    let i = k - d.task_count;
+    if i < d.source_count {
+        let slot = d.sources[i];
+        let source = slot.source;
+        return Field::OfSource(source);
+    }
+    let l = i - d.source_count;
+    let link = d.links[l];
+    Field::OfLink(link)
+}

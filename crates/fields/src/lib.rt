@@ -17,6 +17,8 @@ ghost use Prim.Native.Nat.{_+_, _-_, _*_, _≤_, _<_};
 ghost use lib.ListN.{length, getD};
 ghost use Rattle.model.specs.Field.{numberIn, bodyLength, fieldIn, takeField, inTurn, hasRoom, onScale, hasEnds, isTask, isSource, checkField, passed, fieldOf, fieldBytes};
 ghost use Rattle.model.specs.declared.Check.the-variants.{Fine};
+ghost use Rattle.model.specs.Refusals.{blank};
+ghost use Rattle.model.specs.File.{parseFile, fileOf, fillWith, filledBy, overfull};
 ghost use Rattle.fields.specs.Steps.{checkedTaken, stoppedAt, recordChecks};
 
 // The byte at a place.
@@ -198,6 +200,137 @@ pub fn field_at(s: &[u8], at: usize) -> Taken
         return Taken::Broken(Refusal::CutShort);
     }
     Taken::Whole(field_in(s, tag, at + 3), at + 3 + size as usize)
+}
+
+// The field at a reading place, if it may stand there.
+fn checked_at(s: &[u8], at: usize, p: Progress) -> Taken
+    ensures { λ r. ⌜ r ≡ checkedTaken p (takeField (now (s .entry)) at) ⌝ }
+{
+    let t = field_at(s, at);
+    let Taken::Whole(f, next) = t else {
+        return t;
+    };
+    let c = check_field(p, f);
+    match c {
+        Check::Fine => Taken::Whole(f, next),
+        Check::Unfit(r) => Taken::Broken(r),
+    }
+}
+
+// What is known after one field more.
+fn advanced(p: Progress, f: Field) -> Progress
+    requires { ⌜ hasRoom p f ≡ true ⌝ }
+    ensures { λ r. ⌜ r ≡ passed p f ⌝ }
+{
+    match f {
+        Field::OfTask(_) => Progress {
+            tasks: p.tasks + 1,
+            sources: p.sources,
+            links: p.links,
+            from: p.from,
+            to: p.to,
+        },
+        Field::OfSource(_) => Progress {
+            tasks: p.tasks,
+            sources: p.sources + 1,
+            links: p.links,
+            from: p.from,
+            to: p.to,
+        },
+        Field::OfLink(l) => Progress {
+            tasks: p.tasks,
+            sources: p.sources,
+            links: p.links + 1,
+            from: l.from,
+            to: l.to,
+        },
+    }
+}
+
+// A description of zeros.
+pub fn empty() -> Description
+    ensures { λ r. ⌜ r ≡ blank ⌝ }
+{
+    Description {
+        task_count: 0,
+        runs: [0; 32],
+        source_count: 0,
+        sources: [SourceSlot {
+            source: Source::Fixed(0),
+        }; 16],
+        link_count: 0,
+        links: [Link {
+            from: 0,
+            to: 0,
+            critical: 0,
+        }; 256],
+    }
+}
+
+// The answer of a reading that ends at a place: a refusal with its offset, or the description.
+fn stopped(t: Taken, at: usize, d: Description) -> Reading
+    ensures { λ r. ⌜ r ≡ stoppedAt t at d ⌝ }
+{
+    match t {
+        Taken::Whole(_, _) => {
+            let none = empty();
+            Reading {
+                outcome: Outcome::Refused(Refusal::CutShort, at),
+                description: none,
+            }
+        }
+        Taken::Broken(r) => {
+            let none = empty();
+            Reading {
+                outcome: Outcome::Refused(r, at),
+                description: none,
+            }
+        }
+        Taken::End => Reading {
+            outcome: Outcome::Done,
+            description: d,
+        },
+    }
+}
+
+// All fields of a file: one that does not come out whole, or may not stand where it does, ends the reading.
+pub fn parse(s: &[u8]) -> Reading
+    ensures { λ r. ⌜ r ≡ parseFile (now (s .entry)) ⌝ }
+{
+    let mut d = empty();
+    let mut p = Progress {
+        tasks: 0,
+        sources: 0,
+        links: 0,
+        from: 0,
+        to: 0,
+    };
+    let mut at: usize = 0;
+    loop {
+        let t = checked_at(s, at, p);
+        let Taken::Whole(f, next) = t else {
+            return stopped(t, at, d);
+        };
+        match f {
+            Field::OfTask(e) => {
+                let k = d.task_count;
+                d.runs[k] = e;
+                d.task_count = k + 1;
+            }
+            Field::OfSource(source) => {
+                let k = d.source_count;
+                d.sources[k] = SourceSlot { source };
+                d.source_count = k + 1;
+            }
+            Field::OfLink(l) => {
+                let k = d.link_count;
+                d.links[k] = l;
+                d.link_count = k + 1;
+            }
+        }
+        p = advanced(p, f);
+        at = next;
+    }
 }
 
 // Field k of a record's file.

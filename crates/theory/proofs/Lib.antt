@@ -12,3 +12,4 @@ pub mod ReadLaws
 pub mod FileLength
 pub mod FileLaws
 pub mod ReadBack
+pub mod Typed

@@ -31,6 +31,10 @@ stoppedAt (Whole f next) at d = refusedReading CutShort at
 stoppedAt (Broken r) at d = refusedReading r at
 stoppedAt End at d = record { outcome = Done; description = d }
 
+abbrev pub unfitAt : Check → ℕ → Outcome
+unfitAt Fine at = Done
+unfitAt (Unfit r) at = Refused r at
+
 -- a record's counts and fields: "judged as its file would be, counts above the limits giving 5 first at place 0"
 unfoldable pub recordChecks : Description → Outcome
 recordChecks d = cond (overfull d) (Refused TooMany 0) (parseFile (fileOf d) .outcome)

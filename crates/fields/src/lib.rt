@@ -14,12 +14,13 @@ use model::Taken;
 ghost use mathlib.Core.Path.{_≡_};
 ghost use mathlib.Core.Bool.{true, false, _||_};
 ghost use Prim.Native.Nat.{_+_, _-_, _*_, _≤_, _<_};
+ghost use lib.Dec.{ltb};
 ghost use lib.ListN.{length, getD};
 ghost use Rattle.model.specs.Field.{numberIn, bodyLength, fieldIn, takeField, inTurn, hasRoom, onScale, hasEnds, isTask, isSource, checkField, passed, fieldOf, fieldBytes};
 ghost use Rattle.model.specs.declared.Check.the-variants.{Fine};
 ghost use Rattle.model.specs.Refusals.{blank};
 ghost use Rattle.model.specs.File.{parseFile, fileOf, fillWith, filledBy, overfull};
-ghost use Rattle.fields.specs.Steps.{checkedTaken, stoppedAt, recordChecks};
+ghost use Rattle.fields.specs.Steps.{checkedTaken, stoppedAt, unfitAt, recordChecks};
 
 // The byte at a place.
 fn byte_at(s: &[u8], at: usize) -> u32
@@ -350,4 +351,65 @@ fn field_of(d: Description, k: usize) -> Field
     let l = i - d.source_count;
     let link = d.links[l];
     Field::OfLink(link)
+}
+
+// The number of bytes of a field.
+fn field_length(f: Field) -> usize
+    ensures { λ r. ⌜ r ≡ length (fieldBytes f) ⌝ }
+{
+    match f {
+        Field::OfTask(_) => 7,
+        Field::OfSource(s) => match s {
+            Source::Fixed(_) => 7,
+            Source::Paced(_) => 5,
+        },
+        Field::OfLink(_) => 6,
+    }
+}
+
+// Whether a count is above its limit.
+fn over_full(tasks: usize, sources: usize, links: usize) -> bool
+    ensures { λ r. ⌜ r ≡ (ltb 32 tasks || (ltb 16 sources || ltb 256 links)) ⌝ }
+{
+    32 < tasks || (16 < sources || 256 < links)
+}
+
+// The refusal of a field that may not stand where it does, with its place.
+fn unfit_at(c: Check, at: usize) -> Outcome
+    ensures { λ r. ⌜ r ≡ unfitAt c at ⌝ }
+{
+    match c {
+        Check::Fine => Outcome::Done,
+        Check::Unfit(r) => Outcome::Refused(r, at),
+    }
+}
+
+// The counts and fields of a record, judged as those of its file, which is not built.
+pub fn check_record(d: Description) -> Outcome
+    ensures { λ r. ⌜ r ≡ recordChecks d ⌝ }
+{
+    if over_full(d.task_count, d.source_count, d.link_count) {
+        return Outcome::Refused(Refusal::TooMany, 0);
+    }
+    let count = d.task_count + d.source_count + d.link_count;
+    let mut p = Progress {
+        tasks: 0,
+        sources: 0,
+        links: 0,
+        from: 0,
+        to: 0,
+    };
+    let mut at: usize = 0;
+    let mut k: usize = 0;
+    while k < count {
+        let f = field_of(d, k);
+        let c = check_field(p, f);
+        let Check::Fine = c else {
+            return unfit_at(c, at);
+        };
+        p = advanced(p, f);
+        at += field_length(f);
+        k += 1;
+    }
+    Outcome::Done
 }

@@ -4,7 +4,6 @@ use mathlib.Core.Path.{_≡_, sym, _∙_}
 use mathlib.Core.List.{List, [], _∷_, map}
 use native.Mathlib.Omega.{arith}
 use lib.ListN.{length, getD, length-map}
-
 use mir.Val.{Val}
 use mir.Syntax.{w32}
 use borrow.Author.Needs.{elem-fits-field}

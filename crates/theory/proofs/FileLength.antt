@@ -47,6 +47,11 @@ pub offset-none : (d : Description) → offset d 0 ≡ 0
 unfolding joined
 offset-none d = refl
 
+pub offset-most : (d : Description) (k : ℕ) → offset d k ≤ 7 * k
+offset-most d zero = omega (arith, offset-none d)
+offset-most d (suc k) =
+    omega (arith, offset-more d k, offset-most d k, length-field (fieldOf d k), body-most (fieldOf d k))
+
 pub offset-tasks : (d : Description) (k : ℕ) → k ≤ d .«task_count» → offset d k ≡ 7 * k
 offset-tasks d zero h = offset-none d
 offset-tasks d (suc k) h = rw (offset-more d k, field-task d k h, length-task (getD (d .runs) k 0), offset-tasks d k (omega arith)) (omega arith)

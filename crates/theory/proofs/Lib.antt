@@ -42,3 +42,4 @@ pub mod Serving
 pub mod Assurance
 pub mod Demand3
 pub mod Lawful
+pub mod Typed

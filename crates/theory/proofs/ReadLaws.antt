@@ -66,20 +66,20 @@ counts-more p d (OfTask e) c = record { tasks = ap (λ x. x + 1) (c .tasks); sou
 counts-more p d (OfSource s) c = record { tasks = c .tasks; sources = ap (λ x. x + 1) (c .sources); links = c .links }
 counts-more p d (OfLink l) c = record { tasks = c .tasks; sources = c .sources; links = ap (λ x. x + 1) (c .links) }
 
-task-turn : (p : Progress) (d : Description) (e : ℕ) → Counts p d → Passes p (OfTask e) → (d .«source_count» ≡ 0) × (d .«link_count» ≡ 0) × (d .«task_count» < 32)
+pub task-turn : (p : Progress) (d : Description) (e : ℕ) → Counts p d → Passes p (OfTask e) → (d .«source_count» ≡ 0) × (d .«link_count» ≡ 0) × (d .«task_count» < 32)
 task-turn p d e c q =
     let a = eqb-true (p .sources) 0 (and-left (eqb (p .sources) 0) (eqb (p .links) 0) (q .turn)) in
     let b = eqb-true (p .links) 0 (and-right (eqb (p .sources) 0) (eqb (p .links) 0) (q .turn)) in
     let r = ltb-true (p .tasks) 32 (q .room) in
     (omega (arith, c .sources), omega (arith, c .links), omega (arith, c .tasks))
 
-source-turn : (p : Progress) (d : Description) (s : Source) → Counts p d → Passes p (OfSource s) → (d .«link_count» ≡ 0) × (d .«source_count» < 16)
+pub source-turn : (p : Progress) (d : Description) (s : Source) → Counts p d → Passes p (OfSource s) → (d .«link_count» ≡ 0) × (d .«source_count» < 16)
 source-turn p d s c q =
     let b = eqb-true (p .links) 0 (q .turn) in
     let r = ltb-true (p .sources) 16 (q .room) in
     (omega (arith, c .links), omega (arith, c .sources))
 
-link-room : (p : Progress) (d : Description) (l : Link) → Counts p d → Passes p (OfLink l) → d .«link_count» < 256
+pub link-room : (p : Progress) (d : Description) (l : Link) → Counts p d → Passes p (OfLink l) → d .«link_count» < 256
 link-room p d l c q = let r = ltb-true (p .links) 256 (q .room) in omega (arith, c .links)
 
 pub few-more : (p : Progress) (d : Description) (f : Field) → Counts p d → Passes p f → Few d → Few (withField d f)

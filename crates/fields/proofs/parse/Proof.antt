@@ -1,0 +1,199 @@
+use borrow.Author.Needs.{needs}
+use Prim.Native.Nat.{ℕ, suc, _≤_, _<_, _-_, _+_}
+use mathlib.Core.Path.{_≡_, refl, sym, ap, _∙_}
+use lib.ListN.{length}
+use native.Mathlib.Omega.{arith}
+use Rattle.model.specs.declared.Reading.{Reading}
+use Rattle.model.specs.File.{parseFile}
+use Rattle.theory.proofs.FieldLaws.{length-field, take-took, took-length, took-inside}
+use Rattle.theory.proofs.ReadLaws.{Counts, counts-more, task-turn, source-turn, link-room}
+use Rattle.model.specs.declared.Taken.the-variants.{Whole}
+use Rattle.model.specs.declared.Check.the-variants.{Fine}
+use Rattle.model.specs.Field.{takeField, checkField, withField}
+use Rattle.theory.proofs.JudgeLaws.{Passes, fine-passes}
+use Rattle.fields.proofs.Laws.{cases, fine-taken, ReadsAs, reads-more, reads-stop}
+use Rattle.fields.proofs.parse.Statement.{statement}
+use Rattle.fields.proofs.parse.Tie as tie
+use Rattle.fields.proofs.parse.Reads as reads
+use Rattle.fields.proofs.parse.Lts as lts
+use Rattle.fields.proofs.advanced.Reads as advanced-reads
+use Rattle.fields.proofs.checked_at.Reads as checked-at-reads
+use Rattle.fields.proofs.empty.Reads as empty-reads
+use Rattle.fields.proofs.stopped.Reads as stopped-reads
+
+abbrev Inv-loop : tie.InvT-loop
+Inv-loop s d₀ p₀ at₀ d p at =
+    (at ≤ length s) × Counts p d × ((r : Reading) → ReadsAs s at p d r → r ≡ parseFile s)
+
+abbrev μ-loop : tie.MeasureT-loop
+μ-loop s d₀ p₀ at₀ d p at = length s - at
+
+-- the field that was taken, and that it may stand where it does
+taken-fine : (c : tie.After-known-told Inv-loop μ-loop) → (takeField (c .before .before .before .before .before .before .before .args .s .now) (c .before .before .before .before .loop .at) ≡ Whole (c .before .t .given .0 .0) (c .before .t .given .0 .1 .0)) × (checkField (c .before .before .before .before .loop .p) (c .before .t .given .0 .0) ≡ Fine)
+taken-fine c =
+    fine-taken (c .before .before .before .before .loop .p) _ _ _ (sym (c .before .before .before .checked-at .ensures) ∙ c .before .t .given .1)
+
+passes : (c : tie.After-known-told Inv-loop μ-loop) → Passes (c .before .before .before .before .loop .p) (c .before .t .given .0 .0)
+passes c = fine-passes (c .before .before .before .before .loop .p) (c .before .t .given .0 .0) (taken-fine c .1)
+
+-- the description after the match has the field
+with-it : (c : tie.At-match2-came Inv-loop μ-loop) → (c .match2 .d ≡ withField (c .before .before .before .before .before .loop .d) (c .before .before .t .given .0 .0)) × (c .match2 .f ≡ c .before .before .t .given .0 .0)
+with-it c =
+    let d = c .before .before .before .before .before .loop .d in
+    cases (c .match2 .came)
+    (λ w. (w .3 ∙ ap (withField d) (sym (w .1 .given .1)), w .4 ∙ sym (w .1 .given .1)))
+    (λ v. cases v
+    (λ w. (w .3 ∙ ap (withField d) (sym (w .1 .given .1)), w .4 ∙ sym (w .1 .given .1)))
+    (λ w. (w .3 ∙ ap (withField d) (sym (w .1 .given .1)), w .4 ∙ sym (w .1 .given .1))))
+
+-- there is room for the field
+few-tasks : (c : tie.After-known-told2 Inv-loop μ-loop) → c .before .before .before .before .before .before .before .loop .d .«task_count» < 32
+few-tasks c =
+    let L = c .before .before .before .before .before .before .before .loop in
+    task-turn (L .p) (L .d) _ (L .inv .1) (rw (c .before .f .given .1) at (passes (c .before .before .before))) .2
+
+few-sources : (c : tie.After-known-told3 Inv-loop μ-loop) → c .before .before .before .before .before .before .before .loop .d .«source_count» < 16
+few-sources c =
+    let L = c .before .before .before .before .before .before .before .loop in
+    source-turn (L .p) (L .d) _ (L .inv .1) (rw (c .before .f2 .given .1) at (passes (c .before .before .before))) .1
+
+few-links : (c : tie.After-known-told4 Inv-loop μ-loop) → c .before .before .before .before .before .before .before .loop .d .«link_count» < 256
+few-links c =
+    let L = c .before .before .before .before .before .before .before .loop in
+    link-room (L .p) (L .d) _ (L .inv .1) (rw (c .before .f3 .given .1) at (passes (c .before .before .before)))
+
+-- the reading goes on past the field, within the bytes
+goes-on : (c : tie.After-known-told Inv-loop μ-loop) → (c .before .before .before .before .loop .at < c .before .t .given .0 .1 .0) × (c .before .t .given .0 .1 .0 ≤ length (c .before .before .before .before .before .before .before .args .s .now))
+goes-on c =
+    let k = take-took _ _ _ _ (taken-fine c .0) in
+    (omega (arith, took-length k, length-field (c .before .t .given .0 .0)), took-inside k)
+
+-- src/lib.rt:267:17
+empty-requires : tie.Need-empty-requires Inv-loop μ-loop
+empty-requires c κs = search needs
+
+-- src/lib.rt:270:5
+loop-holds : tie.Need-loop-holds Inv-loop μ-loop
+unfolding parseFile
+loop-holds c =
+    let s = (c .before .before .args .s .now) in (
+      omega arith,
+      rw (c .empty .ensures) (record { tasks = refl; sources = refl; links = refl }),
+      λ r h. rw (c .empty .ensures) at (h (suc (length s)) (omega arith)),
+    )
+
+-- src/lib.rt:271:13
+checked-at-requires : tie.Need-checked-at-requires Inv-loop μ-loop
+checked-at-requires c κs = search needs
+
+-- src/lib.rt:272:26
+enum-known-t : tie.Need-enum-known-t Inv-loop μ-loop
+enum-known-t c = search needs
+
+-- src/lib.rt:273:13
+stopped-requires : tie.Need-stopped-requires Inv-loop μ-loop
+stopped-requires c κs = search needs
+
+-- src/lib.rt:273:13
+returns : tie.Need-returns Inv-loop μ-loop
+returns c =
+    let L = (c .before .before .before .loop) in
+    L .inv .2
+    (c .stopped .result)
+    (rw (c .stopped .ensures) (reads-stop (c .before .before .before .before .before .before .args .s .now) (L .at) (L .p) (L .d) (c .before .before .checked-at .result) (L .inv .0) (sym (c .before .before .checked-at .ensures)) (c .before .match .keys2)))
+
+-- src/lib.rt:276:27
+enum-known-f : tie.Need-enum-known-f Inv-loop μ-loop
+enum-known-f c = search needs
+
+-- src/lib.rt:278:17
+mul-d : tie.Need-mul-d Inv-loop μ-loop
+mul-d c = omega (arith, few-tasks c)
+
+-- src/lib.rt:278:17
+element-write-d : tie.Need-element-write-d Inv-loop μ-loop
+element-write-d c = few-tasks c
+
+-- src/lib.rt:279:32
+add-d : tie.Need-add-d Inv-loop μ-loop
+add-d c = omega (arith, few-tasks c)
+
+-- src/lib.rt:281:29
+enum-known-f-2 : tie.Need-enum-known-f-2 Inv-loop μ-loop
+enum-known-f-2 c = search needs
+
+-- src/lib.rt:283:17
+mul-t20 : tie.Need-mul-t20 Inv-loop μ-loop
+mul-t20 c = omega (arith, few-sources c)
+
+-- src/lib.rt:283:17
+element-set-from-d : tie.Need-element-set-from-d Inv-loop μ-loop
+element-set-from-d c = few-sources c
+
+-- src/lib.rt:284:34
+add-d-2 : tie.Need-add-d-2 Inv-loop μ-loop
+add-d-2 c = omega (arith, few-sources c)
+
+-- src/lib.rt:286:27
+enum-known-f-3 : tie.Need-enum-known-f-3 Inv-loop μ-loop
+enum-known-f-3 c = search needs
+
+-- src/lib.rt:288:17
+mul-l : tie.Need-mul-l Inv-loop μ-loop
+mul-l c = omega (arith, few-links c)
+
+-- src/lib.rt:288:17
+element-set-from-l : tie.Need-element-set-from-l Inv-loop μ-loop
+element-set-from-l c = few-links c
+
+-- src/lib.rt:289:32
+add-d-3 : tie.Need-add-d-3 Inv-loop μ-loop
+add-d-3 c = omega (arith, few-links c)
+
+-- src/lib.rt:292:9
+advanced-requires : tie.Need-advanced-requires Inv-loop μ-loop
+advanced-requires c κs = rw (with-it c .1) (passes (c .before) .room)
+
+-- src/lib.rt:270:5
+loop-less : tie.Need-loop-less Inv-loop μ-loop
+loop-less c = let g = goes-on (c .before .before) in omega arith
+
+-- src/lib.rt:270:5
+loop-again : tie.Need-loop-again Inv-loop μ-loop
+loop-again c =
+    let L = (c .before .before .before .before .before .before .loop) in
+    let w = with-it (c .before) in
+    let t = taken-fine (c .before .before) in
+    let f = (c .before .before .before .t .given .0 .0) in (
+      goes-on (c .before .before) .1,
+      rw (c .advanced .ensures, w .1, w .0) (counts-more (L .p) (L .d) f (L .inv .1)),
+      λ r h. L .inv .2 r (reads-more (c .before .before .before .before .before .before .before .before .before .args .s .now) (L .at) (L .p) (L .d) f (c .before .before .before .t .given .0 .1 .0) r (L .inv .0) (t .0) (t .1) (rw (c .advanced .ensures, w .1, w .0) at h)),
+    )
+
+pub parse-spec : {M : Type 1} → statement M
+parse-spec =
+    tie.close
+    (tie.spec
+    Inv-loop
+    μ-loop
+    empty-requires
+    loop-holds
+    checked-at-requires
+    enum-known-t
+    stopped-requires
+    returns
+    enum-known-f
+    mul-d
+    element-write-d
+    add-d
+    enum-known-f-2
+    mul-t20
+    element-set-from-d
+    add-d-2
+    enum-known-f-3
+    mul-l
+    element-set-from-l
+    add-d-3
+    advanced-requires
+    loop-less
+    loop-again)

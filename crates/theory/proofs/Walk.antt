@@ -351,27 +351,34 @@ module _ (a b : System) (agree : (i k : ℕ) → 1 ≤ i → i ≤ 48 → 1 ≤ 
     where
       Alike : Type 0
       Alike = (r : ℕ) (v : Walk) → visit n a j (suc r) v ≡ visit n b j (suc r) v
+
       turn : Alike → x ≤ 32 → (r : ℕ) → r < 48 → (v : Walk) → stepTo a j n x r v ≡ stepTo b j n x r v
       turn ih q r h v = go (a .link (suc r) x) refl (eqb (v .failed) 0) refl
         where
           same-link : a .link (suc r) x ≡ b .link (suc r) x
           same-link = agree (suc r) x (omega arith) (omega arith) p q
+
           go : (c : Bool) → a .link (suc r) x ≡ c → (e : Bool) → eqb (v .failed) 0 ≡ e → stepTo a j n x r v ≡ stepTo b j n x r v
           go false l e f = step-skip a j n x r v l ∙ sym (step-skip b j n x r v (sym same-link ∙ l))
           go true l false f = step-stop a j n x r v f ∙ sym (step-stop b j n x r v f)
           go true l true f =
               step-into a j n x r v l (eqb-true (v .failed) 0 f) ∙ ih r v ∙ sym (step-into b j n x r v (sym same-link ∙ l) (eqb-true (v .failed) 0 f))
+
       turns : Alike → x ≤ 32 → (R : ℕ) → R ≤ 48 → upTo R (stepTo a j n x) (meet x w) ≡ upTo R (stepTo b j n x) (meet x w)
       turns ih q R h = upTo-alike R (stepTo a j n x) (stepTo b j n x) (meet x w) (λ r y v. turn ih q r (omega arith) v)
+
       high : Alike → x ≤ 32 → getD (w .met) (x - 1) false ≡ false → j ≤ x → visit (suc n) a j x w ≡ visit (suc n) b j x w
       high ih q e l = visit-high a j n x w q e l ∙ turns ih q 48 (omega arith) ∙ sym (visit-high b j n x w q e l)
+
       low : Alike → x ≤ 32 → getD (w .met) (x - 1) false ≡ false → Cmp x j → visit (suc n) a j x w ≡ visit (suc n) b j x w
       low ih q e (less l) = visit-low a j n x w q e l ∙ sym (visit-low b j n x w q e l)
       low ih q e (same l) = high ih q e (omega arith)
       low ih q e (more l) = high ih q e (omega arith)
+
       met : Alike → x ≤ 32 → (t : Bool) → getD (w .met) (x - 1) false ≡ t → visit (suc n) a j x w ≡ visit (suc n) b j x w
       met ih q true e = visit-again a j n x w q e ∙ sym (visit-again b j n x w q e)
       met ih q false e = low ih q e (cmp x j)
+
       far : Cmp 32 x → Alike → visit (suc n) a j x w ≡ visit (suc n) b j x w
       far (less q) ih = visit-source a j n x w q ∙ sym (visit-source b j n x w q)
       far (same q) ih = met ih (omega arith) (getD (w .met) (x - 1) false) refl

@@ -43,3 +43,4 @@ pub mod Assurance
 pub mod Demand3
 pub mod Lawful
 pub mod Typed
+pub mod FieldsChecked

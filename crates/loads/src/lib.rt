@@ -6,7 +6,7 @@ use model::Refusal;
 use model::Row;
 
 mod cycle;
-mod matrix;
+pub mod matrix;
 mod rows;
 mod work;
 

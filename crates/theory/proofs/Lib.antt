@@ -43,4 +43,3 @@ pub mod Assurance
 pub mod Demand3
 pub mod Lawful
 pub mod Typed
-pub mod FieldsChecked

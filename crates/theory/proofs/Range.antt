@@ -251,3 +251,9 @@ pub upTo-alike : {A : Type 0} (n : ℕ) (f g : ℕ → A → A) (a : A) → ((k 
 unfolding upTo
 upTo-alike zero f g a h = refl
 upTo-alike (suc n) f g a h = ap (f n) (upTo-alike n f g a (λ k p. h k (omega arith))) ∙ h n (omega arith) (upTo n g a)
+
+pub all-cong : (p q : ℕ → Bool) (a n : ℕ) → Each (λ k. p k ≡ q k) a n → allN p a n ≡ allN q a n
+unfolding allN
+all-cong p q a zero h = refl
+all-cong p q a (suc n) h =
+    rw (all-cong p q a n (λ k s t. h k s (omega arith)), h (a + n) (omega arith) (omega arith))

@@ -46,3 +46,8 @@ stored P d l i v b h x k p = go (cmp k i)
     go (less q) = rw (getD-set-other l i k v d (λ e. omega arith)) (h k q)
     go (same q) = rw (q, getD-set-same l i v d b) x
     go (more q) = absurd (omega arith)
+
+pub tab-cong : {A : Type 0} (n : ℕ) (f g : ℕ → A) → ((k : ℕ) → k < n → f k ≡ g k) → tab n f ≡ tab n g
+unfolding tab
+tab-cong zero f g h = refl
+tab-cong (suc n) f g h = rw (tab-cong n f g (λ k p. h k (omega arith)), h n (omega arith))

@@ -2,3 +2,4 @@ pub mod Laws
 pub mod WalkLaws
 pub mod PlanLaws
 pub mod DecideLaws
+pub mod TableLaws

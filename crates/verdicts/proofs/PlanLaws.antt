@@ -5,7 +5,7 @@ use mathlib.Core.Bool.{Bool, true, false, cond, _&&_}
 use mathlib.Core.List.{List}
 use mathlib.Core.Logic.{_⊎_, inl, inr}
 use native.Mathlib.Omega.{arith}
-use lib.ListN.{length, getD, set, length-set}
+use lib.ListN.{length, getD, set, replicate, length-set, length-replicate, getD-replicate, List·getD-eq-default}
 use lib.Seq.{getD-set-same, getD-set-other}
 use lib.Dec.{eqb, leb, ltb}
 use borrow.Author.Tests.{eq-eqb, ne-eqb, le-leb, lt-leb, lt-ltb, le-ltb}
@@ -17,6 +17,8 @@ use Rattle.model.specs.declared.Walk.{Walk}
 use Rattle.model.specs.Delays.{spacing, spacingOf}
 use Rattle.model.specs.Order.{walk, inOrder}
 use Rattle.theory.proofs.Tests.{Cmp, less, same, more, cmp, at-or-not}
+use Rattle.theory.proofs.Table.{stored}
+use Rattle.theory.proofs.Spacing.{gap-most}
 use Rattle.theory.proofs.WellFormed.{WellFormed, IsTask, IsSource}
 use Rattle.verdicts.specs.Matrix.{matrixSystem}
 use Rattle.verdicts.specs.Plan.{LimitsOf, limitBy, orderBy}
@@ -25,6 +27,32 @@ use Rattle.verdicts.specs.Plan.{LimitsOf, limitBy, orderBy}
 pub gap-place : (d : Description) (t u : ℕ) → spacing (getD (d .sources) u noSource .source) t ≡ spacingOf d t (33 + u)
 unfolding spacingOf
 gap-place d t u = let e : u ≡ 33 + u - 33 = omega arith in ap (λ (i : ℕ). spacing (getD (d .sources) i noSource .source) t) e
+
+-- nothing is filled in yet
+pub zeros-most : (n j : ℕ) → getD (replicate n 0) j 0 ≤ 1000000000
+zeros-most n j = go (cmp j n)
+  where
+    past : n ≤ j → getD (replicate n 0) j 0 ≤ 1000000000
+    past p = rw (List·getD-eq-default {A = ℕ} (replicate n 0) 0 {n = j} (omega (arith, length-replicate {A = ℕ} n 0))) (omega arith)
+    go : Cmp j n → getD (replicate n 0) j 0 ≤ 1000000000
+    go (less p) = rw (getD-replicate {A = ℕ} n j 0 0 p) (omega arith)
+    go (same p) = past (omega arith)
+    go (more p) = past (omega arith)
+
+-- the spacings of the first n sources
+pub record GapsTo (d : Description) (t : ℕ) (gaps : List ℕ) (n : ℕ) : Type 0 where
+  pub sized : length gaps ≡ 16
+  pub at : (u : ℕ) → u < n → getD gaps u 0 ≡ spacingOf d t (33 + u)
+  pub most : (u : ℕ) → getD gaps u 0 ≤ 1000000000
+
+pub gaps-more : (d : Description) (t : ℕ) (gaps : List ℕ) (n v : ℕ) → WellFormed d → n < d .«source_count» → v ≡ spacingOf d t (33 + n) → GapsTo d t gaps n → GapsTo d t (set gaps n v) (n + 1)
+gaps-more d t gaps n v g h e r =
+    record {
+      sized = length-set gaps n v ∙ r .sized;
+      at = stored (λ k x. x ≡ spacingOf d t (33 + k)) 0 gaps n v (omega (arith, r .sized, g .few-sources)) (r .at) e;
+      most = λ j. at-or-not (λ i. getD (set gaps n v) i 0 ≤ 1000000000) n j
+        (rw (getD-set-same gaps n v 0 (omega (arith, r .sized, g .few-sources)), e) (gap-most d g (33 + n) (omega arith) (omega arith) t))
+        (λ ne. rw (getD-set-other gaps n j v 0 ne) (r .most j)) }
 
 -- the ends of a link of an accepted description
 pub from-most : (d : Description) → WellFormed d → (l : ℕ) → l < d .«link_count» → linkAt d l .from < 49

@@ -35,8 +35,9 @@ abbrev pub OrdersOf : Description → List Bool → Type 0
 OrdersOf d t = (l : ℕ) → l < d .«link_count» → linkAt d l .from < 33 → linkAt d l .critical ≡ 1 → getD t l false ≡ inOrder (system d) (linkAt d l .from) (linkAt d l .to)
 
 -- by source: its spacing at a tempo
-abbrev pub GapsOf : Description → ℕ → List ℕ → Type 0
-GapsOf d t gaps = (u : ℕ) → u < d .«source_count» → getD gaps u 0 ≡ spacingOf d t (33 + u)
+pub record GapsOf (d : Description) (t : ℕ) (gaps : List ℕ) : Type 0 where
+  pub at : (u : ℕ) → u < d .«source_count» → getD gaps u 0 ≡ spacingOf d t (33 + u)
+  pub most : (u : ℕ) → getD gaps u 0 ≤ 1000000000
 
 -- the spacing of a critical link's source, or 0 for any other link
 unfoldable pub limitBy : List ℕ → Link → ℕ

@@ -2,11 +2,8 @@
 use Prim.Native.Nat.{ℕ, _≤_, _<_, _+_, _-_}
 use mathlib.Core.Path.{_≡_, refl, sym, ap, _∙_}
 use native.Mathlib.Omega.{arith}
-use lib.ListN.{length, getD, length-set}
 use borrow.Author.Needs.{needs}
-use Rattle.model.specs.Delays.{spacingOf}
-use Rattle.theory.proofs.Table.{stored}
-use Rattle.verdicts.proofs.PlanLaws.{gap-place}
+use Rattle.verdicts.proofs.PlanLaws.{gap-place, GapsTo, gaps-more, zeros-most}
 use Rattle.verdicts.proofs.plan.gaps_at.Statement.{statement}
 use Rattle.verdicts.proofs.plan.gaps_at.Tie as tie
 use Rattle.verdicts.proofs.plan.gaps_at.Reads as reads
@@ -15,13 +12,13 @@ use Rattle.verdicts.proofs.plan.wide.Reads as wide-reads
 use Rattle.verdicts.proofs.rounds.spacing_at.Reads as spacing-at-reads
 
 abbrev Inv-loop : tie.InvT-loop
-Inv-loop t d gaps₀ u₀ gaps u = (u ≤ d .«source_count») × (length gaps ≡ 16) × ((k : ℕ) → k < u → getD gaps k 0 ≡ spacingOf d t (33 + k))
+Inv-loop t d gaps₀ u₀ gaps u = (u ≤ d .«source_count») × GapsTo d t gaps u
 
 abbrev μ-loop : tie.MeasureT-loop
 μ-loop t d gaps₀ u₀ gaps u = d .«source_count» - u
 
 loop-holds : tie.Need-loop-holds Inv-loop μ-loop
-loop-holds c = (omega arith, refl, λ k p. absurd (omega arith))
+loop-holds c = (omega arith, record { sized = refl; at = λ k p. absurd (omega arith); most = zeros-most 16 })
 
 mul-slot : tie.Need-mul-slot Inv-loop μ-loop
 mul-slot c = omega (arith, c .before .before .pre .0 .few-sources)
@@ -48,10 +45,15 @@ loop-less : tie.Need-loop-less Inv-loop μ-loop
 loop-less c = search needs
 
 loop-again : tie.Need-loop-again Inv-loop μ-loop
-loop-again c = let L = c .before .before .before .before .loop in let S = c .before .before .before .before .before in let d = S .args .t1 in let t = S .args .t in (omega arith, length-set (L .gaps) (L .u) (c .wide .result) ∙ L .inv .1, stored (λ k x. x ≡ spacingOf d t (33 + k)) 0 (L .gaps) (L .u) (c .wide .result) (omega (arith, L .inv .1, S .pre .0 .few-sources)) (L .inv .2) (c .wide .ensures ∙ c .before .spacing-at .ensures ∙ gap-place d t (L .u)))
+loop-again c =
+    let L = c .before .before .before .before .loop in
+    let S = c .before .before .before .before .before in
+    (omega arith, gaps-more (S .args .t1) (S .args .t) (L .gaps) (L .u) (c .wide .result) (S .pre .0) (omega arith) (c .wide .ensures ∙ c .before .spacing-at .ensures ∙ gap-place (S .args .t1) (S .args .t) (L .u)) (L .inv .1))
 
 returns : tie.Need-returns Inv-loop μ-loop
-returns c = λ u p. c .before .loop .inv .2 u (omega (arith, c .loop-test .left))
+returns c =
+    let L = c .before .loop in
+    record { at = λ u p. L .inv .1 .at u (omega (arith, c .loop-test .left)); most = L .inv .1 .most }
 
 pub gaps-at-spec : {M : Type 1} → statement M
 gaps-at-spec =

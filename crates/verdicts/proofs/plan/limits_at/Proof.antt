@@ -2,12 +2,10 @@
 use Prim.Native.Nat.{ℕ, _≤_, _<_, _+_, _-_, max}
 use mathlib.Core.Path.{_≡_, refl, sym, ap, _∙_}
 use native.Mathlib.Omega.{arith}
-use lib.ListN.{length, getD, set, replicate, getD-replicate, List·getD-eq-default}
 use borrow.Author.Needs.{needs}
 use Rattle.model.specs.Graph.{linkAt}
-use Rattle.theory.proofs.Tests.{Cmp, less, same, more, cmp}
 use Rattle.verdicts.specs.Plan.{limitBy}
-use Rattle.verdicts.proofs.PlanLaws.{LimitsTo, limits-more, limits-done, from-most, to-most}
+use Rattle.verdicts.proofs.PlanLaws.{zeros-most, LimitsTo, limits-more, limits-done, from-most, to-most}
 use Rattle.verdicts.proofs.plan.limits_at.Statement.{statement}
 use Rattle.verdicts.proofs.plan.limits_at.Tie as tie
 use Rattle.verdicts.proofs.plan.limits_at.Reads as reads
@@ -22,14 +20,8 @@ Inv-loop gaps d limits₀ l₀ limits l = (l ≤ d .«link_count») × LimitsTo 
 abbrev μ-loop : tie.MeasureT-loop
 μ-loop gaps d limits₀ l₀ limits l = d .«link_count» - l
 
--- nothing is filled in yet
-none : (j : ℕ) → Cmp j 32 → getD (replicate 32 0) j 0 ≤ 1000000000
-none j (less p) = rw (getD-replicate {A = ℕ} 32 j 0 0 p) (omega arith)
-none j (same p) = rw (List·getD-eq-default {A = ℕ} (replicate 32 0) 0 {n = j} (omega arith)) (omega arith)
-none j (more p) = rw (List·getD-eq-default {A = ℕ} (replicate 32 0) 0 {n = j} (omega arith)) (omega arith)
-
 loop-holds : tie.Need-loop-holds Inv-loop μ-loop
-loop-holds c = (omega arith, record { sized = refl; covers = λ l p. absurd (omega arith); most = λ j. none j (cmp j 32) })
+loop-holds c = (omega arith, record { sized = refl; covers = λ l p. absurd (omega arith); most = zeros-most 32 })
 
 mul-link : tie.Need-mul-link Inv-loop μ-loop
 mul-link c = omega (arith, c .before .before .pre .0 .few-links)

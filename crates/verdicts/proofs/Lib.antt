@@ -3,3 +3,4 @@ pub mod WalkLaws
 pub mod PlanLaws
 pub mod DecideLaws
 pub mod TableLaws
+pub mod CallLaws

@@ -34,6 +34,7 @@ zeros-most n j = go (cmp j n)
   where
     past : n ≤ j → getD (replicate n 0) j 0 ≤ 1000000000
     past p = rw (List·getD-eq-default {A = ℕ} (replicate n 0) 0 {n = j} (omega (arith, length-replicate {A = ℕ} n 0))) (omega arith)
+
     go : Cmp j n → getD (replicate n 0) j 0 ≤ 1000000000
     go (less p) = rw (getD-replicate {A = ℕ} n j 0 0 p) (omega arith)
     go (same p) = past (omega arith)
@@ -51,8 +52,9 @@ gaps-more d t gaps n v g h e r =
       sized = length-set gaps n v ∙ r .sized;
       at = stored (λ k x. x ≡ spacingOf d t (33 + k)) 0 gaps n v (omega (arith, r .sized, g .few-sources)) (r .at) e;
       most = λ j. at-or-not (λ i. getD (set gaps n v) i 0 ≤ 1000000000) n j
-        (rw (getD-set-same gaps n v 0 (omega (arith, r .sized, g .few-sources)), e) (gap-most d g (33 + n) (omega arith) (omega arith) t))
-        (λ ne. rw (getD-set-other gaps n j v 0 ne) (r .most j)) }
+          (rw (getD-set-same gaps n v 0 (omega (arith, r .sized, g .few-sources)), e) (gap-most d g (33 + n) (omega arith) (omega arith) t))
+          (λ ne. rw (getD-set-other gaps n j v 0 ne) (r .most j));
+    }
 
 -- the ends of a link of an accepted description
 pub from-most : (d : Description) → WellFormed d → (l : ℕ) → l < d .«link_count» → linkAt d l .from < 49

@@ -9,19 +9,20 @@ use lib.ListN.{length, getD}
 use lib.Dec.{eqb, ltb}
 use borrow.Author.Tests.{eq-eqb, eqb-false, lt-ltb, le-ltb, ltb-true, ltb-false}
 use Rattle.model.specs.declared.Link.{Link}
+use Rattle.model.specs.declared.Row.{Row}
 use Rattle.model.specs.declared.Description.{Description}
 use Rattle.model.specs.declared.Verdict.{Verdict}
 use Rattle.model.specs.declared.Verdict.the-variants.{Free, HeldOrder, DoubtOrder, Held, Doubt}
 use Rattle.model.specs.declared.VerdictSlot.{VerdictSlot}
 use Rattle.model.specs.Basics.{sumN, topN, tab, allN}
 use Rattle.model.specs.Graph.{System, system, linkAt, linked}
-use Rattle.model.specs.Loads.{load}
+use Rattle.model.specs.Loads.{load, sheet}
 use Rattle.model.specs.Delays.{startOf, roundOf, spacings, spacingOf, settle}
 use Rattle.model.specs.Order.{inOrder}
 use Rattle.model.specs.Verdicts.{sourceVerdict, orderVerdict, verdictOf, verdictAt, doubtful, allHeld, slotAt, freeSlot}
 use Rattle.theory.proofs.Tests.{Cmp, less, same, more, cmp}
 use Rattle.theory.proofs.Range.{sumN-cong, topTo-le, all-cong}
-use Rattle.theory.proofs.Table.{tab-cong}
+use Rattle.theory.proofs.Table.{tab-cong, getD-tab}
 use Rattle.theory.proofs.WellFormed.{WellFormed, Shaped, Loaded, IsTask, IsSource}
 use Rattle.theory.proofs.Fielded.{shaped}
 use Rattle.theory.proofs.LoadLaws.{loaded}
@@ -32,7 +33,7 @@ use Rattle.theory.proofs.Levels.{sum-shift, reachOf, levelReach, level-verdict}
 use Rattle.theory.proofs.Walk.{in-order-alike}
 use Rattle.verdicts.specs.Level.{Level, roundIn, reachIn}
 use Rattle.verdicts.specs.Matrix.{linkIn, matrixSystem, LinksOf}
-use Rattle.verdicts.specs.Plan.{entry, SheetOf, LevelsOf, StartsOf, OrdersOf, GapsOf, LimitsOf, ReachesOf, orderBy}
+use Rattle.verdicts.specs.Plan.{entry, noLoads, SheetOf, LevelsOf, StartsOf, OrdersOf, GapsOf, LimitsOf, ReachesOf, orderBy, Tables}
 use Rattle.verdicts.specs.Decide.{verdictBy, gapBy, byTables, slotBy}
 use Rattle.verdicts.proofs.PlanLaws.{from-some, to-most}
 
@@ -50,6 +51,15 @@ top-cong f g zero h = refl
 top-cong f g (suc n) h =
     let e : 0 + n ≡ n = omega arith in
     rw (top-cong f g n (λ k p. h k (omega arith)), e, h n (omega arith))
+
+-- the table made of the rows of a load sheet
+pub sheet-of : (d : Description) (rows : List Row) (t : List (List ℕ)) → rows ≡ sheet (system d) → ((i j : ℕ) → i < 48 → entry t i j ≡ getD (getD rows i noLoads .loads) j 0) → SheetOf d t
+unfolding sheet
+sheet-of d rows t e h i j p q =
+    h i j p
+    ∙ ap (λ (x : List Row). getD (getD x i noLoads .loads) j 0) e
+    ∙ ap (λ (x : Row). getD (x .loads) j 0) (getD-tab 48 (λ r. let x : Row = record { loads = tab 32 (λ c. load (system d) (suc r) (suc c)) } in x) noLoads i p)
+    ∙ getD-tab 32 (λ c. load (system d) (suc i) (suc c)) 0 j q
 
 -- the starts that the sheet's columns give
 pub starts-of : (d : Description) (t : List (List ℕ)) (starts : List ℕ) → SheetOf d t → ((j : ℕ) → j < 32 → getD starts j 0 ≡ topN (λ k. entry t k j) 0 j) → StartsOf d starts
@@ -83,7 +93,7 @@ module _ (d : Description) (g : WellFormed d) where
   unfolding orderBy system
   orders-of links orders m h l p q e =
       h l p ∙ rw (eq-eqb (linkAt d l .critical) 1 e, lt-ltb (linkAt d l .from) 33 q)
-        (in-order-alike (matrixSystem links) (system d) m (linkAt d l .from) (linkAt d l .to) (from-some d g l p))
+      (in-order-alike (matrixSystem links) (system d) m (linkAt d l .from) (linkAt d l .to) (from-some d g l p))
 
   module _ (t : ℕ) (low : 200 ≤ t) (high : t ≤ 3000) (gaps : List ℕ) (z : GapsOf d t gaps) where
     sp : (u : ℕ) → u < d .«source_count» → 1 ≤ getD gaps u 0
@@ -97,15 +107,16 @@ module _ (d : Description) (g : WellFormed d) where
           start-most = rw (b j (omega (arith, g .few-tasks))) (start-light j);
           load-most = λ u q. rw (a j u (omega (arith, g .few-tasks)) (omega (arith, g .few-sources))) (light (33 + u) (suc j) (omega arith));
           gap-some = sp;
-          gap-most = λ u q. z .most u }
+          gap-most = λ u q. z .most u;
+        }
 
     -- a round over the tables is a round
     round-is : (levels : List (List ℕ)) (starts : List ℕ) → LevelsOf d levels → StartsOf d starts → (j : ℕ) → j < d .«task_count» → (D : ℕ) → roundIn (getD starts j 0) (getD levels j []) gaps (d .«source_count») D ≡ roundOf (system d) (spacingOf d t) (suc j) D
     unfolding roundIn roundOf system
     round-is levels starts a b j p D =
         rw (b j (omega (arith, g .few-tasks)), sum-shift (λ u. load (system d) u (suc j) * spacings D (spacingOf d t u)) 33 (d .«source_count»))
-          (ap (λ x. startOf (system d) (suc j) + x)
-            (sumN-cong _ _ 0 (d .«source_count») (λ u q r. term u (omega arith))))
+        (ap (λ x. startOf (system d) (suc j) + x)
+        (sumN-cong _ _ 0 (d .«source_count») (λ u q r. term u (omega arith))))
       where
         term : (u : ℕ) → u < d .«source_count» → getD (getD levels j []) u 0 * spacings D (getD gaps u 0) ≡ load (system d) (33 + u) (suc j) * spacings D (spacingOf d t (33 + u))
         term u q = rw (a j u (omega (arith, g .few-tasks)) (omega (arith, g .few-sources)), z .at u q)
@@ -146,10 +157,12 @@ module _ (d : Description) (g : WellFormed d) where
         where
           k : Link
           k = linkAt d l
+
           one : eqb (k .critical) 0 ≡ false → k .critical ≡ 1
           one e = omega (arith, eqb-false (k .critical) 0 e, g .link-critical l p)
+
           go : (a : Bool) → eqb (k .critical) 0 ≡ a → (b : Bool) → ltb (k .from) 33 ≡ b
-            → cond a Free (cond b (cond (getD orders l false) HeldOrder DoubtOrder) (cond (ltb (getD reaches (k .to - 1) 0) (cond b 0 (getD gaps (k .from - 33) 0))) (Held (getD reaches (k .to - 1) 0) (cond b 0 (getD gaps (k .from - 33) 0))) (Doubt (cond b 0 (getD gaps (k .from - 33) 0)))))
+              → cond a Free (cond b (cond (getD orders l false) HeldOrder DoubtOrder) (cond (ltb (getD reaches (k .to - 1) 0) (cond b 0 (getD gaps (k .from - 33) 0))) (Held (getD reaches (k .to - 1) 0) (cond b 0 (getD gaps (k .from - 33) 0))) (Doubt (cond b 0 (getD gaps (k .from - 33) 0)))))
               ≡ cond a Free (cond b (cond (inOrder (system d) (k .from) (k .to)) HeldOrder DoubtOrder) (sourceVerdict (system d) (spacingOf d t) (k .from) (k .to)))
           go true e b f = refl
           go false e true f = ap (λ (x : Bool). cond x HeldOrder DoubtOrder) (o l p (ltb-true (k .from) 33 f) (one e))
@@ -166,3 +179,16 @@ module _ (d : Description) (g : WellFormed d) where
           go : (l : ℕ) (b : Bool) → ltb l (d .«link_count») ≡ b → cond b (let x : VerdictSlot = record { verdict = byTables (getD orders l false) gaps reaches (linkAt d l) } in x) freeSlot ≡ cond b (let x : VerdictSlot = record { verdict = verdictAt d t l } in x) freeSlot
           go l true e = ap (λ (v : Verdict). let x : VerdictSlot = record { verdict = v } in x) (by-tables l (ltb-true l (d .«link_count») e))
           go l false e = refl
+
+-- what the loops over the tables give is what is defined
+module _ (d : Description) (g : WellFormed d) (levels : List (List ℕ)) (starts : List ℕ) (orders : List Bool) (tables : Tables d levels starts orders) (t : ℕ) (low : 200 ≤ t) (high : t ≤ 3000)
+    (gaps : List ℕ) (z : GapsOf d t gaps) (limits : List ℕ) (m : LimitsOf d gaps limits) (reaches : List ℕ)
+    (r : (j : ℕ) → j < d .«task_count» → getD reaches j 0 ≡ reachIn (getD starts j 0) (getD levels j []) gaps (d .«source_count») (getD limits j 0)) where
+  reaches-are : ReachesOf d t limits reaches
+  reaches-are j p = r j p ∙ reach-is d g t low high gaps z levels starts (tables .by-level) (tables .by-start) j (getD limits j 0) p
+
+  pub held-by : allN (λ l. not (doubtful (byTables (getD orders l false) gaps reaches (linkAt d l)))) 0 (d .«link_count») ≡ allHeld d t
+  held-by = all-by-tables d g t low high gaps z orders (tables .by-order) limits m reaches reaches-are
+
+  pub slots-by : tab 256 (slotBy d orders gaps reaches) ≡ tab 256 (slotAt d t)
+  slots-by = slots-by-tables d g t low high gaps z orders (tables .by-order) limits m reaches reaches-are

@@ -2,13 +2,16 @@
 use Prim.Native.Nat.{ℕ, suc, _+_, _-_}
 use mathlib.Core.Bool.{Bool, true, false, cond}
 use mathlib.Core.List.{List}
-use lib.ListN.{getD}
+use lib.ListN.{getD, replicate}
 use lib.Dec.{eqb, ltb}
 use Rattle.model.specs.declared.Link.{Link}
 use Rattle.model.specs.declared.Description.{Description}
 use Rattle.model.specs.declared.Verdict.{Verdict}
 use Rattle.model.specs.declared.Verdict.the-variants.{Free, HeldOrder, DoubtOrder, Held, Doubt}
 use Rattle.model.specs.declared.VerdictSlot.{VerdictSlot}
+use Rattle.model.specs.declared.Verdicts.{Verdicts}
+use Rattle.model.specs.declared.Refusal.{Refusal}
+use Rattle.model.specs.declared.Outcome.the-variants.{Refused}
 use Rattle.model.specs.Graph.{linkAt}
 use Rattle.model.specs.Verdicts.{freeSlot}
 
@@ -27,3 +30,7 @@ byTables order gaps reaches l = verdictBy l order (gapBy gaps l) (getD reaches (
 unfoldable pub slotBy : Description → List Bool → List ℕ → List ℕ → ℕ → VerdictSlot
 slotBy d orders gaps reaches l =
     cond (ltb l (d .«link_count»)) (record { verdict = byTables (getD orders l false) gaps reaches (linkAt d l) }) freeSlot
+
+-- beside a refusal every verdict is free
+abbrev pub refusedVerdicts : Refusal → ℕ → Verdicts
+refusedVerdicts r place = record { outcome = Refused r place; slots = replicate 256 freeSlot }

@@ -6,6 +6,7 @@ use mathlib.Core.List.{List, []}
 use lib.ListN.{getD}
 use lib.Dec.{leb, ltb, eqb}
 use Rattle.model.specs.declared.Link.{Link}
+use Rattle.model.specs.declared.Row.{Row}
 use Rattle.model.specs.declared.Description.{Description}
 use Rattle.model.specs.Graph.{System, system, linkAt}
 use Rattle.model.specs.Loads.{load}
@@ -17,6 +18,10 @@ use Rattle.verdicts.specs.Matrix.{matrixSystem}
 -- an entry of a table of rows
 abbrev pub entry : List (List ℕ) → ℕ → ℕ → ℕ
 entry t i j = getD (getD t i []) j 0
+
+-- past the last row
+abbrev pub noLoads : Row
+noLoads = record { loads = [] }
 
 -- the load sheet: row i is node i + 1, column j task j + 1
 abbrev pub SheetOf : Description → List (List ℕ) → Type 0
@@ -55,3 +60,9 @@ ReachesOf d t limits reaches = (j : ℕ) → j < d .«task_count» → getD reac
 -- whether a critical link between tasks is in order over a matrix of links; false for any other link
 unfoldable pub orderBy : List Bool → Link → Bool
 orderBy links l = cond (eqb (l .critical) 1 && ltb (l .from) 33) (inOrder (matrixSystem links) (l .from) (l .to)) false
+
+-- the tables that do not depend on the tempo
+pub record Tables (d : Description) (levels : List (List ℕ)) (starts : List ℕ) (orders : List Bool) : Type 0 where
+  pub by-level : LevelsOf d levels
+  pub by-start : StartsOf d starts
+  pub by-order : OrdersOf d orders

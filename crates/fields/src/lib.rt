@@ -12,16 +12,15 @@ use model::Source;
 use model::SourceSlot;
 use model::Taken;
 ghost use mathlib.Core.Path.{_≡_};
-ghost use mathlib.Core.Bool.{true, false, _||_};
-ghost use Prim.Native.Nat.{_+_, _-_, _*_, _≤_, _<_};
+ghost use mathlib.Core.Bool.{true, _||_};
+ghost use Prim.Native.Nat.{_+_, _≤_, _<_};
 ghost use lib.Dec.{ltb};
 ghost use mathlib.Core.List.{_∷_, []};
 ghost use lib.ListN.{length, getD};
 ghost use lib.Seq.{sets};
 ghost use Rattle.model.specs.Field.{bytesOf, numberIn, bodyLength, fieldIn, takeField, inTurn, hasRoom, onScale, hasEnds, isTask, isSource, checkField, passed, fieldOf, fieldBytes};
-ghost use Rattle.model.specs.declared.Check.the-variants.{Fine};
 ghost use Rattle.model.specs.Refusals.{blank};
-ghost use Rattle.model.specs.File.{parseFile, fileOf, fillWith, filledBy, overfull};
+ghost use Rattle.model.specs.File.{parseFile, fileOf, fillWith, filledBy};
 ghost use Rattle.fields.specs.Steps.{checkedTaken, stoppedAt, unfitAt, recordChecks};
 
 // The byte at a place.

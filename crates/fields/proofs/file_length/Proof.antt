@@ -1,5 +1,6 @@
+-- `fields::file_length` meets its contract. The loop's invariant: the sum is where field k begins. The measure is the number of fields left. Assumes nothing.
 use borrow.Author.Needs.{needs}
-use Prim.Native.Nat.{ℕ, suc, _≤_, _<_, _-_, _+_}
+use Prim.Native.Nat.{_≤_, _-_}
 use mathlib.Core.Path.{_≡_, sym, ap, _∙_}
 use native.Mathlib.Omega.{arith}
 use native.Mathlib.Numerals.{add-one}
@@ -10,10 +11,6 @@ use Rattle.theory.proofs.FieldLaws.{length-field, body-most}
 use Rattle.theory.proofs.FileLength.{offset-none, offset-most}
 use Rattle.fields.proofs.file_length.Statement.{statement}
 use Rattle.fields.proofs.file_length.Tie as tie
-use Rattle.fields.proofs.file_length.Reads as reads
-use Rattle.fields.proofs.file_length.Lts as lts
-use Rattle.fields.proofs.field_length.Reads as field-length-reads
-use Rattle.fields.proofs.field_of.Reads as field-of-reads
 
 abbrev Inv-loop : tie.InvT-loop
 Inv-loop d count n₀ k₀ n k = (k ≤ fieldCount d) × (n ≡ offset d k)
@@ -21,42 +18,33 @@ Inv-loop d count n₀ k₀ n k = (k ≤ fieldCount d) × (n ≡ offset d k)
 abbrev μ-loop : tie.MeasureT-loop
 μ-loop d count n₀ k₀ n k = fieldCount d - k
 
--- src/lib.rt:477:17
 add-count : tie.Need-add-count Inv-loop μ-loop
 add-count c = search needs
 
--- src/lib.rt:477:17
 add-count-2 : tie.Need-add-count-2 Inv-loop μ-loop
 add-count-2 c = search needs
 
--- src/lib.rt:480:5
 loop-holds : tie.Need-loop-holds Inv-loop μ-loop
 loop-holds c = (omega arith, sym (offset-none (c .before .before .args .d)))
 
--- src/lib.rt:481:13
 field-of-requires : tie.Need-field-of-requires Inv-loop μ-loop
 field-of-requires c κs = let w = (c .before .before .before .before .pre) in (w .0, w .1, w .2, (c .loop-test .taken))
 
--- src/lib.rt:482:14
 field-length-requires : tie.Need-field-length-requires Inv-loop μ-loop
 field-length-requires c κs = search needs
 
--- src/lib.rt:482:9
 add-n : tie.Need-add-n Inv-loop μ-loop
 add-n c =
     let f = (c .before .field-of .result) in
     omega
     (arith, (c .before .before .before .loop .inv .1), offset-most (c .before .before .before .before .before .before .args .d) (c .before .before .before .loop .k), c .field-length .ensures, length-field f, body-most f, (c .before .before .loop-test .taken), (c .before .before .before .before .before .before .pre))
 
--- src/lib.rt:483:9
 add-k : tie.Need-add-k Inv-loop μ-loop
 add-k c = omega (arith, (c .before .before .loop-test .taken), (c .before .before .before .before .before .before .pre))
 
--- src/lib.rt:480:5
 loop-less : tie.Need-loop-less Inv-loop μ-loop
 loop-less c = search needs
 
--- src/lib.rt:480:5
 loop-again : tie.Need-loop-again Inv-loop μ-loop
 loop-again c =
     let d = (c .before .before .before .before .before .before .args .d) in
@@ -65,7 +53,6 @@ loop-again c =
       rw (add-one k, offset-more d k, ← (c .before .field-of .ensures)) (omega (arith, (c .before .before .before .loop .inv .1), c .field-length .ensures)),
     )
 
--- src/lib.rt:473:1
 returns : tie.Need-returns Inv-loop μ-loop
 unfolding fileOf
 returns c =

@@ -1,7 +1,9 @@
+-- `fields::put_file` meets its contract. The loop's invariant: the buffer is the lent one with the first k fields written over its front. The measure is the number of
+-- fields left. Assumes nothing.
 use borrow.Author.Needs.{needs}
 use borrow.Author.Tests.{lt-ltb, le-ltb}
-use Prim.Native.Nat.{ℕ, suc, _≤_, _<_, _-_, _+_}
-use mathlib.Core.Path.{_≡_, refl, sym, ap, _∙_}
+use Prim.Native.Nat.{suc, _≤_, _-_, _+_}
+use mathlib.Core.Path.{_≡_, refl, sym, _∙_}
 use native.Mathlib.Omega.{arith}
 use native.Mathlib.Numerals.{add-one}
 use lib.ListN.{length}
@@ -13,12 +15,6 @@ use Rattle.theory.proofs.FileLength.{offset-none}
 use Rattle.fields.proofs.Pages.{pageOf, page-long, page-none, page-more, page-all}
 use Rattle.fields.proofs.put_file.Statement.{statement}
 use Rattle.fields.proofs.put_file.Tie as tie
-use Rattle.fields.proofs.put_file.Reads as reads
-use Rattle.fields.proofs.put_file.Lts as lts
-use Rattle.fields.proofs.field_length.Reads as field-length-reads
-use Rattle.fields.proofs.field_of.Reads as field-of-reads
-use Rattle.fields.proofs.file_length.Reads as file-length-reads
-use Rattle.fields.proofs.put_field.Reads as put-field-reads
 
 abbrev Inv-loop : tie.InvT-loop
 Inv-loop d out₀ n count at₀ k₀ out at k =
@@ -39,56 +35,44 @@ room c =
     omega
     (arith, (c .before .loop .inv .1), offset-more d k, offset-le d (suc k) (fieldCount d) (c .loop-test .taken), (c .before .before .before .before .before .file-length .ensures), (c .before .before .before .before .if1 .left), long (c .before))
 
--- src/lib.rt:493:9
 file-length-requires : tie.Need-file-length-requires Inv-loop μ-loop
 file-length-requires c κs = search needs
 
--- src/lib.rt:495:9
 returns : tie.Need-returns Inv-loop μ-loop
 unfolding fillWith filledBy
 returns c = rw (← (c .before .file-length .ensures), lt-ltb _ _ (c .if1 .taken)) (refl, refl)
 
--- src/lib.rt:497:17
 add-count : tie.Need-add-count Inv-loop μ-loop
 add-count c = omega (arith, (c .before .before .before .before .pre))
 
--- src/lib.rt:497:17
 add-count-2 : tie.Need-add-count-2 Inv-loop μ-loop
 add-count-2 c = omega (arith, (c .before .before .before .before .before .pre))
 
--- src/lib.rt:500:5
 loop-holds : tie.Need-loop-holds Inv-loop μ-loop
 loop-holds c = (omega arith, sym (offset-none (c .before .before .before .before .before .args .d)), page-none (c .before .before .before .before .before .args .d) (c .before .before .before .before .before .args .out .now))
 
--- src/lib.rt:501:13
 field-of-requires : tie.Need-field-of-requires Inv-loop μ-loop
 field-of-requires c κs = let w = (c .before .before .before .before .before .before .before .pre) in (w .0, w .1, w .2, (c .loop-test .taken))
 
--- src/lib.rt:502:9
 put-field-requires : tie.Need-put-field-requires Inv-loop μ-loop
 put-field-requires c κs =
     let r = room (c .before .before) in
     omega (arith, rw (← (c .before .field-of .ensures)) at r)
 
--- src/lib.rt:503:15
 field-length-requires : tie.Need-field-length-requires Inv-loop μ-loop
 field-length-requires c κs = search needs
 
--- src/lib.rt:503:9
 add-at : tie.Need-add-at Inv-loop μ-loop
 add-at c =
     let r = room (c .before .before .before .before .before .before) in
     omega (arith, rw (← (c .before .before .before .before .before .field-of .ensures)) at r, c .field-length .ensures, long (c .before .before .before .before .before .before .before), (c .before .before .before .before .before .before .before .before .before .before .before .before .before .good .1 .0 .0))
 
--- src/lib.rt:504:9
 add-k : tie.Need-add-k Inv-loop μ-loop
 add-k c = omega (arith, (c .before .before .before .before .before .before .loop-test .taken), (c .before .before .before .before .before .before .before .before .before .before .before .before .before .pre))
 
--- src/lib.rt:500:5
 loop-less : tie.Need-loop-less Inv-loop μ-loop
 loop-less c = omega (arith, (c .before .before .before .before .before .before .loop-test .taken))
 
--- src/lib.rt:500:5
 loop-again : tie.Need-loop-again Inv-loop μ-loop
 loop-again c =
     let d = (c .before .before .before .before .before .before .before .before .before .before .before .before .before .args .d) in
@@ -99,11 +83,9 @@ loop-again c =
       (c .before .before .before .put-field .ensures) ∙ page-more d (c .before .before .before .before .before .before .before .before .before .before .before .before .before .args .out .now) (L .k) (L .out) (L .at) (f .result) (L .inv .2) (L .inv .1) (f .ensures),
     )
 
--- src/lib.rt:489:1
 same-length : tie.Need-same-length Inv-loop μ-loop
 same-length c = long (c .before)
 
--- src/lib.rt:489:1
 returns-2 : tie.Need-returns-2 Inv-loop μ-loop
 unfolding fillWith filledBy
 returns-2 c =

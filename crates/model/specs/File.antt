@@ -1,10 +1,12 @@
 -- "The description file" as a whole: its bytes, its reading, acceptance, and the judging of a record.
-use Prim.Native.Nat.{ℕ, zero, suc, _+_, _-_}
+use Prim.Native.Nat.{ℕ, zero, suc, _+_, _-_, _^_, _<_}
 use mathlib.Core.Bool.{Bool, true, false, cond, _||_}
 use mathlib.Core.List.{List, [], _∷_, _++_}
 use mathlib.Core.Path.{_≡_}
 use lib.ListN.{length, getD, take, drop, replicate}
 use lib.Dec.{eqb, ltb}
+use Rattle.model.specs.declared.Source.{Source}
+use Rattle.model.specs.declared.Source.the-variants.{Fixed, Paced}
 use Rattle.model.specs.declared.Description.{Description}
 use Rattle.model.specs.declared.Field.{Field}
 use Rattle.model.specs.declared.Link.{Link}
@@ -25,6 +27,15 @@ use Rattle.model.specs.Refusals.{blank, noLink, noSource, onDone}
 use Rattle.model.specs.Field.{fieldBytes, takeField, checkField, withField, passed, noProgress, fieldOf, fieldCount}
 use Rattle.model.specs.Graph.{System, system, cyclic}
 use Rattle.model.specs.Loads.{tooHeavy, sheet, noRow}
+
+-- the numbers of a record below its counts fit the widths that its type and the file have for them; of links the bytes are given
+abbrev pub SourceFits : Source → Type 0
+SourceFits (Fixed m) = m < 2 ^ 32
+SourceFits (Paced p) = p < 2 ^ 16
+
+pub record Widths (d : Description) : Type 0 where
+  pub run-width : (k : ℕ) → k < d .«task_count» → getD (d .runs) k 0 < 2 ^ 32
+  pub source-width : (k : ℕ) → k < d .«source_count» → SourceFits (getD (d .sources) k noSource .source)
 
 -- the bytes of a description: "fields follow each other without gaps"
 unfoldable pub fileOf : Description → List ℕ

@@ -55,8 +55,9 @@ visit (suc n) s j x w =
     ])
     (meet x w))))
 
+-- deeper than there are tasks
 unfoldable pub walk : System → ℕ → ℕ → Walk
-walk s i j = visit (suc (suc (s .tasks))) s j i (record { failed = 0; met = replicate 32 false })
+walk s i j = visit 34 s j i (record { failed = 0; met = replicate 32 false })
 
 unfoldable pub inOrder : System → ℕ → ℕ → Bool
 inOrder s i j = eqb (walk s i j .failed) 0

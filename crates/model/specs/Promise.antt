@@ -11,6 +11,7 @@ use Rattle.model.specs.declared.Machine.{Machine}
 use Rattle.model.specs.declared.Ticked.{Ticked}
 use Rattle.model.specs.declared.Quote.the-variants.{Tempo}
 use Rattle.model.specs.Graph.{linkAt}
+use Rattle.model.specs.File.{Widths}
 use Rattle.model.specs.Verdicts.{quoteOf, verdictAt, delayIn}
 use Rattle.model.specs.Machine.{idle, plainTick, droppedAt}
 use Rattle.model.specs.History.{Call, Tick, answers, left, ticks, fires, tickAt, Dropped, waitOf}
@@ -42,7 +43,7 @@ pub record Assured (d : Description) (q t : ℕ) (cs : List Call) (rs : List Tic
       → x < length (ticks d t (idle d t) cs) → fires (tickAt (ticks d t (idle d t) cs) x) (linkAt d l .from) ≡ true
       → waitOf (ticks d t (idle d t) cs) (linkAt d l .to) x ≤ delayIn (verdictAt d q l)
 
--- Demand 3: for one accepted file that has a quote, one tempo from 200 to that quote, and every list of calls from the start
+-- Demand 3: for one accepted file that has a quote (given as a record whose numbers fit their types), one tempo from 200 to that quote, and every list of calls from the start
 abbrev pub Demand3 : Type 0
 Demand3 = (d : Description) (q t : ℕ) (cs : List Call) (rs : List Ticked) (m : Machine)
-    → quoteOf d ≡ Tempo q → 200 ≤ t → t ≤ q → Calls d t (idle d t) cs rs m → Assured d q t cs rs m
+    → Widths d → quoteOf d ≡ Tempo q → 200 ≤ t → t ≤ q → Calls d t (idle d t) cs rs m → Assured d q t cs rs m

@@ -21,13 +21,10 @@ use Rattle.model.specs.declared.Taken.{Taken}
 use Rattle.model.specs.declared.Taken.the-variants.{Whole, Broken, End}
 use Rattle.model.specs.Field.{bytesOf, numberIn, tagOf, bodyLength, bodyOf, fieldBytes, fieldIn, takeField}
 use Rattle.theory.proofs.Tests.{or-false, or-false-left, or-false-right}
+pub use Rattle.model.specs.File.{SourceFits}
 use Rattle.theory.proofs.NumberBytes.{Bytes, length-bytesOf, number-bytes, number-fits, bytes-number, number-same}
 
 -- the numbers of a field fit the widths that its body has for them
-abbrev pub SourceFits : Source → Type 0
-SourceFits (Fixed m) = m < 2 ^ 32
-SourceFits (Paced p) = p < 2 ^ 16
-
 abbrev pub FieldFits : Field → Type 0
 FieldFits (OfTask e) = e < 2 ^ 32
 FieldFits (OfSource s) = SourceFits s

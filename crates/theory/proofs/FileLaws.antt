@@ -21,6 +21,7 @@ use Rattle.model.specs.Field.{fieldOf, fieldCount, isTask, isSource, onScale}
 use Rattle.model.specs.File.{fileOf, parseFile, lastChecks, finished, readFile, overfull, judge}
 use Rattle.theory.proofs.Tests.{or-new, or-cases, and-left, and-right}
 use Rattle.theory.proofs.WellFormed.{WellFormed, IsTask, IsSource, rises}
+use Rattle.theory.proofs.Fielded.{Fielded, well-formed}
 use Rattle.theory.proofs.RecordLaws.{Widths, copyAt, progressAt, read-start, field-task, field-source, field-link}
 use Rattle.theory.proofs.RecordState.{lastFrom, lastTo, progress-tasks, progress-sources, progress-links, copy-links}
 use Rattle.theory.proofs.JudgeLaws.{Passes, fine-passes, Checked, all-checked, LastPasses, last-passes, read-parsed, read-last, Few, few-counts, judge-few, judge-read, copy-system}
@@ -55,7 +56,12 @@ is-source n i e =
     let h = leb-true i (32 + n) (and-right (leb 33 i) (leb i (32 + n)) e) in
     (leb-true 33 i (and-left (leb 33 i) (leb i (32 + n)) e), omega arith)
 
-module _ (d : Description) (j : Judged d) where
+-- the counts are within their limits, and every field passes its check
+pub record FieldsPass (d : Description) : Type 0 where
+  pub few : Few d
+  pub passes : (k : ℕ) → k < fieldCount d → Passes (progressAt d k) (fieldOf d k)
+
+module _ (d : Description) (j : FieldsPass d) where
   task-passes : (k : ℕ) → k < d .«task_count» → Passes (record { tasks = k; sources = 0; links = 0; from = 0; to = 0 }) (OfTask (getD (d .runs) k 0))
   task-passes k h = rw (progress-tasks d k (omega arith), field-task d k h) at (j .passes k (omega arith))
 
@@ -65,10 +71,9 @@ module _ (d : Description) (j : Judged d) where
   link-passes : (l : ℕ) → l < d .«link_count» → Passes (record { tasks = d .«task_count»; sources = d .«source_count»; links = l; from = lastFrom d l; to = lastTo d l }) (OfLink (linkAt d l))
   link-passes l h = rw (progress-links d l, field-link d l) at (j .passes (d .«task_count» + d .«source_count» + l) (omega arith))
 
-  judged-well-formed : WellFormed d
+  pub pass-fielded : Fielded d
   unfolding system
-  judged-well-formed = record {
-    some-task = judged-some d j;
+  pass-fielded = record {
     few-tasks = j .few .tasks;
     few-sources = j .few .sources;
     few-links = j .few .links;
@@ -82,9 +87,19 @@ module _ (d : Description) (j : Judged d) where
     link-to = λ l h. is-task (d .«task_count») (linkAt d l .to) (and-right (isTask (d .«task_count») (linkAt d l .from) || isSource (d .«source_count») (linkAt d l .from)) _ (link-passes l h .ends));
     link-critical = λ l h. leb-true (linkAt d l .critical) 1 (link-passes l h .scale);
     link-rises = λ l h. or-new (eqb (suc l) 0) (rises (linkAt d l) (linkAt d (suc l))) (eqb·suc-zero l) (link-passes (suc l) h .turn);
-    no-cycle = rw (copy-system d (j .few) (judged-some d j)) at (j .last .no-loop);
-    not-heavy = rw (copy-system d (j .few) (judged-some d j)) at (j .last .light);
   }
+
+judged-well-formed : (d : Description) → Judged d → WellFormed d
+judged-well-formed d j =
+    well-formed (pass-fielded d (record { few = j .few; passes = j .passes })) (judged-some d j)
+    (rw (copy-system d (j .few) (judged-some d j)) at (j .last .no-loop))
+    (rw (copy-system d (j .few) (judged-some d j)) at (j .last .light))
+
+-- a record whose counts and fields are accepted has good fields
+pub record-fielded : (d : Description) → Widths d → overfull d ≡ false → parseFile (fileOf d) .outcome ≡ Done → Fielded d
+record-fielded d w o e =
+    let c : Checked d (suc (length (fileOf d))) 0 = all-checked d w (suc (length (fileOf d))) 0 (omega arith) (omega arith) (rw (read-start d) at e) in
+    pass-fielded d (record { few = few-counts d o; passes = λ k h. fine-passes (progressAt d k) (fieldOf d k) (c .fine k (omega arith) h) })
 
 -- a description that is judged as done is well formed
 pub judge-well-formed : (d : Description) → Widths d → judge d ≡ Done → WellFormed d

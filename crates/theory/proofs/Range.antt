@@ -241,3 +241,13 @@ all-more p n = rw (add-one, allN, zero-add)
 pub upTo-more : {A : Type 0} (n : ℕ) (step : ℕ → A → A) (a : A) → upTo (n + 1) step a ≡ step n (upTo n step a)
 unfolding upTo
 upTo-more n step a = rw add-one refl
+
+pub top-more : (f : ℕ → ℕ) (n : ℕ) → topN f 0 (n + 1) ≡ max (topN f 0 n) (f n)
+unfolding topN
+top-more f n = rw (add-one, topN, zero-add)
+
+-- steps that do the same in every state come to the same
+pub upTo-alike : {A : Type 0} (n : ℕ) (f g : ℕ → A → A) (a : A) → ((k : ℕ) → k < n → (x : A) → f k x ≡ g k x) → upTo n f a ≡ upTo n g a
+unfolding upTo
+upTo-alike zero f g a h = refl
+upTo-alike (suc n) f g a h = ap (f n) (upTo-alike n f g a (λ k p. h k (omega arith))) ∙ h n (omega arith) (upTo n g a)

@@ -28,7 +28,8 @@ use Rattle.theory.proofs.RecordState.{filled-is, copy-links}
 use Rattle.theory.proofs.JudgeLaws.{Few, copy-system, judge-read, read-parsed, read-last}
 use Rattle.theory.proofs.ReadLaws.{Whence, so-far-start, parse-whence}
 use Rattle.theory.proofs.FileLength.{file-length}
-use Rattle.theory.proofs.FileLaws.{Judged, judge-judged, judge-well-formed}
+use Rattle.theory.proofs.Fielded.{Fielded}
+use Rattle.theory.proofs.FileLaws.{Judged, judge-judged, judge-well-formed, record-fielded}
 
 -- a list that holds no blank entry below n has n entries
 entries : {A : Type 0} (l : List A) (n : ℕ) (z : A) → ((k : ℕ) → k < n → getD l k z ≡ z → ⊥) → n ≤ length l
@@ -110,3 +111,13 @@ accepted-length s b e = rw (read-writes s b e) at (file-length (readFile s .desc
 pub trimmed-system : (d : Description) → WellFormed d → system (trimmed d) ≡ system d
 trimmed-system d w =
     rw (copy-trimmed d w) at (copy-system d (record { tasks = w .few-tasks; sources = w .few-sources; links = w .few-links }) (w .some-task))
+
+-- a file whose fields are all accepted gives a description with good fields
+pub parsed-whence : (s : List ℕ) → Bytes s → parseFile s .outcome ≡ Done → Whence s (parseFile s .description)
+unfolding parseFile
+parsed-whence s b e = parse-whence (suc (length s)) s 0 _ _ b (so-far-start s) e
+
+pub parsed-fielded : (s : List ℕ) → Bytes s → parseFile s .outcome ≡ Done → Fielded (parseFile s .description)
+parsed-fielded s b e =
+    let w : Whence s (parseFile s .description) = parsed-whence s b e in
+    record-fielded (parseFile s .description) (w .widths) (few-not-over (parseFile s .description) (w .few)) (rw (w .file) e)

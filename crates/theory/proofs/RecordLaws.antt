@@ -24,13 +24,9 @@ use Rattle.model.specs.Basics.{joined, upTo}
 use Rattle.model.specs.Refusals.{blank, noLink, noSource}
 use Rattle.model.specs.Field.{fieldBytes, takeField, checkField, withField, passed, noProgress, fieldOf, fieldCount}
 use Rattle.model.specs.File.{fileOf, parseFrom, parseFile, refusedReading}
+pub use Rattle.model.specs.File.{Widths}
 use Rattle.theory.proofs.Tests.{Cmp, less, same, more, cmp}
 use Rattle.theory.proofs.FieldLaws.{SourceFits, FieldFits, take-written}
-
--- the numbers below the counts fit the widths that the file has for them
-pub record Widths (d : Description) : Type 0 where
-  pub run-width : (k : ℕ) → k < d .«task_count» → getD (d .runs) k 0 < 2 ^ 32
-  pub source-width : (k : ℕ) → k < d .«source_count» → SourceFits (getD (d .sources) k noSource .source)
 
 -- the steps of a reading
 pub parse-fine : (n : ℕ) (s : List ℕ) (at : ℕ) (p : Progress) (d : Description) (f : Field) (next : ℕ) → takeField s at ≡ Whole f next → checkField p f ≡ Fine → parseFrom (suc n) s at p d ≡ parseFrom n s next (passed p f) (withField d f)

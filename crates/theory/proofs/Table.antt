@@ -4,8 +4,8 @@ use mathlib.Core.Path.{_≡_, refl, sym, ap, _∙_}
 use mathlib.Core.List.{List, [], _∷_, _++_}
 use native.Mathlib.Omega.{arith}
 use native.Mathlib.Numerals.{add-one}
-use lib.ListN.{length, getD, length-append, List·getD-append}
-use lib.Seq.{ext-getD, getD-at}
+use lib.ListN.{length, getD, set, length-append, List·getD-append}
+use lib.Seq.{ext-getD, getD-at, getD-set-same, getD-set-other}
 use Rattle.model.specs.Basics.{tab, joined}
 use Rattle.theory.proofs.Tests.{Cmp, less, same, more, cmp}
 
@@ -37,3 +37,12 @@ is-tab d n f l e h =
 pub joined-more : {A : Type 0} (n : ℕ) (f : ℕ → List A) → joined (n + 1) f ≡ joined n f ++ f n
 unfolding joined
 joined-more n f = rw add-one refl
+
+-- filling a list from the front: what holds of each place below i, and of the value stored at i, holds of each place below i + 1
+pub stored : {A : Type 0} (P : ℕ → A → Type 0) (d : A) (l : List A) (i : ℕ) (v : A) → i < length l → ((k : ℕ) → k < i → P k (getD l k d)) → P i v → (k : ℕ) → k < i + 1 → P k (getD (set l i v) k d)
+stored P d l i v b h x k p = go (cmp k i)
+  where
+    go : Cmp k i → P k (getD (set l i v) k d)
+    go (less q) = rw (getD-set-other l i k v d (λ e. omega arith)) (h k q)
+    go (same q) = rw (q, getD-set-same l i v d b) x
+    go (more q) = absurd (omega arith)

@@ -1,0 +1,84 @@
+-- Judging and reading put together from the checks of the fields and the checks after the last field. Assumes nothing.
+use Prim.Native.Nat.{ℕ}
+use mathlib.Core.Path.{_≡_, refl, sym, ap, _∙_}
+use mathlib.Core.Bool.{Bool, true, false, cond}
+use mathlib.Core.List.{List}
+use lib.ListN.{replicate}
+use Rattle.model.specs.declared.Description.{Description}
+use Rattle.model.specs.declared.LoadSheet.{LoadSheet}
+use Rattle.model.specs.declared.Outcome.{Outcome}
+use Rattle.model.specs.declared.Outcome.the-variants.{Done, Refused}
+use Rattle.model.specs.declared.Reading.{Reading}
+use Rattle.model.specs.declared.Refusal.{Refusal}
+use Rattle.model.specs.Refusals.{onDone}
+use Rattle.model.specs.Graph.{system}
+use Rattle.model.specs.Loads.{sheet, noRow}
+use Rattle.model.specs.File.{Widths, fileOf, parseFile, lastChecks, readFile, finished, refusedReading, judge, overfull, loadSheet}
+use Rattle.theory.proofs.Tests.{not-both}
+use Rattle.theory.proofs.Fielded.{Fielded}
+use Rattle.theory.proofs.FileLaws.{judge-steps, record-fielded}
+use Rattle.fields.specs.Steps.{recordChecks}
+use Rattle.loads.specs.Tables.{checkedLoads}
+use Rattle.files.specs.Answers.{refusedSheet}
+
+judge-is : (d : Description) → Widths d → judge d ≡ onDone (recordChecks d) (lastChecks d) Refused
+unfolding recordChecks
+judge-is d w = judge-steps d w
+
+-- the fields of a record are refused
+pub sheet-refused : (d : Description) (r : Refusal) (p : ℕ) → Widths d → recordChecks d ≡ Refused r p → refusedSheet (Refused r p) ≡ loadSheet d
+unfolding loadSheet
+sheet-refused d r p w e = rw (judge-is d w, e)
+
+-- the fields are accepted
+pub sheet-checked : (d : Description) → Widths d → recordChecks d ≡ Done → checkedLoads d ≡ loadSheet d
+unfolding loadSheet checkedLoads
+sheet-checked d w e = rw (judge-is d w, e)
+
+pub record-good : (d : Description) → Widths d → recordChecks d ≡ Done → Fielded d
+unfolding recordChecks
+record-good d w e = go (overfull d) refl e
+  where
+    go : (b : Bool) → overfull d ≡ b → cond b (Refused Refusal.TooMany 0) (parseFile (fileOf d) .outcome) ≡ Done → Fielded d
+    go true q f = absurd (let z : _≡_ {A = ℕ} 0 1 = cc in native.Mathlib.Nat.not-suc-le-zero (native.Mathlib.Nat.le-of-eq (sym z)))
+    go false q f = record-fielded d w q f
+
+-- the outcome of a sheet is the judgement
+pub sheet-outcome : (d : Description) → loadSheet d .outcome ≡ judge d
+unfolding loadSheet
+sheet-outcome d = go (judge d)
+  where
+    go : (o : Outcome) → (onDone o (let x : LoadSheet = record { outcome = Done; rows = sheet (system d) } in x) (λ r place. record { outcome = Refused r place; rows = replicate 48 noRow })) .outcome ≡ o
+    go Done = refl
+    go (Refused r place) = refl
+
+checked-outcome : (d : Description) → checkedLoads d .outcome ≡ lastChecks d
+unfolding checkedLoads
+checked-outcome d = go (lastChecks d)
+  where
+    go : (o : Outcome) → (onDone o (let x : LoadSheet = record { outcome = Done; rows = sheet (system d) } in x) (λ r place. record { outcome = Refused r place; rows = replicate 48 noRow })) .outcome ≡ o
+    go Done = refl
+    go (Refused r place) = refl
+
+-- a reading whose fields are refused
+pub read-refused : (s : List ℕ) (r : Refusal) (p : ℕ) → parseFile s .outcome ≡ Refused r p → refusedReading r p ≡ readFile s
+unfolding readFile
+read-refused s r p e = rw e
+
+-- a reading whose fields are accepted goes by the last checks
+read-last : (s : List ℕ) → parseFile s .outcome ≡ Done → finished (parseFile s .description) ≡ readFile s
+unfolding readFile
+read-last s e = rw e
+
+pub read-unchecked : (s : List ℕ) (r : Refusal) (p : ℕ) → parseFile s .outcome ≡ Done → checkedLoads (parseFile s .description) .outcome ≡ Refused r p → refusedReading r p ≡ readFile s
+read-unchecked s r p e q =
+    let f : lastChecks (parseFile s .description) ≡ Refused r p = sym (checked-outcome (parseFile s .description)) ∙ q in
+    (rw f) ∙ read-last s e
+
+pub read-checked : (s : List ℕ) → parseFile s .outcome ≡ Done → checkedLoads (parseFile s .description) .outcome ≡ Done → parseFile s ≡ readFile s
+read-checked s e q =
+    let f : lastChecks (parseFile s .description) ≡ Done = sym (checked-outcome (parseFile s .description)) ∙ q in
+    same-reading (parseFile s) e ∙ (rw f) ∙ read-last s e
+  where
+    same-reading : (x : Reading) → x .outcome ≡ Done → x ≡ record { outcome = Done; description = x .description }
+    same-reading x h = λ i. record { outcome = h i; description = x .description }

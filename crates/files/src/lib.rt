@@ -1,0 +1,70 @@
+// Descriptions: reading a file, judging a record, and its load sheet, with all of the refusals 1 to 10.
+
+use model::Description;
+use model::LoadSheet;
+use model::Outcome;
+use model::Reading;
+use model::Refusal;
+use model::Row;
+ghost use mathlib.Core.Path.{_≡_};
+ghost use Rattle.model.specs.File.{readFile, judge, loadSheet, refusedReading};
+ghost use Rattle.model.specs.Loads.{noRow};
+ghost use Rattle.files.specs.Answers.{refusedSheet};
+
+// Beside a refusal every load is 0.
+fn refused_sheet(outcome: Outcome) -> LoadSheet
+    ensures { λ r. ⌜ r ≡ refusedSheet outcome ⌝ }
+{
+    LoadSheet {
+        outcome,
+        rows: [Row { loads: [0u64; 32] }; 48],
+    }
+}
+
+// The load sheet of a record, or what its file would be refused for.
+pub fn load_sheet(d: Description) -> LoadSheet
+    ensures { λ r. ⌜ r ≡ loadSheet d ⌝ }
+{
+    let fields = fields::check_record(d);
+    let Outcome::Done = fields else {
+        return refused_sheet(fields);
+    };
+    loads::last_checks(d)
+}
+
+// A record judged as its file would be.
+pub fn judge(d: Description) -> Outcome
+    ensures { λ r. ⌜ r ≡ judge d ⌝ }
+{
+    let sheet = load_sheet(d);
+    sheet.outcome
+}
+
+// Beside a refusal the description is all zeros.
+fn refused_reading(why: Refusal, place: usize) -> Reading
+    ensures { λ r. ⌜ r ≡ refusedReading why place ⌝ }
+{
+    let none = fields::empty();
+    Reading {
+        outcome: Outcome::Refused(why, place),
+        description: none,
+    }
+}
+
+// The description of a file, or what the file is refused for.
+pub fn read(s: &[u8]) -> Reading
+    ensures { λ r. ⌜ r ≡ readFile (now (s .entry)) ⌝ }
+{
+    let parsed = fields::parse(s);
+    let fields = parsed.outcome;
+    if let Outcome::Refused(why, place) = fields {
+        return refused_reading(why, place);
+    }
+    let d = parsed.description;
+    let sheet = loads::last_checks(d);
+    let last = sheet.outcome;
+    if let Outcome::Refused(why, place) = last {
+        return refused_reading(why, place);
+    }
+    parsed
+}

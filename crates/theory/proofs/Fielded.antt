@@ -1,0 +1,108 @@
+-- What the checks of the fields establish of a description, before the checks that look at the whole of it. Assumes nothing.
+use Prim.Native.Nat.{ℕ, suc, _+_, _≤_, _<_}
+use mathlib.Core.Path.{_≡_, refl}
+use mathlib.Core.Bool.{Bool, true, false, cond, _&&_}
+use mathlib.Core.Logic.{_⊎_}
+use native.Mathlib.Omega.{arith}
+use lib.Dec.{eqb, leb}
+use borrow.Author.Tests.{eqb-true, leb-true, le-leb}
+use Rattle.model.specs.declared.Description.{Description}
+use Rattle.model.specs.declared.Field.the-variants.{OfSource}
+use Rattle.model.specs.Field.{onScale}
+use Rattle.model.specs.Graph.{system, linked, runOf, linkAt, sourceAt, cyclic}
+use Rattle.model.specs.Loads.{tooHeavy}
+use Rattle.theory.proofs.Tests.{and-left, and-right}
+use Rattle.theory.proofs.Range.{Found, any-found}
+use Rattle.theory.proofs.WellFormed.{IsTask, IsSource, rises, WellFormed, Shaped}
+
+-- counts within their limits, runs and sources on scale, links that rise and end at nodes of the file
+pub record Fielded (d : Description) : Type 0 where
+  pub few-tasks : d .«task_count» ≤ 32
+  pub few-sources : d .«source_count» ≤ 16
+  pub few-links : d .«link_count» ≤ 256
+  pub run-some : (k : ℕ) → 1 ≤ k → k ≤ d .«task_count» → 1 ≤ runOf d k
+  pub run-most : (k : ℕ) → 1 ≤ k → k ≤ d .«task_count» → runOf d k ≤ 10000000
+  pub source-scale : (u : ℕ) → 33 ≤ u → u < 33 + d .«source_count» → onScale (OfSource (sourceAt d u)) ≡ true
+  pub link-from : (l : ℕ) → l < d .«link_count» → IsTask (system d) (linkAt d l .from) ⊎ IsSource (system d) (linkAt d l .from)
+  pub link-to : (l : ℕ) → l < d .«link_count» → IsTask (system d) (linkAt d l .to)
+  pub link-critical : (l : ℕ) → l < d .«link_count» → linkAt d l .critical ≤ 1
+  pub link-rises : (l : ℕ) → suc l < d .«link_count» → rises (linkAt d l) (linkAt d (suc l)) ≡ true
+
+-- a description is well formed exactly if its fields are and the last three checks pass
+pub fields-of : {d : Description} → WellFormed d → Fielded d
+fields-of w =
+    record {
+      few-tasks = w .few-tasks;
+      few-sources = w .few-sources;
+      few-links = w .few-links;
+      run-some = w .run-some;
+      run-most = w .run-most;
+      source-scale = w .source-scale;
+      link-from = w .link-from;
+      link-to = w .link-to;
+      link-critical = w .link-critical;
+      link-rises = w .link-rises;
+    }
+
+pub well-formed : {d : Description} → Fielded d → 1 ≤ d .«task_count» → cyclic (system d) ≡ false → tooHeavy (system d) ≡ false → WellFormed d
+well-formed w some acyclic light =
+    record {
+      some-task = some;
+      few-tasks = w .few-tasks;
+      few-sources = w .few-sources;
+      few-links = w .few-links;
+      run-some = w .run-some;
+      run-most = w .run-most;
+      source-scale = w .source-scale;
+      link-from = w .link-from;
+      link-to = w .link-to;
+      link-critical = w .link-critical;
+      link-rises = w .link-rises;
+      no-cycle = acyclic;
+      not-heavy = light;
+    }
+
+-- the place of a link that exists
+pub record Place (d : Description) (i j : ℕ) : Type 0 where
+  pub at : ℕ
+  pub within : at < d .«link_count»
+  pub from-is : linkAt d at .from ≡ i
+  pub to-is : linkAt d at .to ≡ j
+
+pub link-place : (d : Description) (i j : ℕ) → linked d i j ≡ true → Place d i j
+unfolding linked
+link-place d i j e =
+    let f : Found (λ l. eqb (linkAt d l .from) i && eqb (linkAt d l .to) j) 0 (d .«link_count») = any-found _ 0 _ e in
+    record {
+      at = f .at;
+      within = omega (arith, f .within);
+      from-is = eqb-true _ _ (and-left (eqb (linkAt d (f .at) .from) i) (eqb (linkAt d (f .at) .to) j) (f .passes));
+      to-is = eqb-true _ _ (and-right (eqb (linkAt d (f .at) .from) i) (eqb (linkAt d (f .at) .to) j) (f .passes));
+    }
+
+-- the run of a task of the file
+pub run-is : (d : Description) (k : ℕ) → k ≤ d .«task_count» → system d .run k ≡ runOf d k
+unfolding system
+run-is d k p = rw (le-leb k (d .«task_count») p)
+
+-- no run is longer than its field allows; an absent task has none
+pub run-bound : (d : Description) → Fielded d → (k : ℕ) → 1 ≤ k → system d .run k ≤ 10000000
+unfolding system
+run-bound d w k p = go (leb k (d .«task_count»)) refl
+  where
+    go : (b : Bool) → leb k (d .«task_count») ≡ b → cond (leb k (d .«task_count»)) (runOf d k) 0 ≤ 10000000
+    go true e = rw e (w .run-most k p (leb-true k (d .«task_count») e))
+    go false e = rw e (omega arith)
+
+pub shaped-fields : (d : Description) → Fielded d → Shaped (system d)
+unfolding system
+shaped-fields d w =
+    record {
+      few = w .few-tasks;
+      runs = λ k p q. rw (le-leb k (d .«task_count») q) (w .run-some k p q);
+      to-task = λ i j e. let l = link-place d i j e in rw (l .to-is) at (w .link-to (l .at) (l .within));
+      from-node = λ i j e. let l = link-place d i j e in rw (l .from-is) at (w .link-from (l .at) (l .within));
+    }
+
+pub shaped : (d : Description) → WellFormed d → Shaped (system d)
+shaped d w = shaped-fields d (fields-of w)

@@ -1,0 +1,132 @@
+-- One working out for all links into a task: the rounds for (i, j) differ only in where they stop; and a level that is loaded
+-- beyond what time allows is settled with no round. Assumes nothing.
+use Prim.Native.Nat.{ℕ, zero, suc, _+_, _-_, _*_, _/_, _≤_, _<_, max}
+use mathlib.Core.Path.{_≡_, refl, sym, ap, _∙_}
+use mathlib.Core.Bool.{Bool, true, false, cond}
+use native.Mathlib.Omega.{arith}
+use native.Mathlib.Nat.{div-mul-le-self, div-le-self, lt-div-mul-add, mul-le-mul-left, mul-le-mul-right, zero-add, lt-of-mul-lt-mul-left}
+use lib.Dec.{ltb}
+use borrow.Author.Tests.{lt-ltb, le-ltb}
+use Rattle.model.specs.declared.Verdict.{Verdict}
+use Rattle.model.specs.declared.Verdict.the-variants.{Held, Doubt}
+use Rattle.model.specs.Basics.{sumN}
+use Rattle.model.specs.Graph.{System}
+use Rattle.model.specs.Loads.{load}
+use Rattle.model.specs.Delays.{spacings, startOf, roundOf, Settled, unchanged, reached, settle, delayOf}
+use Rattle.model.specs.Verdicts.{settledVerdict, sourceVerdict}
+use Rattle.theory.proofs.Tests.{Cmp, less, same, more, cmp}
+use Rattle.theory.proofs.Range.{Each, sumN-le, sumN-mul}
+use Rattle.theory.proofs.Rounds.{Spaced, spacings-some, held-fixed, round-mono, round-start, settle-fixed, settle-least, settle-finds, never-reached}
+
+-- a sum whose numbers are counted from 0
+pub sum-shift : (f : ℕ → ℕ) (a n : ℕ) → sumN f a n ≡ sumN (λ u. f (a + u)) 0 n
+unfolding sumN
+sum-shift f a zero = refl
+sum-shift f a (suc n) = rw (sum-shift f a n, zero-add)
+
+-- where the rounds of level j come to below a limit: the D that one leaves unchanged, or else the limit
+abbrev pub reachOf : Settled → ℕ → ℕ
+reachOf (unchanged D) limit = D
+reachOf reached limit = limit
+
+unfoldable pub levelReach : System → (ℕ → ℕ) → ℕ → ℕ → ℕ
+levelReach s gap j limit = reachOf (settle (suc limit) (roundOf s gap j) limit (startOf s j)) limit
+
+module _ (s : System) (gap : ℕ → ℕ) (g : Spaced s gap) (i j limit : ℕ) (h : gap i ≤ limit) where
+  -- the rounds up to the larger limit
+  abbrev at-limit : Settled
+  at-limit = settle (suc limit) (roundOf s gap j) limit (startOf s j)
+
+  -- what is found below the smaller limit is found below the larger one
+  finds : (D : ℕ) → delayOf s gap i j ≡ unchanged D → at-limit ≡ unchanged D
+  unfolding delayOf
+  finds D e =
+      let f : (roundOf s gap j D ≡ D) × (D < gap i) = settle-fixed (suc (gap i)) (roundOf s gap j) (gap i) (startOf s j) D e in
+      let (E, x) = settle-finds (roundOf s gap j) (round-mono s j gap g) limit (suc limit) (startOf s j) D (omega (arith, round-start s j gap D)) (round-start s j gap (startOf s j)) (omega arith) (omega arith) (omega arith) in
+      let k : (roundOf s gap j E ≡ E) × (E < limit) = settle-fixed (suc limit) (roundOf s gap j) limit (startOf s j) E x in
+      let a : E ≤ D = settle-least (roundOf s gap j) (round-mono s j gap g) limit (suc limit) (startOf s j) E D (omega (arith, round-start s j gap D)) (omega arith) x in
+      let b : D ≤ E = settle-least (roundOf s gap j) (round-mono s j gap g) (gap i) (suc (gap i)) (startOf s j) D E (omega (arith, round-start s j gap E)) (omega arith) e in
+      let z : E ≡ D = omega arith in
+      x ∙ ap unchanged z
+
+  -- and the other way, if it is below the smaller one
+  found : (D : ℕ) → at-limit ≡ unchanged D → D < gap i → delayOf s gap i j ≡ unchanged D
+  unfolding delayOf
+  found D e l =
+      let f : (roundOf s gap j D ≡ D) × (D < limit) = settle-fixed (suc limit) (roundOf s gap j) limit (startOf s j) D e in
+      let (E, x) = settle-finds (roundOf s gap j) (round-mono s j gap g) (gap i) (suc (gap i)) (startOf s j) D (omega (arith, round-start s j gap D)) (round-start s j gap (startOf s j)) (omega arith) l (omega arith) in
+      let z : unchanged E ≡ unchanged D = sym (finds E x) ∙ e in
+      x ∙ z
+
+  reached-of : (r : Settled) → delayOf s gap i j ≡ r → ((D : ℕ) → delayOf s gap i j ≡ unchanged D → ⊥) → delayOf s gap i j ≡ reached
+  reached-of (unchanged D) e n = absurd (n D e)
+  reached-of reached e n = e
+
+  above : (D E : ℕ) → at-limit ≡ unchanged D → delayOf s gap i j ≡ unchanged E → gap i ≤ D → ⊥
+  above D E e x l =
+      let z : E ≡ D = same-number (sym (finds E x) ∙ e) in
+      omega (arith, held-fixed s gap i j E x .1)
+    where
+      same-number : {a b : ℕ} → unchanged a ≡ unchanged b → a ≡ b
+      same-number q = cc
+
+  -- the verdict on a link from where its level comes to
+  pub level-verdict : sourceVerdict s gap i j ≡ cond (ltb (levelReach s gap j limit) (gap i)) (Held (levelReach s gap j limit) (gap i)) (Doubt (gap i))
+  unfolding sourceVerdict levelReach
+  level-verdict = go at-limit refl
+    where
+      low : (D : ℕ) → at-limit ≡ unchanged D → Cmp D (gap i) → settledVerdict (delayOf s gap i j) (gap i) ≡ cond (ltb D (gap i)) (Held D (gap i)) (Doubt (gap i))
+      low D e (less l) = rw (lt-ltb D (gap i) l, found D e l)
+      low D e (same l) = rw (le-ltb D (gap i) (omega arith), reached-of (delayOf s gap i j) refl (λ E x. above D E e x (omega arith)))
+      low D e (more l) = rw (le-ltb D (gap i) (omega arith), reached-of (delayOf s gap i j) refl (λ E x. above D E e x (omega arith)))
+
+      go : (r : Settled) → at-limit ≡ r → settledVerdict (delayOf s gap i j) (gap i) ≡ cond (ltb (reachOf r limit) (gap i)) (Held (reachOf r limit) (gap i)) (Doubt (gap i))
+      go (unchanged D) e = low D e (cmp D (gap i))
+      go reached e =
+          rw (le-ltb limit (gap i) h, reached-of (delayOf s gap i j) refl (λ D x. never-reached (sym e ∙ finds D x)))
+
+-- a stretch is covered by its spacings
+pub spacings-cover : (d m : ℕ) → 1 ≤ m → d ≤ spacings d m * m
+unfolding spacings
+spacings-cover d m p =
+    let q : ℕ = (d + (m - 1)) / m in
+    let a : q ≤ max 1 q = omega arith in
+    omega (arith, lt-div-mul-add {a = d + (m - 1)} {b = m} p, mul-le-mul-right m a)
+
+-- a level whose load per tick is above 1, in parts of K rounded down: every round raises D
+module _ (w gap : ℕ → ℕ) (a n K : ℕ) (g : Each (λ u. 1 ≤ gap u) a n) where
+  abbrev share : ℕ → ℕ
+  share u = w u * K / gap u
+
+  part-of : (D u : ℕ) → a ≤ u → u < a + n → D * share u ≤ K * (w u * spacings D (gap u))
+  part-of D u p q =
+      let c : ℕ = spacings D (gap u) in
+      let x : D * share u ≤ c * gap u * share u = mul-le-mul-right (share u) (spacings-cover D (gap u) (g u p q)) in
+      let y : c * (share u * gap u) ≤ c * (w u * K) = mul-le-mul-left c (div-mul-le-self (w u * K) (gap u)) in
+      omega arith
+
+  some-of : (D u : ℕ) → share u ≤ K * (w u * spacings D (gap u))
+  some-of D u =
+      omega
+      (arith, div-le-self (w u * K) (gap u), mul-le-mul-left (w u * K) (spacings-some D (gap u)))
+
+  strict : (D R B : ℕ) → D * B ≤ K * R → D * suc K ≤ D * B → K < K * R → K * D < K * R
+  strict zero R B big up one = omega arith
+  strict (suc D) R B big up one = omega arith
+
+  pub rising : K < sumN (λ u. w u * K / gap u) a n → (D : ℕ) → D < sumN (λ u. w u * spacings D (gap u)) a n
+  rising h D =
+      let f : ℕ → ℕ = λ u. w u * spacings D (gap u) in
+      let all : sumN (λ u. D * share u) a n ≤ sumN (λ u. K * f u) a n = sumN-le (λ u. D * share u) (λ u. K * f u) a n (part-of D) in
+      let some : sumN share a n ≤ sumN (λ u. K * f u) a n = sumN-le share (λ u. K * f u) a n (λ u p q. some-of D u) in
+      let big : D * sumN share a n ≤ K * sumN f a n = omega (arith, sumN-mul D share a n, sumN-mul K f a n) in
+      let one : K < K * sumN f a n = omega (arith, sumN-mul K f a n) in
+      lt-of-mul-lt-mul-left K {m = D} {n = sumN f a n} (strict D (sumN f a n) (sumN share a n) big (mul-le-mul-left D h) one)
+
+-- so no D is left unchanged
+pub never-unchanged : (n : ℕ) (next : ℕ → ℕ) (limit d : ℕ) → ((D : ℕ) → D < next D) → reachOf (settle n next limit d) limit ≡ limit
+never-unchanged n next limit d up = go (settle n next limit d) refl
+  where
+    go : (r : Settled) → settle n next limit d ≡ r → reachOf r limit ≡ limit
+    go (unchanged D) e = absurd (omega (arith, up D, settle-fixed n next limit d D e .0))
+    go reached e = refl

@@ -1,0 +1,200 @@
+-- The quote: a link held at one tempo is held at every lower one, so the quote is where a search by halves finds it,
+-- and there is none exactly if some critical link is doubtful at 20.0. Assumes nothing.
+use Prim.Native.Nat.{ℕ, zero, suc, _+_, _-_, _≤_, _<_}
+use mathlib.Core.Path.{_≡_, refl, sym, ap, _∙_}
+use mathlib.Core.Bool.{Bool, true, false, not, cond}
+use mathlib.Core.Logic.{_⊎_, inl, inr, _↔_}
+use native.Mathlib.Omega.{arith}
+use lib.Dec.{eqb, ltb}
+use borrow.Author.Tests.{ltb-true, ltb-false, not-true}
+use Rattle.model.specs.declared.Link.{Link}
+use Rattle.model.specs.declared.Description.{Description}
+use Rattle.model.specs.declared.Refusal.{Refusal}
+use Rattle.model.specs.declared.Refusal.the-variants.{NoTempo}
+use Rattle.model.specs.declared.Outcome.{Outcome}
+use Rattle.model.specs.declared.Outcome.the-variants.{Done, Refused}
+use Rattle.model.specs.declared.Verdict.{Verdict}
+use Rattle.model.specs.declared.Verdict.the-variants.{Held, Doubt}
+use Rattle.model.specs.declared.Quote.{Quote}
+use Rattle.model.specs.declared.Quote.the-variants.{Tempo, Unquoted}
+use Rattle.model.specs.Basics.{allN}
+use Rattle.model.specs.Refusals.{onDone}
+use Rattle.model.specs.Graph.{System, system, linkAt}
+use Rattle.model.specs.File.{judge}
+use Rattle.model.specs.Delays.{Settled, unchanged, reached, delayOf, spacingOf}
+use Rattle.model.specs.Verdicts.{settledVerdict, sourceVerdict, orderVerdict, verdictOf, verdictAt, doubtful, allHeld, largestBelow, quoteOf}
+use Rattle.theory.proofs.Tests.{Cmp, less, same, more, cmp, not-both, false-of, true-of}
+use Rattle.theory.proofs.Range.{Each, all-at, all-of}
+use Rattle.theory.proofs.WellFormed.{WellFormed, IsTask, IsSource}
+use Rattle.theory.proofs.Spacing.{gap-anti, gap-some}
+use Rattle.theory.proofs.Rounds.{Spaced, Wider, Kept, held-wider}
+
+-- a working out that gives no doubtful verdict has ended unchanged
+pub settled-held : (r : Settled) (m : ℕ) → doubtful (settledVerdict r m) ≡ false → (D : ℕ) × (r ≡ unchanged D)
+settled-held (unchanged D) m e = (D, refl)
+settled-held reached m e = absurd (not-both refl e)
+
+pub held-settled : (r : Settled) (m D : ℕ) → r ≡ unchanged D → doubtful (settledVerdict r m) ≡ false
+held-settled r m D e = rw e refl
+
+module _ (s : System) (gap gap′ : ℕ → ℕ) (g : Spaced s gap) (w : Wider s gap gap′) where
+  -- a source link that is not doubtful stays so when spacings grow
+  pub source-wider : (i j : ℕ) → gap i ≤ gap′ i → doubtful (sourceVerdict s gap i j) ≡ false → doubtful (sourceVerdict s gap′ i j) ≡ false
+  unfolding sourceVerdict
+  source-wider i j h e =
+      let (D, x) = settled-held (delayOf s gap i j) (gap i) e in
+      let k : Kept s gap′ i j D = held-wider s gap gap′ i j D g w h x in
+      held-settled (delayOf s gap′ i j) (gap′ i) (k .delay) (k .held)
+
+  -- and so does any link
+  pub verdict-wider : (l : Link) → (33 ≤ l .from → gap (l .from) ≤ gap′ (l .from)) → doubtful (verdictOf s gap l) ≡ false → doubtful (verdictOf s gap′ l) ≡ false
+  unfolding verdictOf
+  verdict-wider l h = go (eqb (l .critical) 0) (ltb (l .from) 33) refl
+    where
+      go : (a b : Bool) → ltb (l .from) 33 ≡ b → doubtful (cond a Verdict.Free (cond b (orderVerdict s (l .from) (l .to)) (sourceVerdict s gap (l .from) (l .to)))) ≡ false → doubtful (cond a Verdict.Free (cond b (orderVerdict s (l .from) (l .to)) (sourceVerdict s gap′ (l .from) (l .to)))) ≡ false
+      go true b q e = refl
+      go false true q e = e
+      go false false q e = source-wider (l .from) (l .to) (h (ltb-false (l .from) 33 q)) e
+
+-- the spacings of an accepted description at a tempo of the knob
+pub spaced : (d : Description) → WellFormed d → (t : ℕ) → 1 ≤ t → t ≤ 3000 → Spaced (system d) (spacingOf d t)
+unfolding system
+spaced d g t p h u a b = gap-some d g u a b t p h
+
+pub wider : (d : Description) → WellFormed d → (t t′ : ℕ) → 1 ≤ t → t ≤ t′ → Wider (system d) (spacingOf d t′) (spacingOf d t)
+unfolding system
+wider d g t t′ p h u a b = gap-anti d g u a b t t′ p h
+
+-- held at one tempo is held at every lower one
+pub held-slower : (d : Description) → WellFormed d → (t t′ l : ℕ) → 1 ≤ t → t ≤ t′ → t′ ≤ 3000 → l < d .«link_count» → doubtful (verdictAt d t′ l) ≡ false → doubtful (verdictAt d t l) ≡ false
+unfolding verdictAt system
+held-slower d g t t′ l p h b c e =
+    verdict-wider
+    (system d)
+    (spacingOf d t′)
+    (spacingOf d t)
+    (spaced d g t′ (omega arith) b)
+    (wider d g t t′ p h)
+    (linkAt d l)
+    (λ q. from (g .link-from l c) q)
+    e
+  where
+    from : IsTask (system d) (linkAt d l .from) ⊎ IsSource (system d) (linkAt d l .from) → 33 ≤ linkAt d l .from → spacingOf d t′ (linkAt d l .from) ≤ spacingOf d t (linkAt d l .from)
+    from (inl x) q = absurd (omega (arith, x .1, g .few-tasks))
+    from (inr x) q = gap-anti d g (linkAt d l .from) (x .0) (x .1) t t′ p h
+
+pub all-slower : (d : Description) → WellFormed d → (t t′ : ℕ) → 1 ≤ t → t ≤ t′ → t′ ≤ 3000 → allHeld d t′ ≡ true → allHeld d t ≡ true
+unfolding allHeld
+all-slower d g t t′ p h b e =
+    all-of
+    (λ l. not (doubtful (verdictAt d t l)))
+    0
+    (d .«link_count»)
+    (λ l x y. rw (held-slower d g t t′ l p h b (omega arith) (not-true _ (all-at (λ l. not (doubtful (verdictAt d t′ l))) 0 (d .«link_count») e l x y))))
+
+-- the largest tempo that passes a test
+module _ (good : ℕ → Bool) where
+  pub largest-hit : (n : ℕ) → good (200 + n) ≡ true → largestBelow good (suc n) ≡ Tempo (200 + n)
+  unfolding largestBelow
+  largest-hit n e = rw (e, largestBelow)
+
+  pub largest-miss : (n : ℕ) → good (200 + n) ≡ false → largestBelow good (suc n) ≡ largestBelow good n
+  unfolding largestBelow
+  largest-miss n e = rw (e, largestBelow)
+
+  -- what the search finds: it passes, and no larger one does
+  pub record Largest (n q : ℕ) : Type 0 where
+    pub low : 200 ≤ q
+    pub high : q < 200 + n
+    pub passes : good q ≡ true
+    pub above : (t : ℕ) → q < t → t < 200 + n → good t ≡ false
+
+  unquoted-not : {r : Refusal} {p q : ℕ} → Unquoted r p ≡ Tempo q → ⊥
+  unquoted-not e = let z : _≡_ {A = ℕ} 0 1 = cc in omega arith
+
+  tempo-is : {a b : ℕ} → Tempo a ≡ Tempo b → a ≡ b
+  tempo-is e = cc
+
+  pub largest-found : (n q : ℕ) → largestBelow good n ≡ Tempo q → Largest n q
+  unfolding largestBelow
+  largest-found zero q = λ e. absurd (unquoted-not e)
+  largest-found (suc n) q = go (good (200 + n)) refl (largest-found n q)
+    where
+      go : (b : Bool) → good (200 + n) ≡ b → (largestBelow good n ≡ Tempo q → Largest n q) → largestBelow good (suc n) ≡ Tempo q → Largest (suc n) q
+      go true e ih f =
+          let z : 200 + n ≡ q = tempo-is (sym (largest-hit n e) ∙ f) in
+          record { low = omega arith; high = omega arith; passes = rw z at e; above = λ t x y. absurd (omega arith) }
+      go false e ih f =
+          let r : Largest n q = ih (sym (largest-miss n e) ∙ f) in
+          record { low = r .low; high = omega (arith, r .high); passes = r .passes; above = λ t x y. up r t x (cmp t (200 + n)) y }
+        where
+          up : Largest n q → (t : ℕ) → q < t → Cmp t (200 + n) → t < 200 + suc n → good t ≡ false
+          up r t x (less c) y = r .above t x c
+          up r t x (same c) y = rw c e
+          up r t x (more c) y = absurd (omega arith)
+
+  -- and it is found
+  pub largest-is : (n q : ℕ) → Largest n q → largestBelow good n ≡ Tempo q
+  unfolding largestBelow
+  largest-is zero q r = absurd (omega (arith, r .low, r .high))
+  largest-is (suc n) q r = go (cmp q (200 + n)) (largest-is n q)
+    where
+      go : Cmp q (200 + n) → (Largest n q → largestBelow good n ≡ Tempo q) → largestBelow good (suc n) ≡ Tempo q
+      go (less c) ih =
+          largest-miss n (r .above (200 + n) c (omega arith)) ∙ ih (record { low = r .low; high = c; passes = r .passes; above = λ t x y. r .above t x (omega arith) })
+      go (same c) ih = let p : good (200 + n) ≡ true = rw c at (r .passes) in largest-hit n p ∙ ap Tempo (sym c)
+      go (more c) ih = absurd (omega (arith, r .high))
+
+  -- none passes
+  pub largest-none : (n : ℕ) → ((t : ℕ) → 200 ≤ t → t < 200 + n → good t ≡ false) → largestBelow good n ≡ Unquoted NoTempo 0
+  unfolding largestBelow
+  largest-none zero h = refl
+  largest-none (suc n) h =
+      largest-miss n (h (200 + n) (omega arith) (omega arith)) ∙ largest-none n (λ t x y. h t x (omega arith))
+
+-- of a test that passes at every lower tempo too, it is enough to look at two neighbours, or at the lowest
+module _ (d : Description) (g : WellFormed d) where
+  pub quote-at : (q : ℕ) → 200 ≤ q → q ≤ 3000 → allHeld d q ≡ true → (q < 3000 → allHeld d (suc q) ≡ false) → largestBelow (allHeld d) 2801 ≡ Tempo q
+  quote-at q a b e h =
+      largest-is
+      (allHeld d)
+      2801
+      q
+      (record {
+        low = a;
+        high = omega arith;
+        passes = e;
+        above =
+            λ t x y. false-of (allHeld d t) (λ f. not-both (all-slower d g (suc q) t (omega arith) x (omega arith) f) (h (omega arith)));
+      })
+
+  pub quote-none : allHeld d 200 ≡ false → largestBelow (allHeld d) 2801 ≡ Unquoted NoTempo 0
+  quote-none e =
+      largest-none
+      (allHeld d)
+      2801
+      (λ t x y. false-of (allHeld d t) (λ f. not-both (all-slower d g 200 t (omega arith) x (omega arith) f) e))
+
+-- what a quote says
+pub record Quoted (d : Description) (q : ℕ) : Type 0 where
+  pub judged : judge d ≡ Done
+  pub low : 200 ≤ q
+  pub high : q ≤ 3000
+  pub held : allHeld d q ≡ true
+  pub above : (t : ℕ) → q < t → t ≤ 3000 → allHeld d t ≡ false
+
+pub quoted : (d : Description) (q : ℕ) → quoteOf d ≡ Tempo q → Quoted d q
+unfolding quoteOf
+quoted d q = go (judge d) refl
+  where
+    go : (o : Outcome) → judge d ≡ o → onDone o (largestBelow (allHeld d) 2801) Unquoted ≡ Tempo q → Quoted d q
+    go Done e f =
+        let r : Largest (allHeld d) 2801 q = largest-found (allHeld d) 2801 q f in
+        record {
+          judged = e;
+          low = r .low;
+          high = omega (arith, r .high);
+          held = r .passes;
+          above = λ t x y. r .above t x (omega arith);
+        }
+    go (Refused r p) e f = absurd (unquoted-not (allHeld d) f)

@@ -1,0 +1,127 @@
+-- Bounds and steps of the rounds' loops. Assumes nothing.
+use Prim.Native.Nat.{ℕ, zero, suc, _+_, _-_, _*_, _/_, _≤_, _<_, max}
+use mathlib.Core.Path.{_≡_, refl, sym, ap, _∙_}
+use mathlib.Core.Bool.{Bool, true, false, _&&_}
+use mathlib.Core.List.{List}
+use native.Mathlib.Omega.{arith}
+use native.Mathlib.Numerals.{add-one}
+use native.Mathlib.Nat.{div-mul-le-self, mul-le-mul-left, mul-le-mul, mul-pos, zero-add, div-le-self}
+use lib.ListN.{getD, length}
+use lib.Dec.{leb}
+use borrow.Author.Tests.{leb-true}
+use Rattle.model.specs.declared.Source.{Source}
+use Rattle.model.specs.declared.Source.the-variants.{Fixed, Paced}
+use Rattle.model.specs.declared.Field.the-variants.{OfSource}
+use Rattle.model.specs.Field.{onScale}
+use Rattle.model.specs.Basics.{sumN}
+use Rattle.model.specs.Delays.{spacings, Settled, unchanged, reached, settle}
+use Rattle.theory.proofs.Tests.{and-left, and-right, Cmp, less, same, more, cmp}
+use Rattle.theory.proofs.Levels.{reachOf, rising, never-unchanged}
+use Rattle.theory.proofs.Rounds.{settle-full, settle-same, settle-next, spacings-mono}
+use Rattle.theory.proofs.Range.{sumN-le}
+use Rattle.verdicts.specs.Level.{Level, roundIn, reachIn, shareIn}
+
+-- a paced source's product of tempo and pulses
+pub paced-product : (s : Source) (t p : ℕ) → s ≡ Paced p → onScale (OfSource s) ≡ true → 200 ≤ t → t ≤ 3000 → (0 < t * p) × (t * p ≤ 2880000)
+paced-product s t p e c a b =
+    let f : (leb 1 p && leb p 960) ≡ true = rw e at c in
+    let lo : 1 ≤ p = leb-true 1 p (and-left (leb 1 p) (leb p 960) f) in
+    let hi : p ≤ 960 = leb-true p 960 (and-right (leb 1 p) (leb p 960) f) in
+    (mul-pos {m = t} {n = p} (omega arith) lo, mul-le-mul b hi)
+
+less-quotient : (q d m : ℕ) → 1 ≤ m → q * m ≤ d + (m - 1) → q ≤ d
+less-quotient q d m p h = go (cmp q (suc d))
+  where
+    go : Cmp q (suc d) → q ≤ d
+    go (less r) = omega arith
+    go (same r) = absurd (omega (arith, mul-le-mul-left d p, rw r at h))
+    go (more r) = absurd (far q d m p h r)
+      where
+        far : (q d m : ℕ) → 1 ≤ m → q * m ≤ d + (m - 1) → suc d < q → ⊥
+        far q d m p h r = let k : suc d * m ≤ q * m = mul-le-mul {n₁ = suc d} {m₁ = m} {n₂ = q} {m₂ = m} (omega arith) (omega arith) in omega (arith, mul-le-mul-left d p)
+
+pub spacings-most : (d m : ℕ) → 1 ≤ m → d ≤ 1000000000 → spacings d m ≤ 1000000000
+unfolding spacings
+spacings-most d m p h =
+    let q : ℕ = (d + (m - 1)) / m in
+    omega (arith, less-quotient q d m p (div-mul-le-self (d + (m - 1)) m))
+
+-- the loop of a round
+module _ (start : ℕ) (loads gaps : List ℕ) (n d : ℕ) where
+  pub round-none : start ≡ roundIn start loads gaps 0 d
+  unfolding roundIn sumN
+  round-none = omega arith
+
+  pub round-more : (u : ℕ) → roundIn start loads gaps (u + 1) d ≡ roundIn start loads gaps u d + getD loads u 0 * spacings d (getD gaps u 0)
+  unfolding roundIn sumN
+  round-more u = rw (add-one, sumN, zero-add) (omega arith)
+
+  pub term-most : Level start loads gaps n → d ≤ 1000000000 → (u : ℕ) → u < n → getD loads u 0 * spacings d (getD gaps u 0) ≤ 1000000000000000000
+  term-most g h u p = mul-le-mul (g .load-most u p) (spacings-most d (getD gaps u 0) (g .gap-some u p) h)
+
+-- a round from a longer stretch brings no less
+pub round-in-mono : (start : ℕ) (loads gaps : List ℕ) (n : ℕ) → Level start loads gaps n → (d d′ : ℕ) → d ≤ d′ → roundIn start loads gaps n d ≤ roundIn start loads gaps n d′
+unfolding roundIn
+round-in-mono start loads gaps n g d d′ h =
+    omega (arith, sumN-le (λ u. getD loads u 0 * spacings d (getD gaps u 0)) (λ u. getD loads u 0 * spacings d′ (getD gaps u 0)) 0 n (λ u p q. mul-le-mul-left (getD loads u 0) (spacings-mono d d′ (getD gaps u 0) (g .gap-some u (omega arith)) h)))
+
+pub round-in-start : (start : ℕ) (loads gaps : List ℕ) (n d : ℕ) → start ≤ roundIn start loads gaps n d
+unfolding roundIn
+round-in-start start loads gaps n d = omega arith
+
+-- the loop of a level: what is left to work out from d on, for every bound on the rounds that is enough
+abbrev pub ReachFrom : (ℕ → ℕ) → ℕ → ℕ → ℕ → Type 0
+ReachFrom next limit d r = (f : ℕ) → limit < d + f → r ≡ reachOf (settle f next limit d) limit
+
+pub reach-full : (next : ℕ → ℕ) (limit d : ℕ) → limit ≤ d → ReachFrom next limit d limit
+unfolding settle
+reach-full next limit d h zero b = refl
+reach-full next limit d h (suc f) b = rw (settle-full f next limit d h)
+
+pub reach-same : (next : ℕ → ℕ) (limit d : ℕ) → d < limit → next d ≡ d → ReachFrom next limit d d
+reach-same next limit d h e zero b = absurd (omega arith)
+reach-same next limit d h e (suc f) b = rw (settle-same f next limit d h e)
+
+pub reach-next : (next : ℕ → ℕ) (limit d r : ℕ) → d < limit → (next d ≡ d → ⊥) → d ≤ next d → ReachFrom next limit (next d) r → ReachFrom next limit d r
+reach-next next limit d r h e m k zero b = absurd (omega arith)
+reach-next next limit d r h e m k (suc f) b = rw (settle-next f next limit d h e) (k f (further (cmp (next d) d)))
+  where
+    further : Cmp (next d) d → limit < next d + f
+    further (less x) = absurd (omega arith)
+    further (same x) = absurd (e x)
+    further (more x) = omega arith
+
+pub reach-done : (start : ℕ) (loads gaps : List ℕ) (n limit r : ℕ) → ReachFrom (roundIn start loads gaps n) limit start r → r ≡ reachIn start loads gaps n limit
+unfolding reachIn
+reach-done start loads gaps n limit r h = h (suc limit) (omega arith)
+
+-- the loop of the shares
+module _ (k : ℕ) (loads gaps : List ℕ) where
+  pub share-none : 0 ≡ shareIn k loads gaps 0
+  unfolding shareIn sumN
+  share-none = refl
+
+  pub share-more : (u : ℕ) → shareIn k loads gaps (u + 1) ≡ shareIn k loads gaps u + getD loads u 0 * k / getD gaps u 0
+  unfolding shareIn sumN
+  share-more u = rw (add-one, sumN, zero-add)
+
+  pub share-grows : (u n : ℕ) → u ≤ n → shareIn k loads gaps u ≤ shareIn k loads gaps n
+  unfolding shareIn sumN
+  share-grows u zero p = let e : u ≡ 0 = omega arith in rw e (omega arith)
+  share-grows u (suc n) p = go (cmp u (suc n)) (share-grows u n)
+    where
+      go : Cmp u (suc n) → (u ≤ n → shareIn k loads gaps u ≤ shareIn k loads gaps n) → shareIn k loads gaps u ≤ shareIn k loads gaps (suc n)
+      go (less r) ih = omega (arith, ih (omega arith))
+      go (same r) ih = rw r (omega arith)
+      go (more r) ih = absurd (omega arith)
+
+-- a saturated level reaches every limit
+pub saturated-reach : (k start : ℕ) (loads gaps : List ℕ) (n limit : ℕ) → Level start loads gaps n → k < shareIn k loads gaps n → limit ≡ reachIn start loads gaps n limit
+unfolding reachIn shareIn roundIn
+saturated-reach k start loads gaps n limit g h =
+    sym (never-unchanged (suc limit) (λ d. start + sumN (λ u. getD loads u 0 * spacings d (getD gaps u 0)) 0 n) limit start
+    (λ D. omega (arith, rising (λ u. getD loads u 0) (λ u. getD gaps u 0) 0 n k (λ u p q. g .gap-some u (omega arith)) h D)))
+
+pub level-any : (start : ℕ) (loads gaps : List ℕ) (n : ℕ) → Level start loads gaps n → Level 0 loads gaps n
+level-any start loads gaps n g =
+    record { few = g .few; start-most = omega arith; load-most = g .load-most; gap-some = g .gap-some; gap-most = g .gap-most }

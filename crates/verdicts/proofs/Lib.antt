@@ -1,0 +1,4 @@
+pub mod Laws
+pub mod WalkLaws
+pub mod PlanLaws
+pub mod DecideLaws

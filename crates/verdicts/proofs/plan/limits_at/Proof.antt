@@ -1,0 +1,96 @@
+-- `limits_at` meets its contract: the limits by the first l links. Assumes nothing.
+use Prim.Native.Nat.{ℕ, _≤_, _<_, _+_, _-_, max}
+use mathlib.Core.Path.{_≡_, refl, sym, ap, _∙_}
+use native.Mathlib.Omega.{arith}
+use lib.ListN.{length, getD, set, replicate, getD-replicate, List·getD-eq-default}
+use borrow.Author.Needs.{needs}
+use Rattle.model.specs.Graph.{linkAt}
+use Rattle.theory.proofs.Tests.{Cmp, less, same, more, cmp}
+use Rattle.verdicts.specs.Plan.{limitBy}
+use Rattle.verdicts.proofs.PlanLaws.{LimitsTo, limits-more, limits-done, from-most, to-most}
+use Rattle.verdicts.proofs.plan.limits_at.Statement.{statement}
+use Rattle.verdicts.proofs.plan.limits_at.Tie as tie
+use Rattle.verdicts.proofs.plan.limits_at.Reads as reads
+use Rattle.verdicts.proofs.plan.limits_at.Lts as lts
+use Rattle.verdicts.proofs.plan.larger.Reads as larger-reads
+use Rattle.verdicts.proofs.plan.limit_by.Reads as limit-by-reads
+use Rattle.verdicts.proofs.plan.number.Reads as number-reads
+
+abbrev Inv-loop : tie.InvT-loop
+Inv-loop gaps d limits₀ l₀ limits l = (l ≤ d .«link_count») × LimitsTo d gaps limits l
+
+abbrev μ-loop : tie.MeasureT-loop
+μ-loop gaps d limits₀ l₀ limits l = d .«link_count» - l
+
+-- nothing is filled in yet
+none : (j : ℕ) → Cmp j 32 → getD (replicate 32 0) j 0 ≤ 1000000000
+none j (less p) = rw (getD-replicate {A = ℕ} 32 j 0 0 p) (omega arith)
+none j (same p) = rw (List·getD-eq-default {A = ℕ} (replicate 32 0) 0 {n = j} (omega arith)) (omega arith)
+none j (more p) = rw (List·getD-eq-default {A = ℕ} (replicate 32 0) 0 {n = j} (omega arith)) (omega arith)
+
+loop-holds : tie.Need-loop-holds Inv-loop μ-loop
+loop-holds c = (omega arith, record { sized = refl; covers = λ l p. absurd (omega arith); most = λ j. none j (cmp j 32) })
+
+mul-link : tie.Need-mul-link Inv-loop μ-loop
+mul-link c = omega (arith, c .before .before .pre .0 .few-links)
+
+element-copy-out-link : tie.Need-element-copy-out-link Inv-loop μ-loop
+element-copy-out-link c = omega (arith, c .before .before .pre .0 .few-links)
+
+number-requires : tie.Need-number-requires Inv-loop μ-loop
+number-requires c κs = search needs
+
+sub-at : tie.Need-sub-at Inv-loop μ-loop
+sub-at c = omega (arith, c .number .ensures, to-most (c .before .before .before .before .args .t1) (c .before .before .before .before .pre .0) (c .before .before .before .loop .l) (omega arith) .0)
+
+mul-larger : tie.Need-mul-larger Inv-loop μ-loop
+mul-larger c = omega (arith, c .number .ensures, to-most (c .before .before .before .before .args .t1) (c .before .before .before .before .pre .0) (c .before .before .before .loop .l) (omega arith) .1)
+
+array-read-larger : tie.Need-array-read-larger Inv-loop μ-loop
+array-read-larger c = omega (arith, c .number .ensures, to-most (c .before .before .before .before .args .t1) (c .before .before .before .before .pre .0) (c .before .before .before .loop .l) (omega arith) .1)
+
+limit-by-requires : tie.Need-limit-by-requires Inv-loop μ-loop
+limit-by-requires c κs = from-most (c .before .before .before .before .args .t1) (c .before .before .before .before .pre .0) (c .before .before .before .loop .l) (omega arith)
+
+larger-requires : tie.Need-larger-requires Inv-loop μ-loop
+larger-requires c κs = search needs
+
+mul-limits : tie.Need-mul-limits Inv-loop μ-loop
+mul-limits c = omega (arith, c .before .before .number .ensures, to-most (c .before .before .before .before .before .before .args .t1) (c .before .before .before .before .before .before .pre .0) (c .before .before .before .before .before .loop .l) (omega arith) .1)
+
+array-write-limits : tie.Need-array-write-limits Inv-loop μ-loop
+array-write-limits c = omega (arith, c .before .before .number .ensures, to-most (c .before .before .before .before .before .before .args .t1) (c .before .before .before .before .before .before .pre .0) (c .before .before .before .before .before .loop .l) (omega arith) .1)
+
+add-l : tie.Need-add-l Inv-loop μ-loop
+add-l c = omega (arith, c .before .before .before .before .before .before .pre .0 .few-links)
+
+loop-less : tie.Need-loop-less Inv-loop μ-loop
+loop-less c = omega arith
+
+loop-again : tie.Need-loop-again Inv-loop μ-loop
+loop-again c = let L = c .before .before .before .before .before .loop in let S = c .before .before .before .before .before .before in let d = S .args .t1 in let e : c .before .before .number .result ≡ linkAt d (L .l) .to = c .before .before .number .ensures in (omega arith, rw (c .larger .ensures, c .before .limit-by .ensures, e) (limits-more d (S .args .gaps .now) (L .limits) (L .l) (S .pre .0) (S .pre .1) (omega arith) (L .inv .1)))
+
+returns : tie.Need-returns Inv-loop μ-loop
+returns c = let L = c .before .loop in let S = c .before .before in let e : L .l ≡ S .args .t1 .«link_count» = omega (arith, L .inv .0, c .loop-test .left) in limits-done (S .args .t1) (S .args .gaps .now) (L .limits) (rw e at (L .inv .1))
+
+pub limits-at-spec : {M : Type 1} → statement M
+limits-at-spec =
+    tie.close
+    (tie.spec
+    Inv-loop
+    μ-loop
+    loop-holds
+    mul-link
+    element-copy-out-link
+    number-requires
+    sub-at
+    mul-larger
+    array-read-larger
+    limit-by-requires
+    larger-requires
+    mul-limits
+    array-write-limits
+    add-l
+    loop-less
+    loop-again
+    returns)

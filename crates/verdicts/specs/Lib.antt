@@ -1,0 +1,4 @@
+pub mod Level
+pub mod Matrix
+pub mod Plan
+pub mod Decide

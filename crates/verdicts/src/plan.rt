@@ -1,0 +1,197 @@
+// The tables that verdicts are worked out on. Loads, starts and the order of task links do not depend on the tempo.
+
+use crate::rounds::level_reach;
+use crate::rounds::spacing_at;
+use crate::walk::walk_back;
+use model::Description;
+use model::Link;
+ghost use mathlib.Core.Path.{_≡_};
+ghost use mathlib.Core.List.{[]};
+ghost use mathlib.Core.Bool.{false};
+ghost use Prim.Native.Nat.{ℕ, suc, _+_, _≤_, _<_, max};
+ghost use lib.ListN.{getD};
+ghost use Rattle.model.specs.Basics.{topN};
+ghost use Rattle.model.specs.Graph.{linkAt};
+ghost use Rattle.theory.proofs.WellFormed.{WellFormed};
+ghost use Rattle.verdicts.specs.Level.{Level, reachIn};
+ghost use Rattle.verdicts.specs.Plan.{entry, GapsOf, LimitsOf, limitBy, orderBy};
+
+// The loads of the sources at one task, from the sheet's column.
+fn level_at(sheet: &[[u64; 32]; 48], j: usize) -> [u64; 16]
+    requires { ⌜ j < 32 ⌝ }
+    ensures { λ r. ⌜ ((u : ℕ) → u < 16 → getD r u 0 ≡ entry (now (sheet .entry)) (32 + u) j) ⌝ }
+{
+    let mut loads = [0u64; 16];
+    let mut u: usize = 0;
+    while u < 16 {
+        loads[u] = sheet[32 + u][j];
+        u += 1;
+    }
+    loads
+}
+
+// The loads of the sources at every task.
+pub fn levels_of(sheet: &[[u64; 32]; 48]) -> [[u64; 16]; 32]
+    ensures { λ r. ⌜ ((j u : ℕ) → j < 32 → u < 16 → entry r j u ≡ entry (now (sheet .entry)) (32 + u) j) ⌝ }
+{
+    let mut levels = [[0u64; 16]; 32];
+    let mut j: usize = 0;
+    while j < 32 {
+        let row = level_at(sheet, j);
+        levels[j] = row;
+        j += 1;
+    }
+    levels
+}
+
+// The largest load that a lower task puts on one task.
+fn start_at(sheet: &[[u64; 32]; 48], j: usize) -> u64
+    requires { ⌜ j < 32 ⌝ }
+    ensures { λ r. ⌜ r ≡ topN (λ k. entry (now (sheet .entry)) k j) 0 j ⌝ }
+{
+    let mut best: u64 = 0;
+    let mut k: usize = 0;
+    while k < j {
+        let load = sheet[k][j];
+        if best < load {
+            best = load;
+        }
+        k += 1;
+    }
+    best
+}
+
+// Where the rounds of every task start.
+pub fn starts_of(sheet: &[[u64; 32]; 48]) -> [u64; 32]
+    ensures { λ r. ⌜ ((j : ℕ) → j < 32 → getD r j 0 ≡ topN (λ k. entry (now (sheet .entry)) k j) 0 j) ⌝ }
+{
+    let mut starts = [0u64; 32];
+    let mut j: usize = 0;
+    while j < 32 {
+        starts[j] = start_at(sheet, j);
+        j += 1;
+    }
+    starts
+}
+
+// A number of a link as an index.
+fn number(x: u8) -> usize
+    ensures { λ r. ⌜ r ≡ x ⌝ }
+{
+    x as usize
+}
+
+// The spacing of a source in 64 bits.
+fn wide(x: u32) -> u64
+    ensures { λ r. ⌜ r ≡ x ⌝ }
+{
+    x as u64
+}
+
+// The spacing of each source at tempo t.
+pub fn gaps_at(d: Description, t: u32) -> [u64; 16]
+    requires { ⌜ WellFormed d × (200 ≤ t) × (t ≤ 3000) ⌝ }
+    ensures { λ r. ⌜ GapsOf d t r ⌝ }
+{
+    let mut gaps = [0u64; 16];
+    let mut u: usize = 0;
+    while u < d.source_count {
+        let slot = d.sources[u];
+        let source = slot.source;
+        gaps[u] = wide(spacing_at(source, t));
+        u += 1;
+    }
+    gaps
+}
+
+// The larger of two numbers.
+fn larger(a: u64, b: u64) -> u64
+    ensures { λ r. ⌜ r ≡ max a b ⌝ }
+{
+    if a < b { b } else { a }
+}
+
+// The spacing of a critical link's source, or 0 for any other link.
+fn limit_by(link: Link, gaps: &[u64; 16]) -> u64
+    requires { ⌜ link .from < 49 ⌝ }
+    ensures { λ r. ⌜ r ≡ limitBy (now (gaps .entry)) link ⌝ }
+{
+    let from = number(link.from);
+    if link.critical == 1 {
+        if 33 <= from {
+            return gaps[from - 33];
+        }
+    }
+    0
+}
+
+// For each task the largest spacing of a source that has a critical link to it.
+pub fn limits_at(d: Description, gaps: &[u64; 16]) -> [u64; 32]
+    requires { ⌜ WellFormed d × ((u : ℕ) → getD (now gaps) u 0 ≤ 1000000000) ⌝ }
+    ensures { λ r. ⌜ LimitsOf d (now (gaps .entry)) r ⌝ }
+{
+    let mut limits = [0u64; 32];
+    let mut l: usize = 0;
+    while l < d.link_count {
+        let link = d.links[l];
+        let at = number(link.to) - 1;
+        limits[at] = larger(limits[at], limit_by(link, gaps));
+        l += 1;
+    }
+    limits
+}
+
+// Where the rounds of each of n tasks come to, with m sources.
+pub fn reaches_at(
+    levels: &[[u64; 16]; 32],
+    starts: &[u64; 32],
+    gaps: &[u64; 16],
+    limits: &[u64; 32],
+    n: usize,
+    m: usize,
+) -> [u64; 32]
+    requires { ⌜ (n ≤ 32) × ((j : ℕ) → j < n → Level (getD (now starts) j 0) (getD (now levels) j []) (now gaps) m) × ((j : ℕ) → getD (now limits) j 0 ≤ 1000000000) ⌝ }
+    ensures { λ r. ⌜ ((j : ℕ) → j < n → getD r j 0 ≡ reachIn (getD (now (starts .entry)) j 0) (getD (now (levels .entry)) j []) (now (gaps .entry)) m (getD (now (limits .entry)) j 0)) ⌝ }
+{
+    let mut reaches = [0u64; 32];
+    let mut j: usize = 0;
+    while j < n {
+        let loads = levels[j];
+        let reach = level_reach(starts[j], &loads, gaps, m, limits[j]);
+        reaches[j] = reach;
+        j += 1;
+    }
+    reaches
+}
+
+// Whether a critical link between tasks is in order; false for any other link.
+fn order_by(link: Link, links: &[bool; 1536]) -> bool
+    requires { ⌜ 1 ≤ link .from ⌝ }
+    ensures { λ r. ⌜ r ≡ orderBy (now (links .entry)) link ⌝ }
+{
+    let from = number(link.from);
+    let to = number(link.to);
+    if link.critical == 1 {
+        if from < 33 {
+            let w = walk_back(links, from, to);
+            return w.failed == 0;
+        }
+    }
+    false
+}
+
+// Which links between tasks are in order.
+pub fn orders_of(d: Description, links: &[bool; 1536]) -> [bool; 256]
+    requires { ⌜ WellFormed d ⌝ }
+    ensures { λ r. ⌜ ((l : ℕ) → l < d .«link_count» → getD r l false ≡ orderBy (now (links .entry)) (linkAt d l)) ⌝ }
+{
+    let mut orders = [false; 256];
+    let mut l: usize = 0;
+    while l < d.link_count {
+        let link = d.links[l];
+        let ok = order_by(link, links);
+        orders[l] = ok;
+        l += 1;
+    }
+    orders
+}

@@ -1,13 +1,14 @@
 // Descriptions: reading a file, judging a record, and its load sheet, with all of the refusals 1 to 10.
 
 use model::Description;
+use model::Filled;
 use model::LoadSheet;
 use model::Outcome;
 use model::Reading;
 use model::Refusal;
 use model::Row;
 ghost use mathlib.Core.Path.{_≡_};
-ghost use Rattle.model.specs.File.{readFile, judge, loadSheet, refusedReading};
+ghost use Rattle.model.specs.File.{readFile, judge, loadSheet, refusedReading, written, pageAfter};
 ghost use Rattle.model.specs.Loads.{noRow};
 ghost use Rattle.files.specs.Answers.{refusedSheet};
 
@@ -67,4 +68,15 @@ pub fn read(s: &[u8]) -> Reading
         return refused_reading(why, place);
     }
     parsed
+}
+
+// A record's file into a lent buffer, or what the record is refused for; a refusal changes no byte.
+pub fn write(d: Description, out: &mut [u8]) -> Filled
+    ensures { λ r. ⌜ (r ≡ written d (now (out .entry))) × (now (out .exit) ≡ pageAfter d (now (out .entry))) ⌝ }
+{
+    let judged = judge(d);
+    if let Outcome::Refused(why, place) = judged {
+        return Filled::Unfilled(why, place);
+    }
+    fields::put_file(d, &mut *out)
 }

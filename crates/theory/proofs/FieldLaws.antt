@@ -1,23 +1,20 @@
 -- One field of a description file: what is written is taken whole, and what is taken whole was written. Assumes nothing.
-use Prim.Native.Nat.{ℕ, zero, suc, _+_, _-_, _*_, _^_, _≤_, _<_}
+use Prim.Native.Nat.{ℕ, zero, suc, _+_, _-_, _^_, _≤_, _<_}
 use mathlib.Core.Path.{_≡_, refl, sym, ap, _∙_}
 use mathlib.Core.Bool.{Bool, true, false, cond, not, _||_}
 use mathlib.Core.List.{List, [], _∷_, _++_, append-assoc}
 use native.Mathlib.Omega.{arith}
 use native.Mathlib.Numerals.{add-one}
-use native.Mathlib.Nat.{zero-add, add-zero, add-assoc}
+use native.Mathlib.Nat.{add-zero, add-assoc}
 use lib.Dec.{leb, ltb, eqb}
-use lib.ListN.{length, getD, take, drop, length-append, length-drop}
-use lib.Seq.{getD-append-add, take-add, drop-drop, drop-cons, getD-drop}
-use borrow.Author.Tests.{lt-leb, le-leb, le-ltb, eq-eqb, ne-eqb, leb-true, leb-false, ltb-false, eqb-true, eqb-false, not-false}
-use Rattle.model.specs.declared.Source.{Source}
+use lib.ListN.{length, getD, take, drop, length-append}
+use lib.Seq.{getD-append-add, take-add, drop-drop, drop-cons}
+use borrow.Author.Tests.{lt-leb, le-ltb, eq-eqb, ne-eqb, leb-true, leb-false, ltb-false, eqb-true, eqb-false, not-false}
 use Rattle.model.specs.declared.Source.the-variants.{Fixed, Paced}
-use Rattle.model.specs.declared.Link.{Link}
 use Rattle.model.specs.declared.Field.{Field}
 use Rattle.model.specs.declared.Field.the-variants.{OfTask, OfSource, OfLink}
 use Rattle.model.specs.declared.Refusal.{Refusal}
 use Rattle.model.specs.declared.Refusal.the-variants.{CutShort, StrangeTag, WrongLength}
-use Rattle.model.specs.declared.Taken.{Taken}
 use Rattle.model.specs.declared.Taken.the-variants.{Whole, Broken, End}
 use Rattle.model.specs.Field.{bytesOf, numberIn, tagOf, bodyLength, bodyOf, fieldBytes, fieldIn, takeField}
 use Rattle.theory.proofs.Tests.{or-false, or-false-left, or-false-right}

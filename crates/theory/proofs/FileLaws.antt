@@ -1,11 +1,10 @@
 -- The description file: judging, reading and writing are one. The main theorems about the definitions of Field and File. Assumes nothing.
-use Prim.Native.Nat.{ℕ, zero, suc, _+_, _-_, _≤_, _<_}
+use Prim.Native.Nat.{ℕ, suc, _+_, _-_, _≤_, _<_}
 use mathlib.Core.Path.{_≡_, refl, sym, ap, _∙_}
-use mathlib.Core.Bool.{Bool, true, false, cond, _||_, _&&_}
-use mathlib.Core.List.{List}
-use mathlib.Core.Logic.{_⊎_, inl, inr}
+use mathlib.Core.Bool.{Bool, true, false, cond, _||_}
+use mathlib.Core.Logic.{inl, inr}
 use native.Mathlib.Omega.{arith}
-use lib.Dec.{leb, ltb, eqb, eqb·suc-zero}
+use lib.Dec.{leb, eqb, eqb·suc-zero}
 use lib.ListN.{length, getD}
 use borrow.Author.Tests.{leb-true, eqb-false}
 use Rattle.model.specs.declared.Description.{Description}
@@ -14,13 +13,13 @@ use Rattle.model.specs.declared.Refusal.the-variants.{TooMany, NoTask, Loop, To
 use Rattle.model.specs.declared.Outcome.{Outcome}
 use Rattle.model.specs.declared.Outcome.the-variants.{Done, Refused}
 use Rattle.model.specs.declared.Reading.{Reading}
-use Rattle.model.specs.Refusals.{noLink, noSource, onDone}
-use Rattle.model.specs.Graph.{System, system, linkAt, sourceAt, runOf, cyclic}
+use Rattle.model.specs.Refusals.{noSource, onDone}
+use Rattle.model.specs.Graph.{System, system, linkAt, runOf, cyclic}
 use Rattle.model.specs.Loads.{tooHeavy}
-use Rattle.model.specs.Field.{fieldOf, fieldCount, isTask, isSource, onScale}
+use Rattle.model.specs.Field.{fieldOf, fieldCount, isTask, isSource}
 use Rattle.model.specs.File.{fileOf, parseFile, lastChecks, finished, readFile, overfull, judge}
 use Rattle.theory.proofs.Tests.{or-new, or-cases, and-left, and-right}
-use Rattle.theory.proofs.WellFormed.{WellFormed, IsTask, IsSource, rises}
+use Rattle.theory.proofs.WellFormed.{WellFormed, rises}
 use Rattle.theory.proofs.Fielded.{Fielded, well-formed}
 use Rattle.theory.proofs.RecordLaws.{Widths, copyAt, progressAt, read-start, field-task, field-source, field-link}
 use Rattle.theory.proofs.RecordState.{lastFrom, lastTo, progress-tasks, progress-sources, progress-links, copy-links}

@@ -1,16 +1,15 @@
 -- How long a description's file can be, and that a reading looks at no byte past the first 4,096. Assumes nothing.
 use Prim.Native.Nat.{ℕ, zero, suc, _+_, _-_, _*_, _≤_, _<_}
-use mathlib.Core.Path.{_≡_, refl, sym, ap, _∙_}
+use mathlib.Core.Path.{_≡_, refl, sym, _∙_}
 use mathlib.Core.Bool.{Bool, true, false, cond, not, _||_}
-use mathlib.Core.List.{List, [], _∷_, _++_}
+use mathlib.Core.List.{List}
 use native.Mathlib.Omega.{arith}
-use native.Mathlib.Nat.{add-zero, add-suc, add-assoc}
+use native.Mathlib.Nat.{add-zero, add-suc}
 use lib.Dec.{leb, ltb, eqb}
-use lib.ListN.{length, getD, take, length-take}
+use lib.ListN.{length, getD, take}
 use lib.Seq.{getD-take, length-take-le, take-all}
 use borrow.Author.Tests.{lt-leb, le-ltb, ltb-true}
 use Rattle.model.specs.declared.Source.{Source}
-use Rattle.model.specs.declared.Source.the-variants.{Fixed, Paced}
 use Rattle.model.specs.declared.Link.{Link}
 use Rattle.model.specs.declared.Description.{Description}
 use Rattle.model.specs.declared.Field.{Field}
@@ -21,17 +20,15 @@ use Rattle.model.specs.declared.Taken.{Taken}
 use Rattle.model.specs.declared.Taken.the-variants.{Whole, Broken, End}
 use Rattle.model.specs.declared.Check.{Check}
 use Rattle.model.specs.declared.Check.the-variants.{Fine, Unfit}
-use Rattle.model.specs.declared.Reading.{Reading}
 use Rattle.model.specs.Basics.{joined}
 use Rattle.model.specs.Refusals.{blank, noLink, noSource}
-use Rattle.model.specs.Field.{numberIn, bodyLength, fieldBytes, fieldIn, takeField, checkField, withField, passed, noProgress, fieldOf, fieldCount}
+use Rattle.model.specs.Field.{numberIn, bodyLength, fieldBytes, fieldIn, takeField, checkField, withField, passed, noProgress, fieldOf}
 use Rattle.model.specs.File.{fileOf, parseFrom, parseFile, readFile}
 use Rattle.theory.proofs.Tests.{Cmp, less, same, more, cmp}
 use Rattle.theory.proofs.NumberBytes.{number-same}
-use Rattle.theory.proofs.FieldLaws.{length-field, body-most, Took, take-took, took-length}
+use Rattle.theory.proofs.FieldLaws.{length-field, body-most, take-took, took-length}
 use Rattle.theory.proofs.RecordLaws.{offset, offset-more, field-task, field-source, field-link, parse-fine, parse-unfit, parse-broken, parse-end}
-use Rattle.theory.proofs.JudgeLaws.{Few, Passes, fine-passes}
-use Rattle.theory.proofs.ReadLaws.{Counts, counts-more, few-more}
+use Rattle.theory.proofs.JudgeLaws.{Few, fine-passes}
 
 -- seven bytes for a task, at most seven for a source, six for a link
 pub length-task : (e : ℕ) → length (fieldBytes (OfTask e)) ≡ 7

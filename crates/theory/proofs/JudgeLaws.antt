@@ -1,36 +1,30 @@
 -- A description that is judged as done is well formed. Assumes nothing.
 use Prim.Native.Nat.{ℕ, zero, suc, _+_, _-_, _≤_, _<_}
-use mathlib.Core.Path.{_≡_, refl, sym, ap, _∙_, fun-ext}
-use mathlib.Core.Bool.{Bool, true, false, cond, not, _||_, _&&_}
+use mathlib.Core.Path.{_≡_, refl, _∙_, fun-ext}
+use mathlib.Core.Bool.{Bool, true, false, cond, _||_, _&&_}
 use mathlib.Core.List.{List}
-use mathlib.Core.Logic.{_⊎_, inl, inr}
 use native.Mathlib.Omega.{arith}
 use lib.Dec.{leb, ltb, eqb}
 use lib.ListN.{length, getD}
-use borrow.Author.Tests.{ltb-false, leb-true, leb-false, le-leb, eqb-false, not-false, ltb-true}
+use borrow.Author.Tests.{ltb-false, leb-true, eqb-false}
 use Rattle.model.specs.declared.Description.{Description}
 use Rattle.model.specs.declared.Field.{Field}
-use Rattle.model.specs.declared.Field.the-variants.{OfTask, OfSource, OfLink}
 use Rattle.model.specs.declared.Progress.{Progress}
 use Rattle.model.specs.declared.Refusal.{Refusal}
-use Rattle.model.specs.declared.Refusal.the-variants.{OutOfTurn, TooMany, OffScale, NoSuchEnd, NoTask, Loop, TooHeavy}
 use Rattle.model.specs.declared.Check.{Check}
 use Rattle.model.specs.declared.Check.the-variants.{Fine, Unfit}
 use Rattle.model.specs.declared.Outcome.{Outcome}
 use Rattle.model.specs.declared.Outcome.the-variants.{Done, Refused}
-use Rattle.model.specs.declared.Reading.{Reading}
-use Rattle.model.specs.Basics.{anyN}
-use Rattle.model.specs.Refusals.{noLink, noSource, onDone, blank}
-use Rattle.model.specs.Graph.{System, system, linked, linkAt, sourceAt, runOf, cyclic}
+use Rattle.model.specs.Refusals.{noLink, noSource}
+use Rattle.model.specs.Graph.{system, linked, linkAt, runOf, cyclic}
 use Rattle.model.specs.Loads.{tooHeavy}
-use Rattle.model.specs.Field.{fieldBytes, checkField, inTurn, hasRoom, onScale, hasEnds, isTask, isSource, fieldOf, fieldCount}
-use Rattle.model.specs.File.{fileOf, parseFrom, parseFile, refusedReading, lastChecks, finished, readFile, overfull, judge}
-use Rattle.theory.proofs.Tests.{Cmp, less, same, more, cmp, at-or-not, or-false-left, or-false-right, or-new, or-cases, and-left, and-right}
+use Rattle.model.specs.Field.{checkField, inTurn, hasRoom, onScale, hasEnds, fieldOf, fieldCount}
+use Rattle.model.specs.File.{fileOf, parseFile, lastChecks, finished, readFile, overfull, judge}
+use Rattle.theory.proofs.Tests.{Cmp, less, same, more, cmp, at-or-not, or-false-left, or-false-right}
 use Rattle.theory.proofs.Range.{any-cong}
-use Rattle.theory.proofs.WellFormed.{WellFormed, IsTask, IsSource, rises}
 use Rattle.theory.proofs.FieldLaws.{length-field}
-use Rattle.theory.proofs.RecordLaws.{Widths, offset, offset-more, progressAt, copyAt, readAt, read-fine, read-unfit, read-end, read-start, field-task, field-source, field-link}
-use Rattle.theory.proofs.RecordState.{lastFrom, lastTo, filled, getD-filled, progress-tasks, progress-sources, progress-links, copy-links}
+use Rattle.theory.proofs.RecordLaws.{Widths, offset, offset-more, progressAt, copyAt, readAt, read-fine, read-unfit, read-end}
+use Rattle.theory.proofs.RecordState.{filled, getD-filled, copy-links}
 
 -- a field that may stand where it does passed each check
 pub record Passes (p : Progress) (f : Field) : Type 0 where

@@ -1,11 +1,11 @@
 -- Numbers as bytes, high byte first: what is written reads back, and what is read writes back. Assumes nothing.
-use Prim.Native.Nat.{ℕ, zero, suc, _+_, _-_, _*_, _/_, _%_, _^_, _≤_, _<_}
-use mathlib.Core.Path.{_≡_, refl, sym, ap, _∙_}
+use Prim.Native.Nat.{ℕ, zero, suc, _+_, _*_, _/_, _%_, _^_, _≤_, _<_}
+use mathlib.Core.Path.{_≡_, refl, _∙_}
 use mathlib.Core.List.{List, [], _∷_, _++_, append-assoc}
 use native.Mathlib.Omega.{arith}
-use native.Mathlib.Nat.{zero-add, add-zero, pow-suc, pow-zero, div-lt-iff-lt-mul, div-add-mod', mod-lt}
+use native.Mathlib.Nat.{pow-suc, pow-zero}
 use lib.ListN.{length, getD, take, drop, length-append, length-drop}
-use lib.Seq.{getD-append-seam, take-suc, getD-drop, getD-append-add, getD-at}
+use lib.Seq.{take-suc, getD-drop, getD-append-add, getD-at}
 use Rattle.model.specs.Field.{bytesOf, numberIn}
 
 -- a list of bytes

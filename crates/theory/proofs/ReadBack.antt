@@ -1,27 +1,25 @@
 -- Reading and writing are inverse: what was written reads back, what was read writes back, and a description has one file. Assumes nothing.
-use Prim.Native.Nat.{ℕ, zero, suc, _+_, _-_, _≤_, _<_}
-use mathlib.Core.Path.{_≡_, refl, sym, ap, _∙_}
-use mathlib.Core.Bool.{Bool, true, false, _||_, _&&_}
+use Prim.Native.Nat.{ℕ, suc, _+_, _-_, _≤_, _<_}
+use mathlib.Core.Path.{_≡_, sym, ap, _∙_}
+use mathlib.Core.Bool.{false}
 use mathlib.Core.List.{List}
-use mathlib.Core.Logic.{_⊎_, inl, inr, ⊎-elim, _↔_}
+use mathlib.Core.Logic.{_↔_}
 use native.Mathlib.Omega.{arith}
-use lib.Dec.{leb, ltb}
+use lib.Dec.{ltb}
 use lib.ListN.{length, getD, List·getD-eq-default}
 use borrow.Author.Tests.{le-ltb}
-use Rattle.model.specs.declared.Source.the-variants.{Fixed}
 use Rattle.model.specs.declared.Description.{Description}
 use Rattle.model.specs.declared.Field.the-variants.{OfSource}
 use Rattle.model.specs.declared.SourceSlot.{SourceSlot}
 use Rattle.model.specs.declared.Link.{Link}
 use Rattle.model.specs.declared.Reading.{Reading}
-use Rattle.model.specs.declared.Outcome.{Outcome}
-use Rattle.model.specs.declared.Outcome.the-variants.{Done, Refused}
-use Rattle.model.specs.Refusals.{noLink, noSource, onDone}
-use Rattle.model.specs.Graph.{system, linkAt}
+use Rattle.model.specs.declared.Outcome.the-variants.{Done}
+use Rattle.model.specs.Refusals.{noLink, noSource}
+use Rattle.model.specs.Graph.{system}
 use Rattle.model.specs.Field.{fieldCount, onScale}
-use Rattle.model.specs.File.{fileOf, parseFile, lastChecks, finished, readFile, Accepted, overfull, judge, trimmed}
+use Rattle.model.specs.File.{fileOf, parseFile, readFile, Accepted, overfull, judge, trimmed}
 use Rattle.theory.proofs.Tests.{Cmp, less, same, more, cmp, not-both, or-false}
-use Rattle.theory.proofs.WellFormed.{WellFormed, IsTask, IsSource}
+use Rattle.theory.proofs.WellFormed.{WellFormed}
 use Rattle.theory.proofs.NumberBytes.{Bytes}
 use Rattle.theory.proofs.RecordLaws.{Widths, copyAt}
 use Rattle.theory.proofs.RecordState.{filled-is, copy-links}
@@ -29,7 +27,7 @@ use Rattle.theory.proofs.JudgeLaws.{Few, copy-system, judge-read, read-
 use Rattle.theory.proofs.ReadLaws.{Whence, so-far-start, parse-whence}
 use Rattle.theory.proofs.FileLength.{file-length}
 use Rattle.theory.proofs.Fielded.{Fielded}
-use Rattle.theory.proofs.FileLaws.{Judged, judge-judged, judge-well-formed, record-fielded}
+use Rattle.theory.proofs.FileLaws.{judge-judged, judge-well-formed, record-fielded}
 
 -- a list that holds no blank entry below n has n entries
 entries : {A : Type 0} (l : List A) (n : ℕ) (z : A) → ((k : ℕ) → k < n → getD l k z ≡ z → ⊥) → n ≤ length l

@@ -1,15 +1,12 @@
 -- What a reading has taken so far is the file of what it holds, whatever the bytes were. Assumes nothing.
-use Prim.Native.Nat.{ℕ, zero, suc, _+_, _-_, _*_, _^_, _≤_, _<_}
+use Prim.Native.Nat.{ℕ, zero, suc, _+_, _^_, _≤_, _<_}
 use mathlib.Core.Path.{_≡_, refl, sym, ap, _∙_}
-use mathlib.Core.Bool.{Bool, true, false, _||_, _&&_}
-use mathlib.Core.List.{List, [], _∷_, _++_}
+use mathlib.Core.List.{List, _++_}
 use native.Mathlib.Omega.{arith}
-use native.Mathlib.Nat.{add-zero}
-use native.Mathlib.Numerals.{add-one}
-use lib.Dec.{leb, ltb, eqb}
-use lib.ListN.{length, getD, take, set, length-set, length-replicate}
+use lib.Dec.{eqb}
+use lib.ListN.{length, getD, take, set, length-set}
 use lib.Seq.{getD-set-same, getD-set-other, take-all}
-use borrow.Author.Tests.{ltb-true, eqb-true, leb-true}
+use borrow.Author.Tests.{ltb-true, eqb-true}
 use Rattle.model.specs.declared.Source.{Source}
 use Rattle.model.specs.declared.Link.{Link}
 use Rattle.model.specs.declared.Description.{Description}
@@ -21,12 +18,11 @@ use Rattle.model.specs.declared.Taken.{Taken}
 use Rattle.model.specs.declared.Taken.the-variants.{Whole, Broken, End}
 use Rattle.model.specs.declared.Check.{Check}
 use Rattle.model.specs.declared.Check.the-variants.{Fine, Unfit}
-use Rattle.model.specs.declared.Outcome.{Outcome}
 use Rattle.model.specs.declared.Outcome.the-variants.{Done, Refused}
 use Rattle.model.specs.Basics.{joined}
 use Rattle.model.specs.Refusals.{noLink, noSource, blank}
 use Rattle.model.specs.Field.{fieldBytes, takeField, checkField, withField, passed, noProgress, fieldOf, fieldCount}
-use Rattle.model.specs.File.{fileOf, parseFrom, parseFile}
+use Rattle.model.specs.File.{fileOf, parseFrom}
 use Rattle.theory.proofs.Tests.{at-or-not, and-left, and-right}
 use Rattle.theory.proofs.NumberBytes.{Bytes}
 use Rattle.theory.proofs.FieldLaws.{SourceFits, FieldFits, Took, take-took, take-end, took-fits, took-bytes, took-inside}

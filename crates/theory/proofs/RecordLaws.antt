@@ -1,24 +1,19 @@
 -- The file of a description: each of its fields is taken back whole, in order, and checked once. Assumes nothing.
-use Prim.Native.Nat.{ℕ, zero, suc, _+_, _-_, _^_, _≤_, _<_}
-use mathlib.Core.Path.{_≡_, refl, sym, ap, _∙_}
-use mathlib.Core.Bool.{Bool, true, false, cond}
-use mathlib.Core.List.{List, [], _∷_, _++_, append-assoc, append-nil}
+use Prim.Native.Nat.{ℕ, zero, suc, _+_, _-_, _≤_, _<_}
+use mathlib.Core.Path.{_≡_, refl, ap}
+use mathlib.Core.List.{List, [], _++_, append-assoc, append-nil}
 use native.Mathlib.Omega.{arith}
-use native.Mathlib.Nat.{add-zero}
-use lib.Dec.{leb, ltb}
 use lib.ListN.{length, getD, length-append}
 use borrow.Author.Tests.{le-leb, le-ltb, lt-ltb}
 use Rattle.model.specs.declared.Description.{Description}
 use Rattle.model.specs.declared.Field.{Field}
 use Rattle.model.specs.declared.Field.the-variants.{OfTask, OfSource, OfLink}
 use Rattle.model.specs.declared.Refusal.{Refusal}
-use Rattle.model.specs.declared.Taken.{Taken}
 use Rattle.model.specs.declared.Taken.the-variants.{Whole, Broken, End}
 use Rattle.model.specs.declared.Progress.{Progress}
 use Rattle.model.specs.declared.Check.{Check}
 use Rattle.model.specs.declared.Check.the-variants.{Fine, Unfit}
-use Rattle.model.specs.declared.Outcome.{Outcome}
-use Rattle.model.specs.declared.Outcome.the-variants.{Done, Refused}
+use Rattle.model.specs.declared.Outcome.the-variants.{Done}
 use Rattle.model.specs.declared.Reading.{Reading}
 use Rattle.model.specs.Basics.{joined, upTo}
 use Rattle.model.specs.Refusals.{blank, noLink, noSource}
@@ -26,7 +21,7 @@ use Rattle.model.specs.Field.{fieldBytes, takeField, checkField, withField, pas
 use Rattle.model.specs.File.{fileOf, parseFrom, parseFile, refusedReading}
 pub use Rattle.model.specs.File.{Widths}
 use Rattle.theory.proofs.Tests.{Cmp, less, same, more, cmp}
-use Rattle.theory.proofs.FieldLaws.{SourceFits, FieldFits, take-written}
+use Rattle.theory.proofs.FieldLaws.{FieldFits, take-written}
 
 -- the steps of a reading
 pub parse-fine : (n : ℕ) (s : List ℕ) (at : ℕ) (p : Progress) (d : Description) (f : Field) (next : ℕ) → takeField s at ≡ Whole f next → checkField p f ≡ Fine → parseFrom (suc n) s at p d ≡ parseFrom n s next (passed p f) (withField d f)

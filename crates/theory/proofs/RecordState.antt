@@ -1,22 +1,17 @@
 -- What a reading knows and holds before each field of a description's own file. Assumes nothing.
 use Prim.Native.Nat.{ℕ, zero, suc, _+_, _-_, _≤_, _<_}
-use mathlib.Core.Path.{_≡_, refl, sym, ap, _∙_}
-use mathlib.Core.List.{List, [], _∷_, _++_, append-assoc}
+use mathlib.Core.Path.{_≡_, refl, _∙_}
+use mathlib.Core.List.{List, _++_, append-assoc}
 use native.Mathlib.Omega.{arith}
 use native.Mathlib.Nat.{add-zero, add-suc}
 use native.Mathlib.Numerals.{add-one}
-use lib.ListN.{length, getD, take, set, replicate, length-append, length-set, length-replicate}
+use lib.ListN.{length, getD, take, set, replicate, length-set, length-replicate}
 use lib.Seq.{getD-set-same, getD-set-other, set-at, take-suc, length-take-le}
 use Rattle.model.specs.declared.Description.{Description}
-use Rattle.model.specs.declared.Field.{Field}
-use Rattle.model.specs.declared.Field.the-variants.{OfTask, OfSource, OfLink}
-use Rattle.model.specs.declared.Progress.{Progress}
-use Rattle.model.specs.declared.SourceSlot.{SourceSlot}
-use Rattle.model.specs.declared.Link.{Link}
 use Rattle.model.specs.Basics.{upTo}
 use Rattle.model.specs.Graph.{linkAt}
 use Rattle.model.specs.Refusals.{blank, noLink, noSource}
-use Rattle.model.specs.Field.{withField, passed, noProgress, fieldOf, fieldCount}
+use Rattle.model.specs.Field.{noProgress}
 use Rattle.theory.proofs.Tests.{Cmp, less, same, more, cmp}
 use Rattle.theory.proofs.RecordLaws.{progressAt, copyAt, progress-more, copy-more, field-task, field-source, field-link}
 

@@ -1,9 +1,9 @@
 -- What a description is known to be by its type alone: a call that is handed one has its widths and lengths for nothing. Assumes nothing.
-use Prim.Native.Nat.{ℕ, zero, suc, _<_, _^_}
-use mathlib.Core.Path.{_≡_, sym, _∙_}
+use Prim.Native.Nat.{ℕ, zero, suc}
+use mathlib.Core.Path.{sym, _∙_}
 use mathlib.Core.List.{List, [], _∷_, map}
 use native.Mathlib.Omega.{arith}
-use lib.ListN.{length, getD, length-map}
+use lib.ListN.{getD, length-map}
 use mir.Val.{Val}
 use mir.Syntax.{w32}
 use borrow.Author.Needs.{elem-fits-field}

@@ -1,3 +1,4 @@
+-- `fields::advanced` meets its contract. Assumes nothing.
 use mathlib.Core.Path.{_≡_}
 use mathlib.Core.Bool.{true}
 use lib.Dec.{ltb}
@@ -6,42 +7,31 @@ use native.Mathlib.Omega.{arith}
 use borrow.Author.Needs.{needs}
 use Rattle.fields.proofs.advanced.Statement.{statement}
 use Rattle.fields.proofs.advanced.Tie as tie
-use Rattle.fields.proofs.advanced.Reads as reads
-use Rattle.fields.proofs.advanced.Lts as lts
 
--- src/lib.rt:226:47
 enum-told : tie.Need-enum-told
 enum-told c = search needs
 
--- src/lib.rt:226:47
 add-t5 : tie.Need-add-t5
 add-t5 c = let h : ltb (c .before .before .before .args .p .tasks) 32 ≡ true = rw (c .before .enum-told .given .1) at (c .before .before .before .pre) in omega (arith, ltb-true (c .before .before .before .args .p .tasks) 32 h)
 
--- src/lib.rt:227:67
 enum-told-2 : tie.Need-enum-told-2
 enum-told-2 c = search needs
 
--- src/lib.rt:227:67
 add-t6 : tie.Need-add-t6
 add-t6 c = let h : ltb (c .before .before .before .args .p .sources) 16 ≡ true = rw (c .before .enum-told2 .given .1) at (c .before .before .before .pre) in omega (arith, ltb-true (c .before .before .before .args .p .sources) 16 h)
 
--- src/lib.rt:228:23
 enum-known-f : tie.Need-enum-known-f
 enum-known-f c = search needs
 
--- src/lib.rt:228:83
 add-t7 : tie.Need-add-t7
 add-t7 c = let h : ltb (c .before .before .before .before .args .p .links) 256 ≡ true = rw (c .before .before .f .given .1) at (c .before .before .before .before .pre) in omega (arith, ltb-true (c .before .before .before .before .args .p .links) 256 h)
 
--- src/lib.rt:221:1
 returns : tie.Need-returns
 returns c = rw (c .before .enum-told .given .1)
 
--- src/lib.rt:221:1
 returns-2 : tie.Need-returns-2
 returns-2 c = rw (c .before .enum-told2 .given .1)
 
--- src/lib.rt:221:1
 returns-3 : tie.Need-returns-3
 returns-3 c = rw (c .before .before .f .given .1)
 

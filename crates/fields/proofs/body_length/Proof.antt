@@ -1,18 +1,14 @@
-use borrow.Author.Tests.{lt-ltb, le-ltb, le-leb, lt-leb, eq-eqb, ne-eqb}
+-- `fields::body_length` meets its contract. Assumes nothing.
+use borrow.Author.Tests.{le-leb, lt-leb, eq-eqb, ne-eqb}
 use Rattle.fields.proofs.body_length.Statement.{statement}
 use Rattle.fields.proofs.body_length.Tie as tie
-use Rattle.fields.proofs.body_length.Reads as reads
-use Rattle.fields.proofs.body_length.Lts as lts
 
--- src/lib.rt:132:9
 returns : tie.Need-returns
 returns c = rw (le-leb _ _ (c .if1 .taken))
 
--- src/lib.rt:135:9
 returns-2 : tie.Need-returns-2
 returns-2 c = rw (lt-leb _ _ (c .before .if1 .left), eq-eqb _ _ (c .if2 .taken))
 
--- src/lib.rt:128:1
 returns-3 : tie.Need-returns-3
 returns-3 c = rw (lt-leb _ _ (c .before .if1 .left), ne-eqb _ _ (c .if2 .left))
 

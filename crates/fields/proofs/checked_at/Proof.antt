@@ -1,42 +1,31 @@
+-- `fields::checked_at` meets its contract. Assumes nothing.
 use mathlib.Core.Path.{sym}
 use Rattle.fields.proofs.Laws.{other-taken}
 use borrow.Author.Needs.{needs}
 use Rattle.fields.proofs.checked_at.Statement.{statement}
 use Rattle.fields.proofs.checked_at.Tie as tie
-use Rattle.fields.proofs.checked_at.Reads as reads
-use Rattle.fields.proofs.checked_at.Lts as lts
-use Rattle.fields.proofs.check_field.Reads as check-field-reads
-use Rattle.fields.proofs.field_at.Reads as field-at-reads
 
--- src/lib.rt:209:9
 field-at-requires : tie.Need-field-at-requires
 field-at-requires c κs = search needs
 
--- src/lib.rt:210:22
 enum-known-t : tie.Need-enum-known-t
 enum-known-t c = search needs
 
--- src/lib.rt:211:9
 returns : tie.Need-returns
 returns c = rw (← (c .before .field-at .ensures)) (sym (other-taken (c .before .before .before .args .p) (c .before .field-at .result) (c .match .keys2)))
 
--- src/lib.rt:213:9
 check-field-requires : tie.Need-check-field-requires
 check-field-requires c κs = search needs
 
--- src/lib.rt:215:24
 enum-told : tie.Need-enum-told
 enum-told c = search needs
 
--- src/lib.rt:216:22
 enum-known-c : tie.Need-enum-known-c
 enum-known-c c = search needs
 
--- src/lib.rt:206:1
 returns-2 : tie.Need-returns-2
 returns-2 c = rw (← (c .before .before .before .before .before .before .field-at .ensures), (c .before .before .before .before .t .given .1), ← (c .before .before .check-field .ensures), (c .enum-told .given .1))
 
--- src/lib.rt:206:1
 returns-3 : tie.Need-returns-3
 returns-3 c = rw (← (c .before .before .before .before .before .before .before .field-at .ensures), (c .before .before .before .before .before .t .given .1), ← (c .before .before .before .check-field .ensures), (c .before .c .given .1))
 

@@ -1,63 +1,48 @@
-use borrow.Author.Tests.{lt-ltb, le-ltb, le-leb, lt-leb, eq-eqb, ne-eqb}
+-- `fields::field_in` meets its contract. Assumes nothing.
+use borrow.Author.Tests.{eq-eqb, ne-eqb}
 use native.Mathlib.Omega.{arith}
 use Rattle.model.specs.Field.{fieldIn}
 use Rattle.fields.proofs.Laws.{body-least}
 use borrow.Author.Needs.{needs}
 use Rattle.fields.proofs.field_in.Statement.{statement}
 use Rattle.fields.proofs.field_in.Tie as tie
-use Rattle.fields.proofs.field_in.Reads as reads
-use Rattle.fields.proofs.field_in.Lts as lts
-use Rattle.fields.proofs.half_at.Reads as half-at-reads
-use Rattle.fields.proofs.word_at.Reads as word-at-reads
 
--- src/lib.rt:146:30
 word-at-requires : tie.Need-word-at-requires
 word-at-requires c κs = rw (c .if1 .taken) at (c .before .before .pre)
 
--- src/lib.rt:146:9
 returns : tie.Need-returns
 unfolding fieldIn
 returns c = rw (eq-eqb _ _ (c .before .if1 .taken), (c .word-at .ensures))
 
--- src/lib.rt:149:46
 word-at-requires-2 : tie.Need-word-at-requires-2
 word-at-requires-2 c κs = rw (c .if2 .taken) at (c .before .before .before .pre)
 
--- src/lib.rt:149:9
 returns-2 : tie.Need-returns-2
 unfolding fieldIn
 returns-2 c = rw (ne-eqb _ _ (c .before .before .if1 .left), eq-eqb _ _ (c .before .if2 .taken), (c .word-at2 .ensures))
 
--- src/lib.rt:152:46
 half-at-requires : tie.Need-half-at-requires
 half-at-requires c κs = rw (c .if3 .taken) at (c .before .before .before .before .pre)
 
--- src/lib.rt:152:9
 returns-3 : tie.Need-returns-3
 unfolding fieldIn
 returns-3 c = rw (ne-eqb _ _ (c .before .before .before .if1 .left), ne-eqb _ _ (c .before .before .if2 .left), eq-eqb _ _ (c .before .if3 .taken), (c .half-at .ensures))
 
--- src/lib.rt:154:32
 shared-slice-read-t11 : tie.Need-shared-slice-read-t11
 shared-slice-read-t11 c = omega (arith, (c .before .before .before .before .before .pre), body-least (c .before .before .before .before .before .args .tag) (c .before .if3 .left))
 
--- src/lib.rt:154:44
 add-t12 : tie.Need-add-t12
 add-t12 c = search needs
 
--- src/lib.rt:154:42
 shared-slice-read-t14 : tie.Need-shared-slice-read-t14
 shared-slice-read-t14 c = omega (arith, (c .before .before .before .before .before .before .pre), body-least (c .before .before .before .before .before .before .args .tag) (c .before .before .if3 .left))
 
--- src/lib.rt:154:64
 add-t15 : tie.Need-add-t15
 add-t15 c = search needs
 
--- src/lib.rt:154:62
 shared-slice-read-t17 : tie.Need-shared-slice-read-t17
 shared-slice-read-t17 c = omega (arith, (c .before .before .before .before .before .before .before .pre), body-least (c .before .before .before .before .before .before .before .args .tag) (c .before .before .before .if3 .left))
 
--- src/lib.rt:141:1
 returns-4 : tie.Need-returns-4
 unfolding fieldIn
 returns-4 c = rw (ne-eqb _ _ (c .before .before .before .before .before .if1 .left), ne-eqb _ _ (c .before .before .before .before .if2 .left), ne-eqb _ _ (c .before .before .before .if3 .left))

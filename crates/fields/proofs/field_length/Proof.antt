@@ -1,3 +1,4 @@
+-- `fields::field_length` meets its contract. Assumes nothing.
 use mathlib.Core.Path.{sym}
 use Rattle.model.specs.declared.Source.the-variants.{Fixed, Paced}
 use Rattle.model.specs.declared.Field.the-variants.{OfSource}
@@ -6,42 +7,31 @@ use Rattle.theory.proofs.FileLength.{length-task, length-link}
 use borrow.Author.Needs.{needs}
 use Rattle.fields.proofs.field_length.Statement.{statement}
 use Rattle.fields.proofs.field_length.Tie as tie
-use Rattle.fields.proofs.field_length.Reads as reads
-use Rattle.fields.proofs.field_length.Lts as lts
 
--- src/lib.rt:360:29
 enum-told : tie.Need-enum-told
 enum-told c = search needs
 
--- src/lib.rt:361:25
 enum-known-f : tie.Need-enum-known-f
 enum-known-f c = search needs
 
--- src/lib.rt:362:33
 enum-told-2 : tie.Need-enum-told-2
 enum-told-2 c = search needs
 
--- src/lib.rt:363:33
 enum-told-3 : tie.Need-enum-told-3
 enum-told-3 c = search needs
 
--- src/lib.rt:365:29
 enum-told-4 : tie.Need-enum-told-4
 enum-told-4 c = search needs
 
--- src/lib.rt:356:1
 returns : tie.Need-returns
 returns c = rw ((c .enum-told .given .1)) (sym (length-task _))
 
--- src/lib.rt:356:1
 returns-2 : tie.Need-returns-2
 returns-2 c = rw ((c .before .before .before .f .given .1), (c .enum-told2 .given .1)) (sym (length-field (OfSource (Fixed _))))
 
--- src/lib.rt:356:1
 returns-3 : tie.Need-returns-3
 returns-3 c = rw ((c .before .before .before .f .given .1), (c .enum-told3 .given .1)) (sym (length-field (OfSource (Paced _))))
 
--- src/lib.rt:356:1
 returns-4 : tie.Need-returns-4
 returns-4 c = rw ((c .enum-told4 .given .1)) (sym (length-link _))
 

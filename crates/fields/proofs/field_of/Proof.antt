@@ -1,4 +1,5 @@
-use borrow.Author.Tests.{lt-ltb, le-ltb, le-leb, lt-leb, eq-eqb, ne-eqb}
+-- `fields::field_of` meets its contract. Assumes nothing.
+use borrow.Author.Tests.{lt-ltb, le-ltb}
 use Prim.Native.Nat.{_+_, _-_}
 use mathlib.Core.Path.{_≡_}
 use native.Mathlib.Omega.{arith}
@@ -6,35 +7,26 @@ use Rattle.model.specs.Field.{fieldOf}
 use borrow.Author.Needs.{needs}
 use Rattle.fields.proofs.field_of.Statement.{statement}
 use Rattle.fields.proofs.field_of.Tie as tie
-use Rattle.fields.proofs.field_of.Reads as reads
-use Rattle.fields.proofs.field_of.Lts as lts
 
--- src/lib.rt:74:30
 mul-t11 : tie.Need-mul-t11
 mul-t11 c = search needs
 
--- src/lib.rt:74:30
 element-copy-out-t14 : tie.Need-element-copy-out-t14
 element-copy-out-t14 c = search needs
 
--- src/lib.rt:74:9
 returns : tie.Need-returns
 unfolding fieldOf
 returns c = rw (lt-ltb _ _ (c .before .if1 .taken))
 
--- src/lib.rt:76:13
 sub-i : tie.Need-sub-i
 sub-i c = search needs
 
--- src/lib.rt:78:20
 mul-slot : tie.Need-mul-slot
 mul-slot c = search needs
 
--- src/lib.rt:78:20
 element-copy-out-slot : tie.Need-element-copy-out-slot
 element-copy-out-slot c = search needs
 
--- src/lib.rt:80:9
 returns-2 : tie.Need-returns-2
 unfolding fieldOf
 returns-2 c =
@@ -42,19 +34,15 @@ returns-2 c =
     let k = (c .before .before .before .args .k) in
     rw (le-ltb k (d .«task_count») (c .before .before .if1 .left), lt-ltb k (d .«task_count» + d .«source_count») (omega arith))
 
--- src/lib.rt:82:13
 sub-l : tie.Need-sub-l
 sub-l c = search needs
 
--- src/lib.rt:83:16
 mul-link : tie.Need-mul-link
 mul-link c = search needs
 
--- src/lib.rt:83:16
 element-copy-out-link : tie.Need-element-copy-out-link
 element-copy-out-link c = search needs
 
--- src/lib.rt:69:1
 returns-3 : tie.Need-returns-3
 unfolding fieldOf
 returns-3 c =

@@ -1,3 +1,4 @@
+-- `fields::half_at` meets its contract. Assumes nothing.
 use Prim.Native.Nat.{_+_}
 use mathlib.Core.Path.{_≡_}
 use native.Mathlib.Omega.{arith}
@@ -5,35 +6,25 @@ use Rattle.model.specs.Field.{numberIn}
 use borrow.Author.Needs.{needs}
 use Rattle.fields.proofs.half_at.Statement.{statement}
 use Rattle.fields.proofs.half_at.Tie as tie
-use Rattle.fields.proofs.half_at.Reads as reads
-use Rattle.fields.proofs.half_at.Lts as lts
-use Rattle.fields.proofs.byte_at.Reads as byte-at-reads
 
--- src/lib.rt:23:9
 byte-at-requires : tie.Need-byte-at-requires
 byte-at-requires c κs = search needs
 
--- src/lib.rt:24:24
 add-byte-at : tie.Need-add-byte-at
 add-byte-at c = search needs
 
--- src/lib.rt:24:9
 byte-at-requires-2 : tie.Need-byte-at-requires-2
 byte-at-requires-2 c κs = search needs
 
--- src/lib.rt:25:6
 mul-result : tie.Need-mul-result
 mul-result c = search needs
 
--- src/lib.rt:25:6
 add-result : tie.Need-add-result
 add-result c = search needs
 
--- src/lib.rt:25:5
 cast-result : tie.Need-cast-result
 cast-result c = search needs
 
--- src/lib.rt:19:1
 returns : tie.Need-returns
 unfolding numberIn
 returns c =

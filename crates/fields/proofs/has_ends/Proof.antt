@@ -1,44 +1,32 @@
+-- `fields::has_ends` meets its contract. Assumes nothing.
 use borrow.Author.Needs.{needs}
 use Rattle.fields.proofs.has_ends.Statement.{statement}
 use Rattle.fields.proofs.has_ends.Tie as tie
-use Rattle.fields.proofs.has_ends.Reads as reads
-use Rattle.fields.proofs.has_ends.Lts as lts
-use Rattle.fields.proofs.is_node.Reads as is-node-reads
-use Rattle.fields.proofs.is_task.Reads as is-task-reads
 
--- src/lib.rt:106:29
 enum-told : tie.Need-enum-told
 enum-told c = search needs
 
--- src/lib.rt:107:31
 enum-told-2 : tie.Need-enum-told-2
 enum-told-2 c = search needs
 
--- src/lib.rt:108:23
 enum-known-f : tie.Need-enum-known-f
 enum-known-f c = search needs
 
--- src/lib.rt:108:29
 is-node-requires : tie.Need-is-node-requires
 is-node-requires c κs = search needs
 
--- src/lib.rt:108:68
 is-task-requires : tie.Need-is-task-requires
 is-task-requires c κs = search needs
 
--- src/lib.rt:102:1
 returns : tie.Need-returns
 returns c = search needs
 
--- src/lib.rt:102:1
 returns-2 : tie.Need-returns-2
 returns-2 c = search needs
 
--- src/lib.rt:102:1
 returns-3 : tie.Need-returns-3
 returns-3 c = rw ((c .before .before .before .before .f .given .1), ← (c .before .before .is-node .ensures), (c .before .if1 .taken), (c .is-task .ensures))
 
--- src/lib.rt:102:1
 returns-4 : tie.Need-returns-4
 returns-4 c = rw ((c .before .before .before .f .given .1), ← (c .before .is-node .ensures), (c .if1 .left))
 

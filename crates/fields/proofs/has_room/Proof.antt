@@ -1,30 +1,23 @@
+-- `fields::has_room` meets its contract. Assumes nothing.
 use borrow.Author.Needs.{needs}
 use Rattle.fields.proofs.has_room.Statement.{statement}
 use Rattle.fields.proofs.has_room.Tie as tie
-use Rattle.fields.proofs.has_room.Reads as reads
-use Rattle.fields.proofs.has_room.Lts as lts
 
--- src/lib.rt:48:29
 enum-told : tie.Need-enum-told
 enum-told c = search needs
 
--- src/lib.rt:49:31
 enum-told-2 : tie.Need-enum-told-2
 enum-told-2 c = search needs
 
--- src/lib.rt:50:29
 enum-told-3 : tie.Need-enum-told-3
 enum-told-3 c = search needs
 
--- src/lib.rt:44:1
 returns : tie.Need-returns
 returns c = rw (c .before .enum-told .given .1)
 
--- src/lib.rt:44:1
 returns-2 : tie.Need-returns-2
 returns-2 c = rw (c .before .enum-told2 .given .1)
 
--- src/lib.rt:44:1
 returns-3 : tie.Need-returns-3
 returns-3 c = rw (c .before .enum-told3 .given .1)
 

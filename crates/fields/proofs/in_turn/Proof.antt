@@ -1,47 +1,36 @@
-use borrow.Author.Tests.{lt-ltb, le-ltb, le-leb, lt-leb, eq-eqb, ne-eqb}
+-- `fields::in_turn` meets its contract. Assumes nothing.
+use borrow.Author.Tests.{lt-ltb, le-ltb, eq-eqb, ne-eqb}
 use borrow.Author.Needs.{needs}
 use Rattle.fields.proofs.in_turn.Statement.{statement}
 use Rattle.fields.proofs.in_turn.Tie as tie
-use Rattle.fields.proofs.in_turn.Reads as reads
-use Rattle.fields.proofs.in_turn.Lts as lts
 
--- src/lib.rt:37:29
 enum-told : tie.Need-enum-told
 enum-told c = search needs
 
--- src/lib.rt:38:31
 enum-told-2 : tie.Need-enum-told-2
 enum-told-2 c = search needs
 
--- src/lib.rt:39:23
 enum-known-f : tie.Need-enum-known-f
 enum-known-f c = search needs
 
--- src/lib.rt:33:1
 returns : tie.Need-returns
 returns c = rw ((c .before .before .before .enum-told .given .1), eq-eqb _ _ (c .before .if1 .taken))
 
--- src/lib.rt:33:1
 returns-2 : tie.Need-returns-2
 returns-2 c = rw ((c .before .before .enum-told .given .1), ne-eqb _ _ (c .if1 .left))
 
--- src/lib.rt:33:1
 returns-3 : tie.Need-returns-3
 returns-3 c = rw ((c .before .enum-told2 .given .1))
 
--- src/lib.rt:33:1
 returns-4 : tie.Need-returns-4
 returns-4 c = rw ((c .before .before .before .f .given .1), eq-eqb _ _ (c .if2 .taken))
 
--- src/lib.rt:33:1
 returns-5 : tie.Need-returns-5
 returns-5 c = rw ((c .before .before .before .before .before .before .f .given .1), ne-eqb _ _ (c .before .before .before .if2 .left), lt-ltb _ _ (c .if3 .taken))
 
--- src/lib.rt:33:1
 returns-6 : tie.Need-returns-6
 returns-6 c = rw ((c .before .before .before .before .before .before .before .before .before .before .before .f .given .1), ne-eqb _ _ (c .before .before .before .before .before .before .before .before .if2 .left), le-ltb _ _ (c .before .before .before .before .before .if3 .left), eq-eqb _ _ (c .before .before .if4 .taken))
 
--- src/lib.rt:33:1
 returns-7 : tie.Need-returns-7
 returns-7 c = rw ((c .before .before .before .before .before .before .before .before .before .f .given .1), ne-eqb _ _ (c .before .before .before .before .before .before .if2 .left), le-ltb _ _ (c .before .before .before .if3 .left), ne-eqb _ _ (c .if4 .left))
 

@@ -1,24 +1,17 @@
+-- `fields::is_node` meets its contract. Assumes nothing.
 use borrow.Author.Needs.{needs}
 use Rattle.fields.proofs.is_node.Statement.{statement}
 use Rattle.fields.proofs.is_node.Tie as tie
-use Rattle.fields.proofs.is_node.Reads as reads
-use Rattle.fields.proofs.is_node.Lts as lts
-use Rattle.fields.proofs.is_source.Reads as is-source-reads
-use Rattle.fields.proofs.is_task.Reads as is-task-reads
 
--- src/lib.rt:98:5
 is-task-requires : tie.Need-is-task-requires
 is-task-requires c κs = search needs
 
--- src/lib.rt:98:26
 is-source-requires : tie.Need-is-source-requires
 is-source-requires c κs = search needs
 
--- src/lib.rt:95:1
 returns : tie.Need-returns
 returns c = rw (← (c .before .is-task .ensures), (c .if1 .taken))
 
--- src/lib.rt:95:1
 returns-2 : tie.Need-returns-2
 returns-2 c = rw (← (c .before .before .is-task .ensures), (c .before .if1 .left), (c .is-source .ensures))
 

@@ -1,5 +1,7 @@
+-- `fields::parse` meets its contract. The loop's invariant: the reading that is left, from the place and with what is known and held there, answers as the whole
+-- reading does; the counts are those of the description. The measure is what is left of the bytes. Assumes nothing.
 use borrow.Author.Needs.{needs}
-use Prim.Native.Nat.{ℕ, suc, _≤_, _<_, _-_, _+_}
+use Prim.Native.Nat.{suc, _≤_, _<_, _-_}
 use mathlib.Core.Path.{_≡_, refl, sym, ap, _∙_}
 use lib.ListN.{length}
 use native.Mathlib.Omega.{arith}
@@ -14,12 +16,6 @@ use Rattle.theory.proofs.JudgeLaws.{Passes, fine-passes}
 use Rattle.fields.proofs.Laws.{cases, fine-taken, ReadsAs, reads-more, reads-stop}
 use Rattle.fields.proofs.parse.Statement.{statement}
 use Rattle.fields.proofs.parse.Tie as tie
-use Rattle.fields.proofs.parse.Reads as reads
-use Rattle.fields.proofs.parse.Lts as lts
-use Rattle.fields.proofs.advanced.Reads as advanced-reads
-use Rattle.fields.proofs.checked_at.Reads as checked-at-reads
-use Rattle.fields.proofs.empty.Reads as empty-reads
-use Rattle.fields.proofs.stopped.Reads as stopped-reads
 
 abbrev Inv-loop : tie.InvT-loop
 Inv-loop s d₀ p₀ at₀ d p at =
@@ -68,11 +64,9 @@ goes-on c =
     let k = take-took _ _ _ _ (taken-fine c .0) in
     (omega (arith, took-length k, length-field (c .before .t .given .0 .0)), took-inside k)
 
--- src/lib.rt:267:17
 empty-requires : tie.Need-empty-requires Inv-loop μ-loop
 empty-requires c κs = search needs
 
--- src/lib.rt:270:5
 loop-holds : tie.Need-loop-holds Inv-loop μ-loop
 unfolding parseFile
 loop-holds c =
@@ -82,19 +76,15 @@ loop-holds c =
       λ r h. rw (c .empty .ensures) at (h (suc (length s)) (omega arith)),
     )
 
--- src/lib.rt:271:13
 checked-at-requires : tie.Need-checked-at-requires Inv-loop μ-loop
 checked-at-requires c κs = search needs
 
--- src/lib.rt:272:26
 enum-known-t : tie.Need-enum-known-t Inv-loop μ-loop
 enum-known-t c = search needs
 
--- src/lib.rt:273:13
 stopped-requires : tie.Need-stopped-requires Inv-loop μ-loop
 stopped-requires c κs = search needs
 
--- src/lib.rt:273:13
 returns : tie.Need-returns Inv-loop μ-loop
 returns c =
     let L = (c .before .before .before .loop) in
@@ -102,63 +92,48 @@ returns c =
     (c .stopped .result)
     (rw (c .stopped .ensures) (reads-stop (c .before .before .before .before .before .before .args .s .now) (L .at) (L .p) (L .d) (c .before .before .checked-at .result) (L .inv .0) (sym (c .before .before .checked-at .ensures)) (c .before .match .keys2)))
 
--- src/lib.rt:276:27
 enum-known-f : tie.Need-enum-known-f Inv-loop μ-loop
 enum-known-f c = search needs
 
--- src/lib.rt:278:17
 mul-d : tie.Need-mul-d Inv-loop μ-loop
 mul-d c = omega (arith, few-tasks c)
 
--- src/lib.rt:278:17
 element-write-d : tie.Need-element-write-d Inv-loop μ-loop
 element-write-d c = few-tasks c
 
--- src/lib.rt:279:32
 add-d : tie.Need-add-d Inv-loop μ-loop
 add-d c = omega (arith, few-tasks c)
 
--- src/lib.rt:281:29
 enum-known-f-2 : tie.Need-enum-known-f-2 Inv-loop μ-loop
 enum-known-f-2 c = search needs
 
--- src/lib.rt:283:17
 mul-t20 : tie.Need-mul-t20 Inv-loop μ-loop
 mul-t20 c = omega (arith, few-sources c)
 
--- src/lib.rt:283:17
 element-set-from-d : tie.Need-element-set-from-d Inv-loop μ-loop
 element-set-from-d c = few-sources c
 
--- src/lib.rt:284:34
 add-d-2 : tie.Need-add-d-2 Inv-loop μ-loop
 add-d-2 c = omega (arith, few-sources c)
 
--- src/lib.rt:286:27
 enum-known-f-3 : tie.Need-enum-known-f-3 Inv-loop μ-loop
 enum-known-f-3 c = search needs
 
--- src/lib.rt:288:17
 mul-l : tie.Need-mul-l Inv-loop μ-loop
 mul-l c = omega (arith, few-links c)
 
--- src/lib.rt:288:17
 element-set-from-l : tie.Need-element-set-from-l Inv-loop μ-loop
 element-set-from-l c = few-links c
 
--- src/lib.rt:289:32
 add-d-3 : tie.Need-add-d-3 Inv-loop μ-loop
 add-d-3 c = omega (arith, few-links c)
 
--- src/lib.rt:292:9
 advanced-requires : tie.Need-advanced-requires Inv-loop μ-loop
 advanced-requires c κs = rw (with-it c .1) (passes (c .before) .room)
 
--- src/lib.rt:270:5
 loop-less : tie.Need-loop-less Inv-loop μ-loop
 loop-less c = let g = goes-on (c .before .before) in omega arith
 
--- src/lib.rt:270:5
 loop-again : tie.Need-loop-again Inv-loop μ-loop
 loop-again c =
     let L = (c .before .before .before .before .before .before .loop) in

@@ -1,0 +1,15 @@
+-- `ends` meets its contract. Assumes nothing.
+use borrow.Author.Tests.{eq-eqb, ne-eqb}
+use Rattle.machine.proofs.steps.ends.Statement.{statement}
+use Rattle.machine.proofs.steps.ends.Tie as tie
+use Rattle.machine.proofs.steps.ends.Reads as reads
+use Rattle.machine.proofs.steps.ends.Lts as lts
+
+returns : tie.Need-returns
+returns c = simp (eq-eqb _ _ (c .if1 .taken))
+
+returns-2 : tie.Need-returns-2
+returns-2 c = simp (ne-eqb _ _ (c .if1 .left))
+
+pub ends-spec : {M : Type 1} → statement M
+ends-spec = tie.close (tie.spec returns returns-2)

@@ -1,0 +1,2 @@
+-- What the contracts of the tick machine's code cite beside the definitions of `model`.
+pub mod Parts

@@ -1,0 +1,4 @@
+// The tick machine: its steps, its rules, one tick and a run of many.
+
+pub mod plan;
+pub mod steps;

@@ -1,2 +1,3 @@
 -- What the contracts of the tick machine's code cite beside the definitions of `model`.
 pub mod Parts
+pub mod Judged

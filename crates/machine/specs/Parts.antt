@@ -9,7 +9,7 @@ use Rattle.model.specs.declared.Description.{Description}
 use Rattle.model.specs.declared.Machine.{Machine}
 use Rattle.model.specs.Graph.{linkAt}
 use Rattle.model.specs.Delays.{spacingOf}
-use Rattle.model.specs.Machine.{fire, arrive, runTask, clearInto, endRun, ageAll, stepped}
+use Rattle.model.specs.Machine.{idle, fire, arrive, runTask, clearInto, endRun, ageAll, stepped}
 use Rattle.machine.specs.declared.plan.Plan.{Plan}
 
 -- a record from its parts
@@ -83,3 +83,10 @@ Steps p marks finish m m′ = (d : Description) (t : ℕ) → PlanOf d t p → m
 -- a tick more fits what each task has used
 abbrev pub Countable : List ℕ → Type 0
 Countable used = (k : ℕ) → k < 32 → getD used k 0 + 1 < 2 ^ 32
+
+-- what the making of a plan and of the first record ensure
+abbrev pub Plans : Description → List ℕ → Plan → Type 0
+Plans d gaps p = (t : ℕ) → GapsOf d t gaps → PlanOf d t p
+
+abbrev pub Starts : Plan → Machine → Type 0
+Starts p m = (d : Description) (t : ℕ) → PlanOf d t p → m ≡ idle d t

@@ -1,4 +1,6 @@
 // The tick machine: its steps, its rules, one tick and a run of many.
 
 pub mod plan;
+pub mod rules;
 pub mod steps;
+pub mod tick;

@@ -9,7 +9,7 @@ ghost use Rattle.model.specs.Machine.{highestIn};
 ghost use Rattle.machine.specs.Parts.{Enters, Fires, Arrives, Runs, Clears, Ends, Ages, Sound, Countable, Steps, parts};
 
 // The number of a task as a place in a table.
-fn number(x: u8) -> usize
+pub fn number(x: u8) -> usize
     ensures { λ r. ⌜ r ≡ x ⌝ }
 {
     x as usize

@@ -2,3 +2,4 @@
 pub mod StepLaws
 pub mod RuleLaws
 pub mod TickLaws
+pub mod RunLaws

@@ -43,12 +43,13 @@ TooSoon gaps sources marks ages r =
     (d : Description) (t : ℕ) (awake waiting dropped : List Bool) (used : List ℕ) → d .«source_count» ≡ sources → GapsOf d t gaps
     → r ≡ tooSoon d t marks (parts awake used waiting dropped ages)
 
--- a plan of some accepted description at some tempo
+-- a plan of some description and tempo that are judged as done
 pub record Planned (p : Plan) : Type 0 where
   pub description : Description
   pub tempo : ℕ
   pub of : PlanOf description tempo p
   pub formed : WellFormed description
+  pub judged : judgeAt description tempo ≡ Done
 
 -- the tick call, the description being judged
 abbrev pub TickIs : Plan → Machine → Arrivals → Bool → Ticked → Type 0

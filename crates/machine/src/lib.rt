@@ -2,5 +2,6 @@
 
 pub mod plan;
 pub mod rules;
+pub mod run;
 pub mod steps;
 pub mod tick;

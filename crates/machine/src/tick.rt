@@ -46,7 +46,7 @@ pub fn stepped(p: Plan, marks: &[bool; 16], finish: bool, m: Machine) -> Machine
 }
 
 // A refused tick leaves the record as it was.
-fn refused(why: Refusal, m: Machine) -> Ticked
+pub fn refused(why: Refusal, m: Machine) -> Ticked
     ensures { λ r. ⌜ r ≡ record { outcome = Refused why 0; machine = m } ⌝ }
 {
     let outcome = Outcome::Refused(why, 0);

@@ -42,3 +42,5 @@ pub mod Serving
 pub mod Assurance
 pub mod Demand3
 pub mod Lawful
+pub mod PlainCalls
+pub mod Instances

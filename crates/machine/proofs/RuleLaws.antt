@@ -17,7 +17,7 @@ use Rattle.model.specs.Delays.{spacingOf}
 use Rattle.model.specs.Machine.{taskRule, linkRule, sourceRule}
 use Rattle.theory.proofs.Tests.{same-test, false-of, not-both, both, or-false, and-false-left, and-false-right}
 use Rattle.theory.proofs.Range.{all-at, any-more}
-use Rattle.machine.specs.Parts.{parts, LinksOf, GapsOf}
+use Rattle.steps.specs.Parts.{parts, LinksOf, GapsOf}
 
 -- tests over a range as a loop goes through them
 pub all-none : (p : ℕ → Bool) (a : ℕ) → allN p a 0 ≡ true

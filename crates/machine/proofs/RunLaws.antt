@@ -27,7 +27,6 @@ use Rattle.model.specs.File.{SourceFits, Widths, judge, filledBy}
 use Rattle.model.specs.Verdicts.{judgeAt, onKnob}
 use Rattle.model.specs.Machine.{idle, blankMachine, lawful, plainTick}
 use Rattle.model.specs.History.{Call, answers, left, isDone}
-use Rattle.model.specs.Promise.{Calls, none, call}
 use Rattle.theory.proofs.Tests.{not-both, and-left, and-right}
 use Rattle.theory.proofs.WellFormed.{WellFormed}
 use Rattle.theory.proofs.Replay.{callAt}
@@ -89,12 +88,6 @@ store-more out text i a b = rw add-one (go out text i a b)
     go (y ∷ out) [] i a b = absurd (omega arith)
     go (y ∷ out) (x ∷ text) zero a b = refl
     go (y ∷ out) (x ∷ text) (suc i) a b = ap (λ l. x ∷ l) (go out text i (omega arith) (omega arith))
-
--- the plain machine's own answers are those of a list of calls that meet what the tick call ensures
-pub plain-calls : (d : Description) (t : ℕ) (cs : List Call) (m : Machine) → Calls d t m cs (answers d t m cs) (left d t m cs)
-unfolding answers left
-plain-calls d t [] m = none
-plain-calls d t (c ∷ cs) m = call refl (plain-calls d t cs (plainTick d t m (c .arrivals) (c .finish) .machine))
 
 -- one turn of a run
 pub run-turn : (d : Description) (t : ℕ) (cs : List Call) (m m₁ m₂ : Machine) (i code : ℕ) (marks : List Bool) (finish : Bool) → i < length cs → m₁ ≡ left d t m (take i cs) → callAt cs i ≡ record { arrivals = record { marks = marks }; finish = finish } → (code ≡ codeOf (plainTick d t m₁ (record { marks = marks }) finish .outcome)) × (m₂ ≡ plainTick d t m₁ (record { marks = marks }) finish .machine) → (m₂ ≡ left d t m (take (i + 1) cs)) × (code ≡ getD (codes (answers d t m cs)) i 0)

@@ -21,8 +21,8 @@ use Rattle.theory.proofs.Tests.{and-left, and-right}
 use Rattle.theory.proofs.Range.{all-at}
 use Rattle.theory.proofs.WellFormed.{WellFormed}
 use Rattle.theory.proofs.Firing.{to-some, to-most}
-use Rattle.machine.specs.declared.plan.Plan.{Plan}
-use Rattle.machine.specs.Parts.{PlanOf, Sound, Countable}
+use Rattle.steps.specs.declared.plan.Plan.{Plan}
+use Rattle.steps.specs.Parts.{PlanOf, Sound, Countable}
 use Rattle.machine.specs.Judged.{Planned}
 
 -- the steps may go by a plan of an accepted description

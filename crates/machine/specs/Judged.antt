@@ -13,8 +13,8 @@ use Rattle.model.specs.Basics.{allN}
 use Rattle.model.specs.Verdicts.{judgeAt}
 use Rattle.model.specs.Machine.{taskRule, linkRule, sourceRule, lawful, strangers, tooSoon, plainTick}
 use Rattle.theory.proofs.WellFormed.{WellFormed}
-use Rattle.machine.specs.declared.plan.Plan.{Plan}
-use Rattle.machine.specs.Parts.{parts, LinksOf, GapsOf, PlanOf}
+use Rattle.steps.specs.declared.plan.Plan.{Plan}
+use Rattle.steps.specs.Parts.{parts, LinksOf, GapsOf, PlanOf}
 
 -- the rules, of the parts that each speaks of
 abbrev pub TasksLawful : List ℕ → ℕ → List Bool → List ℕ → Bool → Type 0

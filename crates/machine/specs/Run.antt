@@ -21,8 +21,8 @@ use Rattle.model.specs.Machine.{idle, blankMachine, lawful, plainTick}
 use Rattle.model.specs.History.{Call, answers, left}
 use Rattle.model.specs.Promise.{Assured}
 use Rattle.theory.proofs.WellFormed.{WellFormed}
-use Rattle.machine.specs.declared.plan.Plan.{Plan}
-use Rattle.machine.specs.Parts.{PlanOf}
+use Rattle.steps.specs.declared.plan.Plan.{Plan}
+use Rattle.steps.specs.Parts.{PlanOf}
 
 -- the arrivals of a mask, whose bit u is source 33 + u
 abbrev pub heard : ℕ → ℕ → Bool

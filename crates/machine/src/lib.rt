@@ -1,7 +1,5 @@
-// The tick machine: its steps, its rules, one tick and a run of many.
+// The tick machine: the rules of its record, the tick call once a description is judged, and a run of many calls.
 
-pub mod plan;
 pub mod rules;
 pub mod run;
-pub mod steps;
 pub mod tick;

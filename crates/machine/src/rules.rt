@@ -1,13 +1,13 @@
 // The rules of the machine's record, and the refusals of arrivals.
 
-use crate::plan::Plan;
-use crate::steps::number;
 use model::Machine;
+use steps::plan::Plan;
+use steps::step::number;
 ghost use mathlib.Core.Path.{_≡_};
 ghost use mathlib.Core.Bool.{_||_, _&&_, not, cond};
 ghost use Prim.Native.Nat.{ℕ, _≤_, _<_};
 ghost use lib.Dec.{ltb, leb, eqb};
-ghost use Rattle.machine.specs.Parts.{Enters, Sound};
+ghost use Rattle.steps.specs.Parts.{Enters, Sound};
 ghost use Rattle.machine.specs.Judged.{TasksLawful, LinksLawful, SourcesLawful, Lawful, Strangers, TooSoon};
 
 // Used is below the longest run, and 0 for a sleeping task; nothing is set for an absent one.

@@ -1,24 +1,24 @@
 // A run of many tick calls from the start: the description is judged and tabulated once, and the record is lent part by part.
 
-use crate::plan::Plan;
-use crate::plan::idle_of;
-use crate::plan::plan_of;
 use crate::rules::strangers;
 use crate::rules::too_soon;
-use crate::steps::step;
 use crate::tick::refused;
 use model::Description;
 use model::Machine;
 use model::Outcome;
 use model::Refusal;
 use model::Ticked;
+use steps::plan::Plan;
+use steps::plan::idle_of;
+use steps::plan::plan_of;
+use steps::step::step;
 ghost use mathlib.Core.Path.{_≡_};
 ghost use Prim.Native.Nat.{ℕ, _≤_, min};
 ghost use Rattle.model.specs.declared.Outcome.the-variants.{Done};
 ghost use Rattle.model.specs.Machine.{blankMachine};
 ghost use Rattle.model.specs.Verdicts.{judgeAt};
 ghost use Rattle.theory.proofs.WellFormed.{WellFormed};
-ghost use Rattle.machine.specs.Parts.{parts, Sound, Countable, GapsOf};
+ghost use Rattle.steps.specs.Parts.{parts, Sound, Countable, GapsOf};
 ghost use Rattle.machine.specs.Judged.{Planned};
 ghost use Rattle.machine.specs.Run.{marksIn, callsOf, Advances, RunIs, RunOf};
 

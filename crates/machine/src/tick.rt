@@ -1,18 +1,18 @@
 // The tick call on a record by value, once its description is judged.
 
-use crate::plan::Plan;
 use crate::rules::lawful;
 use crate::rules::strangers;
 use crate::rules::too_soon;
-use crate::steps::step;
 use model::Arrivals;
 use model::Machine;
 use model::Outcome;
 use model::Refusal;
 use model::Ticked;
+use steps::plan::Plan;
+use steps::step::step;
 ghost use mathlib.Core.Path.{_≡_};
 ghost use Prim.Native.Nat.{ℕ};
-ghost use Rattle.machine.specs.Parts.{Sound, Countable, Steps};
+ghost use Rattle.steps.specs.Parts.{Sound, Countable, Steps};
 ghost use Rattle.model.specs.declared.Outcome.the-variants.{Refused};
 ghost use Rattle.machine.specs.Judged.{Planned, TickIs};
 

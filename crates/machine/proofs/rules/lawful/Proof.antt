@@ -10,11 +10,6 @@ use Rattle.machine.proofs.RuleLaws.{and-true}
 use borrow.Author.Needs.{needs}
 use Rattle.machine.proofs.rules.lawful.Statement.{statement}
 use Rattle.machine.proofs.rules.lawful.Tie as tie
-use Rattle.machine.proofs.rules.lawful.Reads as reads
-use Rattle.machine.proofs.rules.lawful.Lts as lts
-use Rattle.machine.proofs.rules.links_lawful.Reads as links-lawful-reads
-use Rattle.machine.proofs.rules.sources_lawful.Reads as sources-lawful-reads
-use Rattle.machine.proofs.rules.tasks_lawful.Reads as tasks-lawful-reads
 
 tasks-lawful-requires : tie.Need-tasks-lawful-requires
 tasks-lawful-requires c κs = search needs

@@ -13,15 +13,11 @@ use Rattle.model.specs.Basics.{allN, anyN}
 use native.Mathlib.Nat.{zero-add}
 use Rattle.model.specs.Graph.{linkAt}
 use Rattle.model.specs.Machine.{linkRule}
-use Rattle.machine.specs.Parts.{parts, LinksOf}
-use Rattle.machine.proofs.StepLaws.{cases}
+use Rattle.steps.specs.Parts.{parts, LinksOf}
+use Rattle.steps.proofs.StepLaws.{cases}
 use Rattle.machine.proofs.RuleLaws.{all-none, all-next, all-fails, link-is}
 use Rattle.machine.proofs.rules.links_lawful.Statement.{statement}
 use Rattle.machine.proofs.rules.links_lawful.Tie as tie
-use Rattle.machine.proofs.rules.links_lawful.Reads as reads
-use Rattle.machine.proofs.rules.links_lawful.Lts as lts
-use Rattle.machine.proofs.rules.link_lawful.Reads as link-lawful-reads
-use Rattle.machine.proofs.steps.number.Reads as number-reads
 
 abbrev Inv-loop : tie.InvT-loop
 Inv-loop to links awake waiting dropped l₀ l = (l ≤ 256) × ((d : Description) (from us ag : List ℕ) → LinksOf d from to links → allN (linkRule d (parts awake us waiting dropped ag)) 0 l ≡ true)

@@ -2,8 +2,6 @@
 use borrow.Author.Tests.{eq-eqb, ne-eqb, le-ltb, lt-ltb, le-leb, lt-leb, not-true, not-false}
 use Rattle.machine.proofs.rules.source_lawful.Statement.{statement}
 use Rattle.machine.proofs.rules.source_lawful.Tie as tie
-use Rattle.machine.proofs.rules.source_lawful.Reads as reads
-use Rattle.machine.proofs.rules.source_lawful.Lts as lts
 
 returns : tie.Need-returns
 returns c = simp (c .if1 .taken)

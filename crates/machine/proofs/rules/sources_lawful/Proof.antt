@@ -12,13 +12,10 @@ use lib.Dec.{ltb, leb, eqb}
 use Rattle.model.specs.Basics.{allN, anyN}
 use native.Mathlib.Nat.{zero-add}
 use Rattle.model.specs.Machine.{sourceRule}
-use Rattle.machine.specs.Parts.{parts, GapsOf}
+use Rattle.steps.specs.Parts.{parts, GapsOf}
 use Rattle.machine.proofs.RuleLaws.{all-none, all-next, all-fails, source-is}
 use Rattle.machine.proofs.rules.sources_lawful.Statement.{statement}
 use Rattle.machine.proofs.rules.sources_lawful.Tie as tie
-use Rattle.machine.proofs.rules.sources_lawful.Reads as reads
-use Rattle.machine.proofs.rules.sources_lawful.Lts as lts
-use Rattle.machine.proofs.rules.source_lawful.Reads as source-lawful-reads
 
 abbrev Inv-loop : tie.InvT-loop
 Inv-loop gaps sources ages u₀ u = (u ≤ 16) × ((d : Description) (t : ℕ) (aw wa dr : List Bool) (us : List ℕ) → d .«source_count» ≡ sources → GapsOf d t gaps → allN (sourceRule d t (parts aw us wa dr ages)) 0 u ≡ true)

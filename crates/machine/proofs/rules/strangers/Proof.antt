@@ -13,12 +13,10 @@ use Rattle.model.specs.Basics.{allN, anyN}
 use Rattle.model.specs.Machine.{strangers}
 use Rattle.theory.proofs.Tests.{both, and-false-left, and-false-right}
 use Rattle.theory.proofs.Range.{any-at}
-use Rattle.machine.proofs.StepLaws.{cases}
+use Rattle.steps.proofs.StepLaws.{cases}
 use Rattle.machine.proofs.RuleLaws.{any-none₀, any-next}
 use Rattle.machine.proofs.rules.strangers.Statement.{statement}
 use Rattle.machine.proofs.rules.strangers.Tie as tie
-use Rattle.machine.proofs.rules.strangers.Reads as reads
-use Rattle.machine.proofs.rules.strangers.Lts as lts
 
 abbrev Inv-loop : tie.InvT-loop
 Inv-loop sources marks u₀ u = (u ≤ 16) × (anyN (λ k. getD marks k false && leb sources k) 0 u ≡ false)

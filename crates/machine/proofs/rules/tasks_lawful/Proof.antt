@@ -11,13 +11,10 @@ use Rattle.model.specs.declared.Description.{Description}
 use lib.Dec.{ltb, leb, eqb}
 use Rattle.model.specs.Basics.{allN, anyN}
 use Rattle.model.specs.Machine.{taskRule}
-use Rattle.machine.specs.Parts.{parts}
+use Rattle.steps.specs.Parts.{parts}
 use Rattle.machine.proofs.RuleLaws.{all-none, all-next, all-fails, task-is}
 use Rattle.machine.proofs.rules.tasks_lawful.Statement.{statement}
 use Rattle.machine.proofs.rules.tasks_lawful.Tie as tie
-use Rattle.machine.proofs.rules.tasks_lawful.Reads as reads
-use Rattle.machine.proofs.rules.tasks_lawful.Lts as lts
-use Rattle.machine.proofs.rules.task_lawful.Reads as task-lawful-reads
 
 abbrev Inv-loop : tie.InvT-loop
 Inv-loop runs tasks awake used k₀ k = (k ≤ 32) × ((d : Description) (wa dr : List Bool) (ag : List ℕ) → runs ≡ d .runs → d .«task_count» ≡ tasks → allN (taskRule d (parts awake used wa dr ag)) 1 k ≡ true)

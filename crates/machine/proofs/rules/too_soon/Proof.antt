@@ -14,13 +14,11 @@ use Rattle.model.specs.Delays.{spacingOf}
 use Rattle.model.specs.Machine.{tooSoon}
 use Rattle.theory.proofs.Tests.{both, and-false-left, and-false-right}
 use Rattle.theory.proofs.Range.{any-at}
-use Rattle.machine.specs.Parts.{GapsOf}
-use Rattle.machine.proofs.StepLaws.{cases}
+use Rattle.steps.specs.Parts.{GapsOf}
+use Rattle.steps.proofs.StepLaws.{cases}
 use Rattle.machine.proofs.RuleLaws.{any-none₀, any-next}
 use Rattle.machine.proofs.rules.too_soon.Statement.{statement}
 use Rattle.machine.proofs.rules.too_soon.Tie as tie
-use Rattle.machine.proofs.rules.too_soon.Reads as reads
-use Rattle.machine.proofs.rules.too_soon.Lts as lts
 
 abbrev Inv-loop : tie.InvT-loop
 Inv-loop gaps sources marks ages u₀ u = (u ≤ sources) × ((d : Description) (t : ℕ) → d .«source_count» ≡ sources → GapsOf d t gaps → anyN (λ k. getD marks k false && ltb (getD ages k 0) (spacingOf d t (33 + k))) 0 u ≡ false)

@@ -4,17 +4,12 @@ use mathlib.Core.Path.{_≡_, refl, sym, ap, _∙_}
 use mathlib.Core.Bool.{Bool, true, false}
 use Rattle.model.specs.declared.Outcome.the-variants.{Done, Refused}
 use Rattle.model.specs.declared.Refusal.the-variants.{TooSoon, Stranger}
-use Rattle.machine.specs.Parts.{parts}
+use Rattle.steps.specs.Parts.{parts}
 use Rattle.machine.proofs.TickLaws.{tick-stranger, tick-soon, tick-done}
 use Rattle.machine.proofs.RunLaws.{coded}
 use borrow.Author.Needs.{needs}
 use Rattle.machine.proofs.run.advance.Statement.{statement}
 use Rattle.machine.proofs.run.advance.Tie as tie
-use Rattle.machine.proofs.run.advance.Reads as reads
-use Rattle.machine.proofs.run.advance.Lts as lts
-use Rattle.machine.proofs.rules.strangers.Reads as strangers-reads
-use Rattle.machine.proofs.rules.too_soon.Reads as too-soon-reads
-use Rattle.machine.proofs.steps.step.Reads as step-reads
 
 strangers-requires : tie.Need-strangers-requires
 strangers-requires c κs = search needs

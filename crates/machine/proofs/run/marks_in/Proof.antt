@@ -16,8 +16,6 @@ use Rattle.machine.specs.Run.{heard, marksIn}
 use Rattle.machine.proofs.RunLaws.{halved, whole-mask}
 use Rattle.machine.proofs.run.marks_in.Statement.{statement}
 use Rattle.machine.proofs.run.marks_in.Tie as tie
-use Rattle.machine.proofs.run.marks_in.Reads as reads
-use Rattle.machine.proofs.run.marks_in.Lts as lts
 
 abbrev Inv-loop : tie.InvT-loop
 Inv-loop mask marks₀ rest₀ u₀ marks rest u = (u ≤ 16) × (length marks ≡ 16) × (rest ≡ mask / 2 ^ u) × ((k : ℕ) → k < u → getD marks k false ≡ heard mask k)

@@ -1,17 +1,11 @@
 -- `run_judged` meets its contract: a run of its plan, of which demand 3 speaks. Assumes nothing.
 use mathlib.Core.Path.{_≡_}
-use Rattle.model.specs.Machine.{idle}
-use Rattle.model.specs.History.{answers, left}
-use Rattle.theory.proofs.Demand3.{demand3}
+use Rattle.theory.proofs.PlainCalls.{plain-assured}
 use Rattle.machine.specs.Run.{callsOf}
-use Rattle.machine.proofs.RunLaws.{on-knob, plain-calls, widths}
+use Rattle.machine.proofs.RunLaws.{on-knob, widths}
 use borrow.Author.Needs.{needs}
 use Rattle.machine.proofs.run.run_judged.Statement.{statement}
 use Rattle.machine.proofs.run.run_judged.Tie as tie
-use Rattle.machine.proofs.run.run_judged.Reads as reads
-use Rattle.machine.proofs.run.run_judged.Lts as lts
-use Rattle.machine.proofs.plan.plan_of.Reads as plan-of-reads
-use Rattle.machine.proofs.run.run_planned.Reads as run-planned-reads
 
 plan-of-requires : tie.Need-plan-of-requires
 plan-of-requires c κs = search needs
@@ -40,7 +34,7 @@ returns c =
     record {
       answered = E .0;
       filled = E .1;
-      assured = λ q e h. demand3 d q t cs (answers d t (idle d t) cs) (left d t (idle d t) cs) (widths d (S .pre .0)) e (on-knob d t (S .pre .1) .0) h (plain-calls d t cs (idle d t));
+      assured = λ q e h. plain-assured d q t (widths d (S .pre .0)) e (on-knob d t (S .pre .1) .0) h cs;
     }
 
 pub run-judged-spec : {M : Type 1} → statement M

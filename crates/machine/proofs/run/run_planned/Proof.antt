@@ -18,20 +18,12 @@ use Rattle.model.specs.Verdicts.{judgeAt}
 use Rattle.model.specs.Machine.{idle}
 use Rattle.model.specs.History.{left}
 use Rattle.theory.proofs.WellFormed.{WellFormed}
-use Rattle.machine.specs.Parts.{parts, PlanOf}
+use Rattle.steps.specs.Parts.{parts, PlanOf}
 use Rattle.machine.specs.Run.{callsOf, page}
 use Rattle.machine.proofs.TickLaws.{planned-sound, lawful-countable}
 use Rattle.machine.proofs.RunLaws.{calls-length, calls-at, codes-length, run-turn, store-turn, ran-short, ran-whole, filled-short, filled-whole, kept}
 use Rattle.machine.proofs.run.run_planned.Statement.{statement}
 use Rattle.machine.proofs.run.run_planned.Tie as tie
-use Rattle.machine.proofs.run.run_planned.Reads as reads
-use Rattle.machine.proofs.run.run_planned.Lts as lts
-use Rattle.machine.proofs.plan.idle_of.Reads as idle-of-reads
-use Rattle.machine.proofs.run.advance.Reads as advance-reads
-use Rattle.machine.proofs.run.blank.Reads as blank-reads
-use Rattle.machine.proofs.run.marks_in.Reads as marks-in-reads
-use Rattle.machine.proofs.run.smaller.Reads as smaller-reads
-use Rattle.machine.proofs.tick.refused.Reads as refused-reads
 
 abbrev Inv-loop : tie.InvT-loop
 Inv-loop p masks finishes outcomes₀ n awake₀ used₀ waiting₀ dropped₀ ages₀ i₀ outcomes awake used waiting dropped ages i = (i ≤ n) × (length outcomes ≡ length outcomes₀) × ((d : Description) (t : ℕ) → PlanOf d t p → WellFormed d → judgeAt d t ≡ Done → (parts awake used waiting dropped ages ≡ left d t (idle d t) (take i (callsOf masks finishes))) × (outcomes ≡ take i (page d t (callsOf masks finishes)) ++ drop i outcomes₀))

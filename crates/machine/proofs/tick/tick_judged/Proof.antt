@@ -7,13 +7,6 @@ use Rattle.machine.proofs.TickLaws.{planned-sound, lawful-countable, ti
 use borrow.Author.Needs.{needs}
 use Rattle.machine.proofs.tick.tick_judged.Statement.{statement}
 use Rattle.machine.proofs.tick.tick_judged.Tie as tie
-use Rattle.machine.proofs.tick.tick_judged.Reads as reads
-use Rattle.machine.proofs.tick.tick_judged.Lts as lts
-use Rattle.machine.proofs.rules.lawful.Reads as lawful-reads
-use Rattle.machine.proofs.rules.strangers.Reads as strangers-reads
-use Rattle.machine.proofs.rules.too_soon.Reads as too-soon-reads
-use Rattle.machine.proofs.tick.refused.Reads as refused-reads
-use Rattle.machine.proofs.tick.stepped.Reads as stepped-reads
 
 lawful-requires : tie.Need-lawful-requires
 lawful-requires c κs = planned-sound (c .args .p) (c .pre)

@@ -1,21 +1,19 @@
 -- The rules of the record and the tests of arrivals, place by place. Assumes nothing.
-use Prim.Native.Nat.{ℕ, zero, suc, _+_, _-_, _≤_, _<_}
-use mathlib.Core.Path.{_≡_, refl, sym, ap, _∙_}
+use Prim.Native.Nat.{ℕ, _+_, _-_, _<_}
+use mathlib.Core.Path.{_≡_, refl, sym, _∙_}
 use mathlib.Core.Bool.{Bool, true, false, _||_, _&&_, not, cond}
 use mathlib.Core.List.{List}
 use native.Mathlib.Omega.{arith}
-use native.Mathlib.Nat.{zero-add}
 use native.Mathlib.Numerals.{add-one}
 use lib.ListN.{getD}
 use lib.Dec.{ltb, leb, eqb}
 use borrow.Author.Tests.{ltb-true, leb-true, le-leb, lt-ltb}
 use Rattle.model.specs.declared.Description.{Description}
-use Rattle.model.specs.declared.Machine.{Machine}
 use Rattle.model.specs.Basics.{allN, anyN}
 use Rattle.model.specs.Graph.{linkAt}
 use Rattle.model.specs.Delays.{spacingOf}
 use Rattle.model.specs.Machine.{taskRule, linkRule, sourceRule}
-use Rattle.theory.proofs.Tests.{same-test, false-of, not-both, both, or-false, and-false-left, and-false-right}
+use Rattle.theory.proofs.Tests.{same-test, false-of, not-both, both, or-false}
 use Rattle.theory.proofs.Range.{all-at, any-more}
 use Rattle.steps.specs.Parts.{parts, LinksOf, GapsOf}
 

@@ -1,8 +1,7 @@
 -- The tick call by the tests that lead to each of its answers, and what a plan and a lawful record give. Assumes nothing.
-use Prim.Native.Nat.{ℕ, zero, suc, _+_, _-_, _≤_, _<_, _^_}
-use mathlib.Core.Path.{_≡_, refl, sym, ap, _∙_}
-use mathlib.Core.Bool.{Bool, true, false, _||_, _&&_, not, cond}
-use mathlib.Core.List.{List}
+use Prim.Native.Nat.{ℕ, _+_, _-_, _≤_, _<_}
+use mathlib.Core.Path.{_≡_, refl}
+use mathlib.Core.Bool.{Bool, true, false, _||_, _&&_, not}
 use native.Mathlib.Omega.{arith}
 use lib.ListN.{getD}
 use lib.Dec.{ltb, leb, eqb}
@@ -10,13 +9,12 @@ use borrow.Author.Tests.{ltb-true, eqb-true, leb-true}
 use Rattle.model.specs.declared.Description.{Description}
 use Rattle.model.specs.declared.Machine.{Machine}
 use Rattle.model.specs.declared.Arrivals.{Arrivals}
-use Rattle.model.specs.declared.Ticked.{Ticked}
 use Rattle.model.specs.declared.Outcome.the-variants.{Done, Refused}
 use Rattle.model.specs.declared.Refusal.the-variants.{TooSoon, Stranger, ForeignState}
 use Rattle.model.specs.Basics.{allN}
 use Rattle.model.specs.Graph.{runOf}
 use Rattle.model.specs.Verdicts.{judgeAt}
-use Rattle.model.specs.Machine.{awakeAt, usedAt, taskRule, linkRule, sourceRule, lawful, stepped, strangers, tooSoon, judgeTick, plainTick}
+use Rattle.model.specs.Machine.{awakeAt, usedAt, taskRule, lawful, stepped, strangers, tooSoon, judgeTick, plainTick}
 use Rattle.theory.proofs.Tests.{and-left, and-right}
 use Rattle.theory.proofs.Range.{all-at}
 use Rattle.theory.proofs.WellFormed.{WellFormed}

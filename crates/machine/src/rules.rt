@@ -5,7 +5,7 @@ use steps::plan::Plan;
 use steps::step::number;
 ghost use mathlib.Core.Path.{_≡_};
 ghost use mathlib.Core.Bool.{_||_, _&&_, not, cond};
-ghost use Prim.Native.Nat.{ℕ, _≤_, _<_};
+ghost use Prim.Native.Nat.{_≤_, _<_};
 ghost use lib.Dec.{ltb, leb, eqb};
 ghost use Rattle.steps.specs.Parts.{Enters, Sound};
 ghost use Rattle.machine.specs.Judged.{TasksLawful, LinksLawful, SourcesLawful, Lawful, Strangers, TooSoon};

@@ -13,7 +13,7 @@ use steps::plan::idle_of;
 use steps::plan::plan_of;
 use steps::step::step;
 ghost use mathlib.Core.Path.{_≡_};
-ghost use Prim.Native.Nat.{ℕ, _≤_, min};
+ghost use Prim.Native.Nat.{min};
 ghost use Rattle.model.specs.declared.Outcome.the-variants.{Done};
 ghost use Rattle.model.specs.Machine.{blankMachine};
 ghost use Rattle.model.specs.Verdicts.{judgeAt};

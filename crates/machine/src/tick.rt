@@ -11,7 +11,6 @@ use model::Ticked;
 use steps::plan::Plan;
 use steps::step::step;
 ghost use mathlib.Core.Path.{_≡_};
-ghost use Prim.Native.Nat.{ℕ};
 ghost use Rattle.steps.specs.Parts.{Sound, Countable, Steps};
 ghost use Rattle.model.specs.declared.Outcome.the-variants.{Refused};
 ghost use Rattle.machine.specs.Judged.{Planned, TickIs};

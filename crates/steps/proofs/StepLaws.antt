@@ -1,7 +1,7 @@
 -- One turn of each step's loop, on the parts of the record. Assumes nothing.
 use Prim.Native.Nat.{ℕ, zero, suc, _+_, _-_, _≤_, _<_, min}
-use mathlib.Core.Path.{_≡_, refl, sym, ap, _∙_}
-use mathlib.Core.Bool.{Bool, true, false, _||_, _&&_, not, cond}
+use mathlib.Core.Path.{_≡_, refl, ap}
+use mathlib.Core.Bool.{Bool, true, false, _||_, _&&_, not}
 use mathlib.Core.List.{List}
 use mathlib.Core.Logic.{_⊎_, inl, inr, ⊎-elim}
 use native.Mathlib.Omega.{arith}
@@ -9,9 +9,9 @@ use lib.ListN.{getD, set}
 use lib.Dec.{eqb}
 use Rattle.model.specs.declared.Description.{Description}
 use Rattle.model.specs.declared.Machine.{Machine}
-use Rattle.model.specs.Graph.{linkAt, runOf}
+use Rattle.model.specs.Graph.{linkAt}
 use Rattle.model.specs.Delays.{spacingOf}
-use Rattle.model.specs.Machine.{arrive, ageAll, endRun, stepped, clearInto, setAwake, fireLink, fire, arriveOne, highestIn, runTask, setUsed, usedAt, setWaiting, setAge, clearLink, ageOne, ageAt}
+use Rattle.model.specs.Machine.{arrive, ageAll, endRun, stepped, clearInto, setAwake, fireLink, fire, arriveOne, highestIn, runTask, setUsed, usedAt, setWaiting, setAge, clearLink, ageOne}
 use Rattle.steps.specs.Parts.{parts}
 
 -- by cases, the sum first

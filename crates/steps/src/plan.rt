@@ -2,8 +2,7 @@
 
 use model::Description;
 use model::Machine;
-ghost use mathlib.Core.Path.{_≡_};
-ghost use Prim.Native.Nat.{ℕ, _≤_, _<_};
+ghost use Prim.Native.Nat.{_≤_, _<_};
 ghost use Rattle.steps.specs.Parts.{Plans, Starts, Sound};
 
 // Links by the nodes they leave and the tasks they enter, longest runs by task, spacings at one tempo by source. A plan is made

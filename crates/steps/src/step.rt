@@ -3,7 +3,7 @@
 use crate::plan::Plan;
 ghost use mathlib.Core.Path.{_≡_};
 ghost use mathlib.Core.Bool.{_||_};
-ghost use Prim.Native.Nat.{ℕ, _+_, _≤_, _<_, min};
+ghost use Prim.Native.Nat.{_+_, _≤_, _<_, min};
 ghost use lib.Dec.{eqb};
 ghost use Rattle.model.specs.Machine.{highestIn};
 ghost use Rattle.steps.specs.Parts.{Enters, Fires, Arrives, Runs, Clears, Ends, Ages, Sound, Countable, Steps, parts};

@@ -1,7 +1,6 @@
 -- `lawful` meets its contract. Assumes nothing.
-use Prim.Native.Nat.{ℕ}
-use mathlib.Core.Path.{_≡_, refl, sym, ap, _∙_}
-use mathlib.Core.Bool.{Bool, true, false, _&&_}
+use mathlib.Core.Path.{sym, _∙_}
+use mathlib.Core.Bool.{_&&_}
 use borrow.Author.Tests.{not-true, not-false}
 use Rattle.model.specs.Basics.{allN}
 use Rattle.model.specs.Machine.{taskRule, linkRule, sourceRule, lawful}

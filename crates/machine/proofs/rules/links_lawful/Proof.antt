@@ -1,17 +1,15 @@
 -- `links_lawful` meets its contract: the first l links keep their rule. Assumes nothing.
-use Prim.Native.Nat.{ℕ, suc, _+_, _-_, _≤_, _<_}
-use mathlib.Core.Path.{_≡_, refl, sym, ap, _∙_}
-use mathlib.Core.Bool.{Bool, true, false, _&&_, not}
+use Prim.Native.Nat.{ℕ, _-_, _≤_}
+use mathlib.Core.Path.{_≡_, sym, ap, _∙_}
+use mathlib.Core.Bool.{true, false}
 use mathlib.Core.List.{List}
 use native.Mathlib.Omega.{arith}
 use borrow.Author.Needs.{needs}
-use borrow.Author.Tests.{eq-eqb, ne-eqb, le-ltb, lt-ltb, le-leb, lt-leb, not-true, not-false}
-use lib.ListN.{getD, set}
+use borrow.Author.Tests.{not-true, not-false}
+use lib.ListN.{getD}
 use Rattle.model.specs.declared.Description.{Description}
-use lib.Dec.{ltb, leb, eqb}
-use Rattle.model.specs.Basics.{allN, anyN}
+use Rattle.model.specs.Basics.{allN}
 use native.Mathlib.Nat.{zero-add}
-use Rattle.model.specs.Graph.{linkAt}
 use Rattle.model.specs.Machine.{linkRule}
 use Rattle.steps.specs.Parts.{parts, LinksOf}
 use Rattle.steps.proofs.StepLaws.{cases}

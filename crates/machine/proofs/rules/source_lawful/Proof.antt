@@ -1,5 +1,4 @@
 -- `source_lawful` meets its contract. Assumes nothing.
-use borrow.Author.Tests.{eq-eqb, ne-eqb, le-ltb, lt-ltb, le-leb, lt-leb, not-true, not-false}
 use Rattle.machine.proofs.rules.source_lawful.Statement.{statement}
 use Rattle.machine.proofs.rules.source_lawful.Tie as tie
 

@@ -1,15 +1,12 @@
 -- `strangers` meets its contract: none of the first u marks is a stranger's. Assumes nothing.
-use Prim.Native.Nat.{ℕ, suc, _+_, _-_, _≤_, _<_}
-use mathlib.Core.Path.{_≡_, refl, sym, ap, _∙_}
-use mathlib.Core.Bool.{Bool, true, false, _&&_, not}
-use mathlib.Core.List.{List}
+use Prim.Native.Nat.{_-_, _≤_}
+use mathlib.Core.Path.{_≡_, sym, ap, _∙_}
+use mathlib.Core.Bool.{false, _&&_}
 use native.Mathlib.Omega.{arith}
-use borrow.Author.Needs.{needs}
-use borrow.Author.Tests.{eq-eqb, ne-eqb, le-ltb, lt-ltb, le-leb, lt-leb, not-true, not-false}
-use lib.ListN.{getD, set}
-use Rattle.model.specs.declared.Description.{Description}
-use lib.Dec.{ltb, leb, eqb}
-use Rattle.model.specs.Basics.{allN, anyN}
+use borrow.Author.Tests.{le-leb, lt-leb}
+use lib.ListN.{getD}
+use lib.Dec.{leb}
+use Rattle.model.specs.Basics.{anyN}
 use Rattle.model.specs.Machine.{strangers}
 use Rattle.theory.proofs.Tests.{both, and-false-left, and-false-right}
 use Rattle.theory.proofs.Range.{any-at}

@@ -1,5 +1,5 @@
 -- `task_lawful` meets its contract. Assumes nothing.
-use borrow.Author.Tests.{eq-eqb, ne-eqb, le-ltb, lt-ltb, le-leb, lt-leb, not-true, not-false}
+use borrow.Author.Tests.{le-ltb, lt-ltb, not-true, not-false}
 use Rattle.machine.proofs.rules.task_lawful.Statement.{statement}
 use Rattle.machine.proofs.rules.task_lawful.Tie as tie
 

@@ -1,15 +1,13 @@
 -- `too_soon` meets its contract: none of the first u sources arrives too soon. Assumes nothing.
-use Prim.Native.Nat.{ℕ, suc, _+_, _-_, _≤_, _<_}
-use mathlib.Core.Path.{_≡_, refl, sym, ap, _∙_}
-use mathlib.Core.Bool.{Bool, true, false, _&&_, not}
-use mathlib.Core.List.{List}
+use Prim.Native.Nat.{ℕ, _+_, _-_, _≤_, _<_}
+use mathlib.Core.Path.{_≡_, sym, ap, _∙_}
+use mathlib.Core.Bool.{false, _&&_}
 use native.Mathlib.Omega.{arith}
-use borrow.Author.Needs.{needs}
-use borrow.Author.Tests.{eq-eqb, ne-eqb, le-ltb, lt-ltb, le-leb, lt-leb, not-true, not-false}
-use lib.ListN.{getD, set}
+use borrow.Author.Tests.{le-ltb, lt-ltb}
+use lib.ListN.{getD}
 use Rattle.model.specs.declared.Description.{Description}
-use lib.Dec.{ltb, leb, eqb}
-use Rattle.model.specs.Basics.{allN, anyN}
+use lib.Dec.{ltb}
+use Rattle.model.specs.Basics.{anyN}
 use Rattle.model.specs.Delays.{spacingOf}
 use Rattle.model.specs.Machine.{tooSoon}
 use Rattle.theory.proofs.Tests.{both, and-false-left, and-false-right}

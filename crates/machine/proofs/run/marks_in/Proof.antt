@@ -1,15 +1,9 @@
 -- `marks_in` meets its contract: the first u bits are taken, and the rest of the mask is what they leave. Assumes nothing.
-use Prim.Native.Nat.{ℕ, suc, _+_, _-_, _≤_, _<_}
-use mathlib.Core.Path.{_≡_, refl, sym, ap, _∙_}
-use mathlib.Core.Bool.{Bool, true, false}
-use mathlib.Core.List.{List}
+use Prim.Native.Nat.{ℕ, _-_, _≤_, _<_, _/_, _%_, _^_}
+use mathlib.Core.Path.{_≡_, refl, ap, _∙_}
+use mathlib.Core.Bool.{false}
 use native.Mathlib.Omega.{arith}
-use borrow.Author.Needs.{needs}
-use borrow.Author.Tests.{eq-eqb, ne-eqb}
-use lib.ListN.{getD, set}
-use Rattle.model.specs.declared.Description.{Description}
-use Prim.Native.Nat.{_/_, _%_, _^_}
-use lib.ListN.{length, length-set}
+use lib.ListN.{getD, length, length-set}
 use lib.Dec.{eqb}
 use Rattle.theory.proofs.Table.{stored, is-tab}
 use Rattle.machine.specs.Run.{heard, marksIn}

@@ -1,5 +1,4 @@
 -- `run_judged` meets its contract: a run of its plan, of which demand 3 speaks. Assumes nothing.
-use mathlib.Core.Path.{_≡_}
 use Rattle.theory.proofs.PlainCalls.{plain-assured}
 use Rattle.machine.specs.Run.{callsOf}
 use Rattle.machine.proofs.RunLaws.{on-knob, widths}

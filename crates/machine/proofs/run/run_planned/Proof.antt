@@ -1,16 +1,13 @@
 -- `run_planned` meets its contract: after i turns the record and the codes are those that the first i calls leave, and the record
 -- keeps the rules, so that no call is refused as foreign state. Assumes nothing.
-use Prim.Native.Nat.{ℕ, suc, _+_, _-_, _≤_, _<_}
-use mathlib.Core.Path.{_≡_, refl, sym, ap, _∙_}
-use mathlib.Core.Bool.{Bool, true, false}
-use mathlib.Core.List.{List}
+use Prim.Native.Nat.{ℕ, _+_, _-_, _≤_, _<_}
+use mathlib.Core.Path.{_≡_, refl, ap, _∙_}
+use mathlib.Core.Bool.{false}
 use native.Mathlib.Omega.{arith}
 use borrow.Author.Needs.{needs}
-use borrow.Author.Tests.{eq-eqb, ne-eqb}
-use lib.ListN.{getD, set}
+use lib.ListN.{getD, length, take, drop, length-set}
 use Rattle.model.specs.declared.Description.{Description}
-use mathlib.Core.List.{[], _++_}
-use lib.ListN.{length, take, drop, length-set}
+use mathlib.Core.List.{_++_}
 use lib.Seq.{take-all}
 use Rattle.model.specs.declared.Outcome.the-variants.{Done, Refused}
 use Rattle.model.specs.declared.Refusal.the-variants.{ShortPage}

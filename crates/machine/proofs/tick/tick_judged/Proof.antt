@@ -1,7 +1,5 @@
 -- `tick_judged` meets its contract. Assumes nothing.
-use Prim.Native.Nat.{ℕ}
-use mathlib.Core.Path.{_≡_, refl, sym, ap, _∙_}
-use mathlib.Core.Bool.{Bool, true, false, _&&_}
+use mathlib.Core.Path.{sym, _∙_}
 use borrow.Author.Tests.{not-true, not-false}
 use Rattle.machine.proofs.TickLaws.{planned-sound, lawful-countable, tick-foreign, tick-stranger, tick-soon, tick-done}
 use borrow.Author.Needs.{needs}

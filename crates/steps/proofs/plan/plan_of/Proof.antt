@@ -1,17 +1,10 @@
 -- `plan_of` meets its contract: the tables hold the first l links. Assumes nothing.
-use Prim.Native.Nat.{ℕ, suc, _+_, _-_, _≤_, _<_}
-use mathlib.Core.Path.{_≡_, refl, sym, ap, _∙_}
-use mathlib.Core.Bool.{Bool, true, false}
-use mathlib.Core.List.{List}
+use Prim.Native.Nat.{ℕ, _-_, _≤_, _<_}
+use mathlib.Core.Path.{_≡_, refl, _∙_}
 use native.Mathlib.Omega.{arith}
-use borrow.Author.Needs.{needs}
-use borrow.Author.Tests.{eq-eqb, ne-eqb}
-use lib.ListN.{getD, set}
-use Rattle.model.specs.declared.Description.{Description}
-use lib.ListN.{length, length-set}
+use lib.ListN.{getD, length, length-set}
 use Rattle.model.specs.Graph.{linkAt}
 use Rattle.theory.proofs.Table.{stored}
-use Rattle.steps.specs.Parts.{GapsOf, PlanOf, LinksOf}
 use Rattle.steps.proofs.plan.plan_of.Statement.{statement}
 use Rattle.steps.proofs.plan.plan_of.Tie as tie
 

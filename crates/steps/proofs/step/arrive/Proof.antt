@@ -1,17 +1,13 @@
 -- `arrive` meets its contract: after u turns the first u sources have arrived. Assumes nothing.
-use Prim.Native.Nat.{ℕ, suc, _+_, _-_, _≤_, _<_}
+use Prim.Native.Nat.{ℕ, _-_, _≤_}
 use mathlib.Core.Path.{_≡_, refl, sym, ap, _∙_}
-use mathlib.Core.Bool.{Bool, true, false}
 use mathlib.Core.List.{List}
 use native.Mathlib.Omega.{arith}
-use borrow.Author.Needs.{needs}
-use borrow.Author.Tests.{eq-eqb, ne-eqb}
-use lib.ListN.{getD, set}
 use Rattle.model.specs.declared.Description.{Description}
 use Rattle.model.specs.Basics.{upTo}
 use Rattle.theory.proofs.Range.{upTo-more}
 use Rattle.model.specs.Machine.{fire, arriveOne, arrive}
-use Rattle.steps.specs.Parts.{parts, LinksOf, Fires}
+use Rattle.steps.specs.Parts.{parts, LinksOf}
 use Rattle.steps.proofs.StepLaws.{cases, arrive-on, arrive-off}
 use Rattle.steps.proofs.step.arrive.Statement.{statement}
 use Rattle.steps.proofs.step.arrive.Tie as tie

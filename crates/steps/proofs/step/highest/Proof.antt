@@ -1,15 +1,7 @@
 -- `highest` meets its contract: no task above k is awake. Assumes nothing.
-use Prim.Native.Nat.{ℕ, suc, _+_, _-_, _≤_, _<_}
-use mathlib.Core.Path.{_≡_, refl, sym, ap, _∙_}
-use mathlib.Core.Bool.{Bool, true, false}
-use mathlib.Core.List.{List}
+use Prim.Native.Nat.{_-_, _≤_}
+use mathlib.Core.Path.{_≡_, refl, sym, _∙_}
 use native.Mathlib.Omega.{arith}
-use borrow.Author.Needs.{needs}
-use borrow.Author.Tests.{eq-eqb, ne-eqb}
-use lib.ListN.{getD, set}
-use Rattle.model.specs.declared.Description.{Description}
-use Rattle.model.specs.Basics.{upTo}
-use Rattle.theory.proofs.Range.{upTo-more}
 use Rattle.model.specs.Machine.{highestIn}
 use Rattle.steps.proofs.StepLaws.{highest-here, highest-below, highest-none}
 use Rattle.steps.proofs.step.highest.Statement.{statement}

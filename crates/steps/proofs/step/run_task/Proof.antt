@@ -1,19 +1,10 @@
 -- `run_task` meets its contract. Assumes nothing.
-use Prim.Native.Nat.{ℕ, suc, _+_, _-_, _≤_, _<_}
-use mathlib.Core.Path.{_≡_, refl, sym, ap, _∙_}
-use mathlib.Core.Bool.{Bool, true, false}
-use mathlib.Core.List.{List}
+use Prim.Native.Nat.{_-_}
 use native.Mathlib.Omega.{arith}
 use borrow.Author.Needs.{needs}
-use borrow.Author.Tests.{eq-eqb, ne-eqb}
-use lib.ListN.{getD, set}
-use Rattle.model.specs.declared.Description.{Description}
-use Rattle.model.specs.Basics.{upTo}
-use Rattle.theory.proofs.Range.{upTo-more}
-use Rattle.model.specs.Machine.{runTask}
+use borrow.Author.Tests.{ne-eqb}
 use Rattle.steps.specs.Parts.{parts}
 use Rattle.steps.proofs.StepLaws.{run-none, run-on}
-use borrow.Author.Needs.{needs}
 use Rattle.steps.proofs.step.run_task.Statement.{statement}
 use Rattle.steps.proofs.step.run_task.Tie as tie
 

@@ -1,18 +1,12 @@
 -- `step` meets its contract: the four steps one after the other. Assumes nothing.
-use Prim.Native.Nat.{ℕ, suc, _+_, _-_, _≤_, _<_}
-use mathlib.Core.Path.{_≡_, refl, sym, ap, _∙_}
-use mathlib.Core.Bool.{Bool, true, false}
-use mathlib.Core.List.{List}
+use Prim.Native.Nat.{_-_}
+use mathlib.Core.Path.{sym, ap, _∙_}
 use native.Mathlib.Omega.{arith}
 use borrow.Author.Needs.{needs}
-use borrow.Author.Tests.{eq-eqb, ne-eqb}
-use lib.ListN.{getD, set}
-use Rattle.model.specs.declared.Description.{Description}
-use Rattle.model.specs.Machine.{highestIn, arrive, runTask, endRun, ageAll, stepped}
+use Rattle.model.specs.Machine.{highestIn, arrive}
 use Rattle.theory.proofs.Ending.{highest-le}
-use Rattle.steps.specs.Parts.{parts, PlanOf}
+use Rattle.steps.specs.Parts.{parts}
 use Rattle.steps.proofs.StepLaws.{step-whole}
-use borrow.Author.Needs.{needs}
 use Rattle.steps.proofs.step.step.Statement.{statement}
 use Rattle.steps.proofs.step.step.Tie as tie
 

@@ -126,3 +126,12 @@ pub fn run(d: Description, t: u32, masks: &[u16], finishes: &[bool], outcomes: &
     let gaps = gaps_of(d, t);
     run_judged(d, t, gaps, masks, finishes, outcomes)
 }
+
+// The caller's own record is advanced by one tick; a refusal leaves it as it was.
+pub fn tick(d: Description, t: u32, m: &mut Machine, a: Arrivals, finish: bool) -> Outcome
+    ensures { λ r. ⌜ (r ≡ plainTick d t (now (m .entry)) a finish .outcome) × (now (m .exit) ≡ plainTick d t (now (m .entry)) a finish .machine) ⌝ }
+{
+    let r = tick_value(d, t, *m, a, finish);
+    *m = r.machine;
+    r.outcome
+}

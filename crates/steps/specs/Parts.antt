@@ -32,32 +32,37 @@ abbrev pub GapsOf : Description → ℕ → List ℕ → Type 0
 GapsOf d t gaps = (u : ℕ) → u < d .«source_count» → getD gaps u 0 ≡ spacingOf d t (33 + u)
 
 -- What each step ensures of the parts that it is lent: beside whatever the others are, they become those of the plain machine's step,
--- for every description whose tables it was given.
+-- for every description whose tables it was given. First: node x has fired.
 abbrev pub Fires : List ℕ → List ℕ → ℕ → ℕ → List Bool → List Bool → List Bool → List Bool → List Bool → List Bool → Type 0
 Fires from to n x awake waiting dropped awake′ waiting′ dropped′ =
     (d : Description) (used ages : List ℕ) → LinksOf d from to n
     → parts awake′ used waiting′ dropped′ ages ≡ fire d x (parts awake used waiting dropped ages)
 
+-- the marked sources have arrived
 abbrev pub Arrives : List ℕ → List ℕ → ℕ → List Bool → ℕ → List Bool → List Bool → List Bool → List ℕ → List Bool → List Bool → List Bool → List ℕ → Type 0
 Arrives from to n marks sources awake waiting dropped ages awake′ waiting′ dropped′ ages′ =
     (d : Description) (used : List ℕ) → LinksOf d from to n → d .«source_count» ≡ sources
     → parts awake′ used waiting′ dropped′ ages′ ≡ arrive d marks (parts awake used waiting dropped ages)
 
+-- task h has run, or none for 0
 abbrev pub Runs : ℕ → List ℕ → List ℕ → Type 0
 Runs h used used′ =
     (awake waiting dropped : List Bool) (ages : List ℕ)
     → parts awake used′ waiting dropped ages ≡ runTask h (parts awake used waiting dropped ages)
 
+-- the waiting marks on links into task h are clear
 abbrev pub Clears : List ℕ → ℕ → ℕ → List Bool → List Bool → Type 0
 Clears to n h waiting waiting′ =
     (d : Description) (from : List ℕ) (awake dropped : List Bool) (used ages : List ℕ) → LinksOf d from to n
     → parts awake used waiting′ dropped ages ≡ clearInto d h (parts awake used waiting dropped ages)
 
+-- the run of task h has ended, if this tick ends it
 abbrev pub Ends : List ℕ → List ℕ → ℕ → List ℕ → ℕ → Bool → List Bool → List ℕ → List Bool → List Bool → List Bool → List ℕ → List Bool → List Bool → Type 0
 Ends from to n runs h finish awake used waiting dropped awake′ used′ waiting′ dropped′ =
     (d : Description) (ages : List ℕ) → LinksOf d from to n → runs ≡ d .runs
     → parts awake′ used′ waiting′ dropped′ ages ≡ endRun d h finish (parts awake used waiting dropped ages)
 
+-- the ages have risen
 abbrev pub Ages : List ℕ → ℕ → List ℕ → List ℕ → Type 0
 Ages gaps sources ages ages′ =
     (d : Description) (t : ℕ) (awake waiting dropped : List Bool) (used : List ℕ) → d .«source_count» ≡ sources → GapsOf d t gaps
@@ -76,6 +81,7 @@ pub record Sound (p : Plan) : Type 0 where
   pub few-tasks : p .tasks ≤ 32
   pub few-sources : p .sources ≤ 16
 
+-- the record is one tick later
 abbrev pub Steps : Plan → List Bool → Bool → Machine → Machine → Type 0
 Steps p marks finish m m′ = (d : Description) (t : ℕ) → PlanOf d t p → m′ ≡ stepped d t marks finish m
 

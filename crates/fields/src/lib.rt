@@ -32,7 +32,7 @@ fn byte_at(s: &[u8], at: usize) -> u32
 }
 
 // The number in two bytes, high byte first.
-fn half_at(s: &[u8], at: usize) -> u16
+pub fn half_at(s: &[u8], at: usize) -> u16
     requires { ⌜ at + 2 ≤ length (now s) ⌝ }
     ensures { λ r. ⌜ r ≡ numberIn (now (s .entry)) at 2 ⌝ }
 {

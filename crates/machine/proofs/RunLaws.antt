@@ -29,9 +29,10 @@ use Rattle.model.specs.Machine.{idle, blankMachine, lawful, plainTick}
 use Rattle.model.specs.History.{Call, answers, left, isDone}
 use Rattle.theory.proofs.Tests.{not-both, and-left, and-right}
 use Rattle.theory.proofs.WellFormed.{WellFormed}
-use Rattle.theory.proofs.Replay.{callAt}
+use Rattle.theory.proofs.Table.{length-tab, getD-tab}
+use Rattle.theory.proofs.Replay.{callAt, quietCall}
 use Rattle.theory.proofs.Lawful.{rules-kept}
-use Rattle.machine.specs.Run.{callOf, callsOf, codeOf, codes, page, ran}
+use Rattle.machine.specs.Run.{callIn, callsIn, codeOf, codes, page, ran}
 
 -- masks: all of it, and one bit less
 pub whole-mask : (mask : ℕ) → mask ≡ mask / 2 ^ 0
@@ -44,19 +45,12 @@ halved mask u rest e = rw (e, add-one u, pow-suc 2 u) (div-div-eq-div-mul mask (
 pub coded : (r r′ : Ticked) → r ≡ r′ → (codeOf (r .outcome) ≡ codeOf (r′ .outcome)) × (r .machine ≡ r′ .machine)
 coded r r′ e = (ap (λ (k : Ticked). codeOf (k .outcome)) e, ap (λ (k : Ticked). k .machine) e)
 
--- as many calls as both lists have, the i-th being of the i-th mask and word
-pub calls-length : (masks : List ℕ) (fs : List Bool) → length (callsOf masks fs) ≡ min (length masks) (length fs)
-unfolding callsOf
-calls-length [] fs = omega arith
-calls-length (a ∷ masks) [] = omega arith
-calls-length (a ∷ masks) (f ∷ fs) = omega (arith, calls-length masks fs)
+-- as many calls as whole fours, the i-th being that of the i-th four
+pub calls-length : (bytes : List ℕ) → length (callsIn bytes) ≡ length bytes / 4
+calls-length bytes = length-tab (length bytes / 4) (callIn bytes)
 
-pub calls-at : (masks : List ℕ) (fs : List Bool) (i : ℕ) → i < length (callsOf masks fs) → callAt (callsOf masks fs) i ≡ callOf (getD masks i 0) (getD fs i false)
-unfolding callsOf
-calls-at [] fs i h = absurd (omega arith)
-calls-at (a ∷ masks) [] i h = absurd (omega arith)
-calls-at (a ∷ masks) (f ∷ fs) zero h = refl
-calls-at (a ∷ masks) (f ∷ fs) (suc i) h = calls-at masks fs i (omega arith)
+pub calls-at : (bytes : List ℕ) (i : ℕ) → i < length bytes / 4 → callAt (callsIn bytes) i ≡ callIn bytes i
+calls-at bytes i h = getD-tab (length bytes / 4) (callIn bytes) quietCall i h
 
 -- the record after one call more, and that call's code
 pub left-more : (d : Description) (t : ℕ) (cs : List Call) (m : Machine) (i : ℕ) → i < length cs → left d t m (take (i + 1) cs) ≡ plainTick d t (left d t m (take i cs)) (callAt cs i .arrivals) (callAt cs i .finish) .machine

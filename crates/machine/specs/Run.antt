@@ -1,9 +1,9 @@
--- A run of many tick calls: the list of calls that its masks and words on finish stand for, its answer, and the buffer it leaves.
-use Prim.Native.Nat.{ℕ, _≤_, _/_, _%_, _^_}
-use mathlib.Core.Bool.{Bool, true, cond}
+-- A run of many tick calls: the list of calls that its bytes stand for, its answer, and the buffer it leaves.
+use Prim.Native.Nat.{ℕ, _+_, _*_, _≤_, _/_, _%_, _^_}
+use mathlib.Core.Bool.{Bool, true, cond, not}
 use mathlib.Core.List.{List, [], _∷_}
 use mathlib.Core.Path.{_≡_}
-use lib.ListN.{length}
+use lib.ListN.{length, getD}
 use lib.Dec.{eqb, ltb}
 use Rattle.model.specs.declared.Description.{Description}
 use Rattle.model.specs.declared.Machine.{Machine}
@@ -14,6 +14,7 @@ use Rattle.model.specs.declared.Refusal.the-variants.{ShortPage}
 use Rattle.model.specs.declared.Quote.the-variants.{Tempo}
 use Rattle.model.specs.Basics.{tab}
 use Rattle.model.specs.Refusals.{numberOf}
+use Rattle.model.specs.Field.{numberIn}
 use Rattle.model.specs.File.{filledBy}
 use Rattle.model.specs.Verdicts.{judgeAt, quoteOf}
 use Rattle.model.specs.Machine.{idle, blankMachine, lawful, plainTick}
@@ -30,14 +31,16 @@ heard mask u = eqb (mask / 2 ^ u % 2) 1
 unfoldable pub marksIn : ℕ → List Bool
 marksIn mask = tab 16 (heard mask)
 
--- the calls: the first mask with the first word on finish, and so on, as many as both lists have
+-- a call in four bytes: the mask of its arrivals, high byte first; finish, unless the byte is 0; and a byte that is not looked at
 abbrev pub callOf : ℕ → Bool → Call
 callOf mask finish = record { arrivals = record { marks = marksIn mask }; finish = finish }
 
-unfoldable pub callsOf : List ℕ → List Bool → List Call
-callsOf [] fs = []
-callsOf (a ∷ masks) [] = []
-callsOf (a ∷ masks) (f ∷ fs) = callOf a f ∷ callsOf masks fs
+abbrev pub callIn : List ℕ → ℕ → Call
+callIn bytes i = callOf (numberIn bytes (4 * i) 2) (not (eqb (getD bytes (4 * i + 2) 0) 0))
+
+-- as many calls as the bytes have whole fours
+abbrev pub callsIn : List ℕ → List Call
+callsIn bytes = tab (length bytes / 4) (callIn bytes)
 
 -- a call's end as a byte: 0 for work done, or else the refusal's number
 abbrev pub codeOf : Outcome → ℕ
@@ -66,10 +69,10 @@ Advances p marks finish m m′ r =
     → (r ≡ codeOf (plainTick d t m (record { marks = marks }) finish .outcome)) × (m′ ≡ plainTick d t m (record { marks = marks }) finish .machine)
 
 -- what a run ensures, of every accepted description and tempo whose plan it is given
-abbrev pub RunIs : Plan → List ℕ → List Bool → List ℕ → List ℕ → Ticked → Type 0
-RunIs p masks finishes buffer buffer′ r =
+abbrev pub RunIs : Plan → List Call → List ℕ → List ℕ → Ticked → Type 0
+RunIs p cs buffer buffer′ r =
     (d : Description) (t : ℕ) → PlanOf d t p → WellFormed d → judgeAt d t ≡ Done
-    → (r ≡ ran d t (callsOf masks finishes) buffer) × (buffer′ ≡ filledBy (page d t (callsOf masks finishes)) buffer)
+    → (r ≡ ran d t cs buffer) × (buffer′ ≡ filledBy (page d t cs) buffer)
 
 -- and of its description: the plain machine's record and codes, and with a quote all that demand 3 assures of this list of calls
 pub record RunOf (d : Description) (t : ℕ) (cs : List Call) (buffer buffer′ : List ℕ) (r : Ticked) : Type 0 where

@@ -3,6 +3,7 @@
 use crate::rules::strangers;
 use crate::rules::too_soon;
 use crate::tick::refused;
+use fields::half_at;
 use model::Description;
 use model::Machine;
 use model::Outcome;
@@ -13,21 +14,13 @@ use steps::plan::idle_of;
 use steps::plan::plan_of;
 use steps::step::step;
 ghost use mathlib.Core.Path.{_≡_};
-ghost use Prim.Native.Nat.{min};
 ghost use Rattle.model.specs.declared.Outcome.the-variants.{Done};
 ghost use Rattle.model.specs.Machine.{blankMachine};
 ghost use Rattle.model.specs.Verdicts.{judgeAt};
 ghost use Rattle.theory.proofs.WellFormed.{WellFormed};
 ghost use Rattle.steps.specs.Parts.{parts, Sound, Countable, GapsOf};
 ghost use Rattle.machine.specs.Judged.{Planned};
-ghost use Rattle.machine.specs.Run.{marksIn, callsOf, Advances, RunIs, RunOf};
-
-// The smaller of two numbers.
-fn smaller(a: usize, b: usize) -> usize
-    ensures { λ r. ⌜ r ≡ min a b ⌝ }
-{
-    if a < b { a } else { b }
-}
+ghost use Rattle.machine.specs.Run.{marksIn, callsIn, Advances, RunIs, RunOf};
 
 // The marks of a mask: its lowest bit is source 33.
 fn marks_in(mask: u16) -> [bool; 16]
@@ -87,13 +80,13 @@ pub fn advance(
     0
 }
 
-// The calls of a plan from the start. The i-th has the arrivals of the i-th mask and the i-th word on finish; there are as many as
-// both slices hold. Each call's refusal, or 0, goes to its place of the buffer, which is refused as too short (13) otherwise.
-pub fn run_planned(p: Plan, masks: &[u16], finishes: &[bool], outcomes: &mut [u8]) -> Ticked
+// The calls of a plan from the start, four bytes each. Each call's refusal, or 0, goes to its place of the buffer; one that does
+// not hold them all is refused as too short (13).
+pub fn run_planned(p: Plan, calls: &[u8], outcomes: &mut [u8]) -> Ticked
     requires { ⌜ Planned p ⌝ }
-    ensures { λ r. ⌜ RunIs p (now (masks .entry)) (now (finishes .entry)) (now (outcomes .entry)) (now (outcomes .exit)) r ⌝ }
+    ensures { λ r. ⌜ RunIs p (callsIn (now (calls .entry))) (now (outcomes .entry)) (now (outcomes .exit)) r ⌝ }
 {
-    let n = smaller(masks.len(), finishes.len());
+    let n = calls.len() / 4;
     if outcomes.len() < n {
         return refused(Refusal::ShortPage, blank());
     }
@@ -105,11 +98,13 @@ pub fn run_planned(p: Plan, masks: &[u16], finishes: &[bool], outcomes: &mut [u8
     let mut ages = m.ages;
     let mut i: usize = 0;
     while i < n {
-        let marks = marks_in(masks[i]);
+        let at = 4 * i;
+        let marks = marks_in(half_at(calls, at));
+        let finish = calls[at + 2] != 0;
         outcomes[i] = advance(
             p,
             &marks,
-            finishes[i],
+            finish,
             &mut awake,
             &mut used,
             &mut waiting,
@@ -137,13 +132,12 @@ pub fn run_judged(
     d: Description,
     t: u32,
     gaps: [u32; 16],
-    masks: &[u16],
-    finishes: &[bool],
+    calls: &[u8],
     outcomes: &mut [u8],
 ) -> Ticked
     requires { ⌜ WellFormed d × (judgeAt d t ≡ Done) × GapsOf d t gaps ⌝ }
-    ensures { λ r. ⌜ RunOf d t (callsOf (now (masks .entry)) (now (finishes .entry))) (now (outcomes .entry)) (now (outcomes .exit)) r ⌝ }
+    ensures { λ r. ⌜ RunOf d t (callsIn (now (calls .entry))) (now (outcomes .entry)) (now (outcomes .exit)) r ⌝ }
 {
     let p = plan_of(d, gaps);
-    run_planned(p, masks, finishes, outcomes)
+    run_planned(p, calls, outcomes)
 }

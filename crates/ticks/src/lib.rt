@@ -17,7 +17,7 @@ ghost use Rattle.model.specs.Machine.{started, plainTick};
 ghost use Rattle.model.specs.Verdicts.{judgeAt};
 ghost use Rattle.theory.proofs.WellFormed.{WellFormed};
 ghost use Rattle.steps.specs.Parts.{GapsOf};
-ghost use Rattle.machine.specs.Run.{callsOf};
+ghost use Rattle.machine.specs.Run.{callsIn};
 ghost use Rattle.ticks.specs.Calls.{unstarted, untouched, RunCall};
 
 // The spacing of each source at tempo t.
@@ -114,17 +114,18 @@ pub fn tick_value(d: Description, t: u32, m: Machine, a: Arrivals, finish: bool)
     tick_judged(plan, m, a, finish)
 }
 
-// Many tick calls from the start, with the description judged once. The i-th call has the arrivals of the i-th mask, whose
-// lowest bit is source 33, and the i-th word on finish; its refusal's number, or 0, goes to the i-th byte of the buffer.
-pub fn run(d: Description, t: u32, masks: &[u16], finishes: &[bool], outcomes: &mut [u8]) -> Ticked
-    ensures { λ r. ⌜ RunCall d t (callsOf (now (masks .entry)) (now (finishes .entry))) (now (outcomes .entry)) (now (outcomes .exit)) r ⌝ }
+// Many tick calls from the start, with the description judged once. A call has four bytes: the mask of its arrivals, high byte
+// first, whose lowest bit is source 33; finish, unless it is 0; and one that is not looked at. Its refusal's number, or 0, goes to
+// its byte of the buffer.
+pub fn run(d: Description, t: u32, calls: &[u8], outcomes: &mut [u8]) -> Ticked
+    ensures { λ r. ⌜ RunCall d t (callsIn (now (calls .entry))) (now (outcomes .entry)) (now (outcomes .exit)) r ⌝ }
 {
     let judged = judge_at(d, t);
     if let Outcome::Refused(why, place) = judged {
         return refused_start(why, place);
     }
     let gaps = gaps_of(d, t);
-    run_judged(d, t, gaps, masks, finishes, outcomes)
+    run_judged(d, t, gaps, calls, outcomes)
 }
 
 // The caller's own record is advanced by one tick; a refusal leaves it as it was.

@@ -1,6 +1,6 @@
 -- `run_judged` meets its contract: a run of its plan, of which demand 3 speaks. Assumes nothing.
 use Rattle.theory.proofs.PlainCalls.{plain-assured}
-use Rattle.machine.specs.Run.{callsOf}
+use Rattle.machine.specs.Run.{callsIn}
 use Rattle.machine.proofs.RunLaws.{on-knob, widths}
 use borrow.Author.Needs.{needs}
 use Rattle.machine.proofs.run.run_judged.Statement.{statement}
@@ -11,7 +11,7 @@ plan-of-requires c κs = search needs
 
 run-planned-requires : tie.Need-run-planned-requires
 run-planned-requires c κs =
-    let S = c .before .before .before .before .before in
+    let S = c .before .before .before .before in
     record {
       description = S .args .d;
       tempo = S .args .t;
@@ -25,10 +25,10 @@ same-length c = search needs
 
 returns : tie.Need-returns
 returns c =
-    let S = c .before .before .before .before .before .before .before .before in
+    let S = c .before .before .before .before .before .before .before in
     let d = S .args .d in
     let t = S .args .t in
-    let cs = callsOf (S .args .masks .now) (S .args .finishes .now) in
+    let cs = callsIn (S .args .calls .now) in
     let E = c .before .before .run-planned .ensures d t (c .before .before .before .before .plan-of .ensures t (S .pre .2)) (S .pre .0) (S .pre .1) in
     record {
       answered = E .0;

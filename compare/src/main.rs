@@ -4,6 +4,7 @@
 use compare::generate::{self, Random, Run};
 use compare::{CALL_BYTES, LONGEST_REPORT, RECORD_BYTES, Side, library, plain, vectors};
 use std::fmt;
+use std::ops::Range;
 use std::process::ExitCode;
 
 const USAGE: &str = "usage: compare [--cases N] [--seed S]";
@@ -13,6 +14,8 @@ const DEFAULT_SEED: u64 = 1;
 const RUN_EVERY: u64 = 4;
 /// What a buffer holds before a call. A byte that a call must not touch still holds it after.
 const UNTOUCHED: u8 = 0xA5;
+/// The dropped marks of a record.
+const DROPPED: Range<usize> = 416..672;
 
 fn main() -> ExitCode {
     let Some((cases, seed)) = arguments() else {
@@ -94,6 +97,7 @@ struct Tally {
     refused: [u64; 17],
     ticks: u64,
     refused_ticks: u64,
+    runs_with_drops: u64,
 }
 
 /// The proved side against plain Rust, on every edge and then on random inputs.
@@ -142,7 +146,7 @@ fn compare_run(proved: &Side, run: &Run, random: &mut Random, tally: &mut Tally)
     };
     let expected = ticks(&plain::SIDE, run, outcomes, record);
     if expected.code == 0 {
-        tally.note_outcomes(&expected.outcomes[..calls]);
+        tally.note_run(&expected.outcomes[..calls], &expected.record);
     }
     let input = || format!("{} into {outcomes} and {record} bytes", run_words(run));
     same(input, ("plain", expected), (proved.name, ticks(proved, run, outcomes, record)))?;
@@ -160,10 +164,11 @@ impl Tally {
         }
     }
 
-    fn note_outcomes(&mut self, outcomes: &[u8]) {
+    fn note_run(&mut self, outcomes: &[u8], record: &[u8]) {
         let refused = outcomes.iter().filter(|&&outcome| outcome != 0).count() as u64;
         self.ticks += outcomes.len() as u64 - refused;
         self.refused_ticks += refused;
+        self.runs_with_drops += u64::from(record[DROPPED].contains(&1));
     }
 }
 
@@ -176,7 +181,8 @@ impl fmt::Display for Tally {
             write!(f, " {number} × {count},")?;
         }
         writeln!(f, " 13 × {} short pages", self.reports)?;
-        write!(f, "  ticks: {}, and {} refused calls", self.ticks, self.refused_ticks)
+        write!(f, "  ticks: {}, and {} refused calls; ", self.ticks, self.refused_ticks)?;
+        write!(f, "{} runs end with a dropped event", self.runs_with_drops)
     }
 }
 

@@ -9,6 +9,11 @@ pub mod refusal;
 pub mod report;
 pub mod verdicts;
 
+#[cfg(test)]
+mod definition;
+#[cfg(test)]
+mod figures;
+
 
 use crate::{CALL_BYTES, RECORD_BYTES, Side};
 use description::Description;

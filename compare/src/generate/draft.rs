@@ -16,11 +16,10 @@ impl Draft {
         Draft { runs: runs.to_vec(), sources: sources.to_vec(), links: links.to_vec() }
     }
 
-    /// Brings the links into the file's order, each at most once, and drops those past the 256th.
+    /// Brings the links into the file's order, each at most once.
     pub fn sorted(mut self) -> Draft {
         self.links.sort_unstable();
         self.links.dedup_by_key(|link| (link[0], link[1]));
-        self.links.truncate(256);
         self
     }
 

@@ -12,8 +12,10 @@ struct Shape {
     tasks: u32,
     sources: u32,
     links: u32,
-    /// In percent: links between tasks that lead up, critical links, paced sources.
-    rising: u64,
+    /// In percent: tasks out of the order that links follow, which is otherwise rising or falling.
+    shuffled: u64,
+    rising: bool,
+    /// In percent: critical links, paced sources.
     critical: u64,
     paced: u64,
     longest_run: u32,
@@ -28,7 +30,8 @@ impl Shape {
             tasks: random.within(if small { 1..=8 } else { 1..=32 }),
             sources: random.within(if small { 0..=4 } else { 0..=16 }),
             links: if small { random.within(0..=14) } else { random.scaled(0..=256) },
-            rising: [0, 30, 70, 100][random.index(4)],
+            shuffled: [0, 10, 30, 100][random.index(4)],
+            rising: random.chance(60),
             critical: [10, 50, 100][random.index(3)],
             paced: [0, 50, 100][random.index(3)],
             longest_run: [5, 300, 20_000, 10_000_000][random.index(4)],
@@ -57,11 +60,14 @@ impl Shape {
         }
     }
 
-    /// The tasks in an order that links follow.
+    /// The tasks in an order that links follow. Rising links make loads heavy, falling ones doubtful.
     fn order(&self, random: &mut Random) -> Vec<u8> {
         let mut order: Vec<u8> = (1..=self.tasks as u8).collect();
+        if !self.rising {
+            order.reverse();
+        }
         for place in 1..order.len() {
-            if !random.chance(self.rising) {
+            if random.chance(self.shuffled) {
                 order.swap(place, random.index(place + 1));
             }
         }
@@ -94,22 +100,36 @@ pub fn any(random: &mut Random) -> Draft {
 pub fn tuned(random: &mut Random) -> Draft {
     let mut shape = Shape::any(random);
     shape.sources = shape.sources.max(1);
-    shape.links = shape.links.max(2);
-    shape.paced = [60, 100][random.index(2)];
     shape.longest_run = 1_000;
     shape.loop_free = true;
     let mut draft = shape.draft(random);
-    for source in &mut draft.sources {
-        *source = match *source {
-            Fixed(spacing) => Fixed(spacing.max(1_000)),
-            Paced(_) => Paced(random.scaled(1..=960) as u16),
-        };
-    }
+    widen(&mut draft, 960, random);
+    // One critical link at least depends on the tempo.
+    draft.sources[0] = Paced(random.scaled(1..=960) as u16);
+    draft.links.retain(|link| link[0] != 33);
+    draft.links.truncate(255);
+    draft.links.push([33, random.within(1..=shape.tasks) as u8, 1]);
+    draft = draft.sorted();
     if random.chance(90) {
         free_doubtful_orders(&mut draft);
     }
-    tune(&mut draft, random.within(201..=2_999));
+    let tempo = match random.below(10) {
+        0 => 200,
+        1 => 3_000,
+        _ => random.within(201..=2_999),
+    };
+    tune(&mut draft, tempo);
     draft
+}
+
+/// Gives the sources spacings that leave room for runs of any length.
+fn widen(draft: &mut Draft, most_pulses: u32, random: &mut Random) {
+    for source in &mut draft.sources {
+        *source = match *source {
+            Fixed(spacing) => Fixed(spacing.max(100_000)),
+            Paced(_) => Paced(random.scaled(1..=most_pulses) as u16),
+        };
+    }
 }
 
 /// Makes links between tasks free where no tempo would hold them.
@@ -150,7 +170,7 @@ pub fn heavy(random: &mut Random) -> Draft {
     let mut shape = Shape::any(random);
     shape.tasks = random.within(6..=32);
     shape.links = random.within(20..=256);
-    shape.rising = 100;
+    (shape.rising, shape.shuffled) = (true, 0);
     shape.longest_run = 10_000;
     shape.loop_free = true;
     let mut draft = shape.draft(random);
@@ -242,7 +262,8 @@ fn bench_file(tasks: u32, sources: u32, links: usize, seed: u64) -> Vec<u8> {
         tasks,
         sources,
         links: 4 * links as u32,
-        rising: 40,
+        shuffled: 20,
+        rising: false,
         critical: 50,
         paced: 80,
         longest_run: 400,
@@ -253,6 +274,7 @@ fn bench_file(tasks: u32, sources: u32, links: usize, seed: u64) -> Vec<u8> {
         while draft.links.len() > links {
             draft.links.remove(random.index(draft.links.len()));
         }
+        widen(&mut draft, 96, &mut random);
         free_doubtful_orders(&mut draft);
         tune(&mut draft, 1_500);
         let file = draft.bytes();

@@ -27,5 +27,7 @@ pub struct Side {
     pub quote: fn(file: &[u8]) -> i64,
     /// A list of tick calls from the idle start. Fills an outcome for each and the last record and
     /// returns 0, or returns -(10,000 × number + place) and fills nothing.
-    pub run: fn(file: &[u8], tempo: u32, calls: &[u8], outcomes: &mut [u8], record: &mut [u8]) -> i64,
+    pub run: RunCall,
 }
+
+pub type RunCall = fn(file: &[u8], tempo: u32, calls: &[u8], outcomes: &mut [u8], record: &mut [u8]) -> i64;

@@ -80,7 +80,12 @@ fn check_vectors(side: &Side) -> Result<(), Difference> {
         let answer = ticks(side, &run, vector.outcomes.len(), RECORD_BYTES);
         same(|| run_words(&run), ("recorded", recorded), (side.name, answer))?;
     }
-    println!("{} and the recorded answers: {} reports and {} runs agree", side.name, reports.len(), runs.len());
+    println!(
+        "{} and the recorded answers: {} reports and {} runs agree",
+        side.name,
+        reports.len(),
+        runs.len()
+    );
     Ok(())
 }
 
@@ -118,7 +123,12 @@ fn compare(proved: &Side, cases: u64, seed: u64) -> Result<(), Difference> {
     Ok(())
 }
 
-fn compare_file(proved: &Side, file: &[u8], random: &mut Random, tally: &mut Tally) -> Result<(), Difference> {
+fn compare_file(
+    proved: &Side,
+    file: &[u8],
+    random: &mut Random,
+    tally: &mut Tally,
+) -> Result<(), Difference> {
     let expected = report(&plain::SIDE, file, LONGEST_REPORT);
     // The longest page, one that the report just fits, and one that is too short for it.
     let needed = expected.code as usize;
@@ -174,8 +184,16 @@ impl Tally {
 
 impl fmt::Display for Tally {
     fn fmt(&self, f: &mut fmt::Formatter) -> fmt::Result {
-        writeln!(f, "proved and plain: {} reports, {} quotes and {} runs agree", self.reports, self.quotes, self.runs)?;
-        writeln!(f, "  quotes: {} inside the range, {} at 20.0, {} at 300.0", self.inside, self.slowest, self.fastest)?;
+        writeln!(
+            f,
+            "proved and plain: {} reports, {} quotes and {} runs agree",
+            self.reports, self.quotes, self.runs
+        )?;
+        writeln!(
+            f,
+            "  quotes: {} inside the range, {} at 20.0, {} at 300.0",
+            self.inside, self.slowest, self.fastest
+        )?;
         write!(f, "  refusals:")?;
         for (number, count) in self.refused.iter().enumerate().filter(|(_, count)| **count > 0) {
             write!(f, " {number} × {count},")?;
@@ -240,7 +258,11 @@ impl Words for Page {
         let written = usize::try_from(self.code).unwrap_or(0).min(self.page.len());
         let touched = self.page[written..].iter().any(|&byte| byte != UNTOUCHED);
         let rest = if touched { "CHANGED" } else { "untouched" };
-        format!("returned {}, rest of the page {rest}\n{}", self.code, String::from_utf8_lossy(&self.page[..written]))
+        format!(
+            "returned {}, rest of the page {rest}\n{}",
+            self.code,
+            String::from_utf8_lossy(&self.page[..written])
+        )
     }
 }
 

@@ -14,7 +14,6 @@ mod definition;
 #[cfg(test)]
 mod figures;
 
-
 use crate::{CALL_BYTES, RECORD_BYTES, Side};
 use description::Description;
 use loads::Loads;

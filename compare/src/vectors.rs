@@ -70,3 +70,34 @@ impl Cursor {
         self.take(size)
     }
 }
+
+#[cfg(test)]
+mod tests {
+    use super::*;
+    use crate::plain::SIDE;
+    use crate::{LONGEST_REPORT, RECORD_BYTES};
+
+    #[test]
+    fn plain_reports_agree() {
+        let vectors = reports();
+        assert_eq!(vectors.len(), 399);
+        for vector in vectors {
+            let mut page = [0; LONGEST_REPORT];
+            let written = (SIDE.report)(vector.file, &mut page) as usize;
+            assert_eq!(&page[..written], vector.report, "{:02x?}", vector.file);
+        }
+    }
+
+    #[test]
+    fn plain_runs_agree() {
+        let vectors = runs();
+        assert_eq!(vectors.len(), 150);
+        for vector in vectors {
+            let mut outcomes = vec![0; vector.outcomes.len()];
+            let mut record = [0; RECORD_BYTES];
+            let code = (SIDE.run)(vector.file, vector.tempo, &vector.calls, &mut outcomes, &mut record);
+            assert_eq!(code, 0);
+            assert_eq!((&outcomes, &record[..]), (&vector.outcomes, vector.record));
+        }
+    }
+}

@@ -26,7 +26,11 @@ fn main() {
     print_head(&sides);
     for mut case in cases() {
         let answers: Vec<i64> = sides.iter().map(|side| (case.call)(side)).collect();
-        assert!(answers.iter().all(|answer| *answer == answers[0]), "{}: answers differ: {answers:?}", case.name);
+        assert!(
+            answers.iter().all(|answer| *answer == answers[0]),
+            "{}: answers differ: {answers:?}",
+            case.name
+        );
         let times = medians(&mut case, &sides);
         print_line(&case, &times);
     }

@@ -41,7 +41,7 @@ fn wounded(draft: &Draft, random: &mut Random) -> Vec<u8> {
             fields.remove(one);
         }
         6 => fields[one][1 + random.index(2)] ^= 1 << random.below(8),
-        _ => fields[one].push(random.next() as u8),
+        _ => fields[one].push(random.bits() as u8),
     }
     fields.concat()
 }
@@ -56,7 +56,7 @@ fn change_byte(file: &mut [u8], random: &mut Random) {
         0 => byte.wrapping_add(1),
         1 => byte.wrapping_sub(1),
         2 => *byte ^ 1 << random.below(8),
-        _ => random.next() as u8,
+        _ => random.bits() as u8,
     };
 }
 
@@ -78,7 +78,7 @@ pub fn long(random: &mut Random) -> Vec<u8> {
             }
         }
         1 => file.resize(length, 0),
-        _ => file.resize_with(length, || random.next() as u8),
+        _ => file.resize_with(length, || random.bits() as u8),
     }
     file
 }
@@ -98,12 +98,14 @@ pub fn noise(random: &mut Random) -> Vec<u8> {
     let mut file = Vec::new();
     for _ in 0..random.below(40) {
         match random.below(6) {
-            0 => file.push(random.next() as u8),
+            0 => file.push(random.bits() as u8),
             1 => file.extend([random.below(6) as u8, 0, random.below(6) as u8]),
-            2 => file.extend([1, 0, 4, 0, 0, 0, random.next() as u8]),
-            3 => file.extend([2, 0, 4, 0, 0, random.next() as u8, 1]),
-            4 => file.extend([3, 0, 2, random.below(5) as u8, random.next() as u8]),
-            _ => file.extend([4, 0, 3, random.below(50) as u8, random.below(34) as u8, random.below(3) as u8]),
+            2 => file.extend([1, 0, 4, 0, 0, 0, random.bits() as u8]),
+            3 => file.extend([2, 0, 4, 0, 0, random.bits() as u8, 1]),
+            4 => file.extend([3, 0, 2, random.below(5) as u8, random.bits() as u8]),
+            _ => {
+                file.extend([4, 0, 3, random.below(50) as u8, random.below(34) as u8, random.below(3) as u8])
+            }
         }
     }
     file

@@ -111,7 +111,8 @@ fn headers() -> Vec<Vec<u8>> {
 
 /// The files of document 01's figures.
 fn figures() -> Vec<Draft> {
-    let twin = |spacing| Draft::new(&[2; 3], &[Fixed(spacing)], &[[1, 3, 1], [2, 3, 1], [33, 1, 1], [33, 2, 1]]);
+    let twin =
+        |spacing| Draft::new(&[2; 3], &[Fixed(spacing)], &[[1, 3, 1], [2, 3, 1], [33, 1, 1], [33, 2, 1]]);
     let mut drafts = vec![super::files::dense(), super::files::hostile(), boxed()];
     drafts.extend((1..=12).map(twin));
     drafts.push(Draft::new(&[1; 3], &[], &[[1, 3, 1], [3, 2, 1]]));

@@ -162,7 +162,8 @@ fn tune(draft: &mut Draft, tempo: u32) {
 
 /// Each weight times `factor` / 2¹⁶, within a run's range.
 fn scale(weights: &[u32], factor: u64) -> Vec<u32> {
-    weights.iter().map(|&weight| (u64::from(weight) * factor >> 16).clamp(1, 10_000_000) as u32).collect()
+    let scaled = |&weight: &u32| (u64::from(weight) * factor) >> 16;
+    weights.iter().map(|weight| scaled(weight).clamp(1, 10_000_000) as u32).collect()
 }
 
 /// A file whose largest load is at 10⁹, one below or one beyond, or somewhere near.
@@ -195,9 +196,11 @@ fn top_up(draft: &mut Draft, random: &mut Random) {
     let lowest = plan.loads.level(0);
     let Some(largest) = lowest.iter().max().copied() else { return };
     let Some(node) = lowest.iter().position(|&load| load == largest) else { return };
-    let Some(task) = (0..draft.runs.len()).rev().find(|&task| plan.loads.level(task)[node] == largest) else { return };
-    let missing = 1_000_000_000 - largest + random.below(3) - 1;
-    let longer = u64::from(draft.runs[task]).saturating_add(missing);
+    let Some(task) = (0..draft.runs.len()).rev().find(|&task| plan.loads.level(task)[node] == largest) else {
+        return;
+    };
+    let missing = (999_999_999 + random.below(3)).saturating_sub(largest);
+    let longer = u64::from(draft.runs[task]) + missing;
     draft.runs[task] = longer.clamp(1, 10_000_000) as u32;
 }
 
@@ -241,7 +244,8 @@ pub fn hostile() -> Draft {
 /// Sources that ask for nearly all the time, all of it, or a little more, so that rounds are many.
 /// The critical source's spacing bounds their number.
 pub fn nearly_full(random: &mut Random) -> Draft {
-    const FULL: [&[u32]; 7] = [&[1], &[2, 2], &[3, 3, 3], &[2, 3, 6], &[2, 3, 7], &[2, 3, 7, 43], &[2, 3, 7, 43, 1_807]];
+    const FULL: [&[u32]; 7] =
+        [&[1], &[2, 2], &[3, 3, 3], &[2, 3, 6], &[2, 3, 7], &[2, 3, 7, 43], &[2, 3, 7, 43, 1_807]];
     let spacings = FULL[random.index(FULL.len())];
     let run = random.scaled(1..=100);
     let nudge = random.index(spacings.len());

@@ -50,7 +50,11 @@ fn brisk(random: &mut Random) -> Draft {
         *run = random.scaled(1..=8);
     }
     for source in &mut draft.sources {
-        *source = if random.chance(85) { Fixed(random.scaled(1..=63)) } else { Paced(random.within(1..=960) as u16) };
+        *source = if random.chance(85) {
+            Fixed(random.scaled(1..=63))
+        } else {
+            Paced(random.within(1..=960) as u16)
+        };
     }
     draft
 }
@@ -97,7 +101,8 @@ fn calls(sources: &[Source], tempo: u32, count: usize, habit: &Habit, random: &m
 fn arrivals(may_fire: &[usize], tick: usize, habit: &Habit, random: &mut Random) -> u16 {
     let mut mask = 0;
     for (source, &first) in may_fire.iter().enumerate() {
-        let fires = if first <= tick { random.chance(habit.eager) } else { random.below(1_000) < habit.too_soon };
+        let fires =
+            if first <= tick { random.chance(habit.eager) } else { random.below(1_000) < habit.too_soon };
         mask |= u16::from(fires) << source;
     }
     if random.below(1_000) < habit.stranger {

@@ -14,7 +14,8 @@ fn work(file: &Description, j: usize) -> u64 {
 
 /// W(j) if a link i to j exists; else the largest added(k, j) over links from i to k with k > j; else 0.
 fn added(file: &Description, i: usize, j: usize) -> u64 {
-    let ends = || file.links.iter().filter(|link| usize::from(link.from) == i).map(|link| usize::from(link.to));
+    let ends =
+        || file.links.iter().filter(|link| usize::from(link.from) == i).map(|link| usize::from(link.to));
     if ends().any(|to| to == j) {
         return work(file, j);
     }
@@ -34,7 +35,9 @@ fn spacings(delay: u64, spacing: u64) -> u64 {
 /// The delay of a link from a source, if it is held.
 fn delay(file: &Description, link: Link, tempo: u32) -> Option<u64> {
     let j = usize::from(link.to);
-    let sources = || file.sources.iter().enumerate().map(|(place, source)| (33 + place, u64::from(source.spacing(tempo))));
+    let sources = || {
+        file.sources.iter().enumerate().map(|(place, source)| (33 + place, u64::from(source.spacing(tempo))))
+    };
     let (_, own) = sources().nth(link.source()?)?;
     let start = (1..j).map(|k| load(file, k, j)).max().unwrap_or(0);
     let loads: Vec<(u64, u64)> = sources().map(|(u, spacing)| (load(file, u, j), spacing)).collect();
@@ -87,7 +90,9 @@ fn small_plans(seed: u64, tasks: usize, count: usize) -> impl Iterator<Item = Pl
     let mut random = Random::new(seed);
     let files = std::iter::repeat_with(move || generate::file(&mut random));
     let plans = files.filter_map(|file| Plan::read(&file).ok());
-    plans.filter(move |plan| plan.description.runs.len() <= tasks && !plan.description.links.is_empty()).take(count)
+    plans
+        .filter(move |plan| plan.description.runs.len() <= tasks && !plan.description.links.is_empty())
+        .take(count)
 }
 
 #[test]

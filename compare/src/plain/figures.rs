@@ -117,7 +117,9 @@ fn printed_example() {
 fn orders_of_refusals_in_calls() {
     let plan = plan(&[3], &[Fixed(5)], &[[33, 1, 1]]);
     let start = Machine::start(&plan.description, 200).unwrap().record();
-    let refusal = |tempo, record: &Record| Machine::resume(&plan.description, tempo, record).err().map(|refusal| refusal.word);
+    let refusal = |tempo, record: &Record| {
+        Machine::resume(&plan.description, tempo, record).err().map(|refusal| refusal.word)
+    };
     assert_eq!(refusal(200, &start), None);
     let foreign = Record { ages: [6; 16], ..start.clone() };
     assert_eq!(refusal(199, &foreign), Some(Word::OffTheKnob));

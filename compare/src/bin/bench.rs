@@ -7,9 +7,12 @@ use std::hint::black_box;
 use std::time::{Duration, Instant};
 
 /// Timings of which the median is told. Sides take turns, so that a slow moment meets both.
-const REPETITIONS: usize = 15;
-/// A repetition makes so many calls that it lasts about this long.
-const REPETITION: Duration = Duration::from_millis(4);
+const REPETITIONS: usize = 101;
+/// A repetition makes so many calls that it lasts about this long: shorter than a turn on a busy
+/// processor, so that the median is of repetitions that nothing interrupted.
+const REPETITION: Duration = Duration::from_micros(400);
+/// A case with slow calls ends after about this long, with three repetitions or more.
+const PATIENCE: Duration = Duration::from_secs(3);
 const TICKS: usize = 100_000;
 const TEMPO: u32 = 1_200;
 
@@ -22,7 +25,7 @@ struct Case {
 
 fn main() {
     let sides: Vec<Side> = [Some(plain::SIDE), library::side()].into_iter().flatten().collect();
-    println!("time per call, or per tick in a run; median of {REPETITIONS} repetitions\n");
+    println!("time per call, or per tick in a run; median of up to {REPETITIONS} repetitions\n");
     print_head(&sides);
     for mut case in cases() {
         let answers: Vec<i64> = sides.iter().map(|side| (case.call)(side)).collect();
@@ -113,7 +116,11 @@ fn busy() -> Vec<u8> {
 fn medians(case: &mut Case, sides: &[Side]) -> Vec<f64> {
     let counts: Vec<u32> = sides.iter().map(|side| calls_to_fill(REPETITION, case, side)).collect();
     let mut times = vec![Vec::new(); sides.len()];
-    for _ in 0..REPETITIONS {
+    let start = Instant::now();
+    for repetition in 0..REPETITIONS {
+        if repetition >= 3 && start.elapsed() > PATIENCE {
+            break;
+        }
         for (place, side) in sides.iter().enumerate() {
             let time = time_of(counts[place], case, side).as_nanos() as f64;
             times[place].push(time / f64::from(counts[place]) / case.units as f64);

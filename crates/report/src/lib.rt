@@ -1,0 +1,3 @@
+// The report of a description file.
+
+pub mod text;

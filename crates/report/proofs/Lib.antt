@@ -1,2 +1,3 @@
 pub mod Digits
+pub mod LineLaws
 pub mod Pages

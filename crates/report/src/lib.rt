@@ -1,3 +1,4 @@
 // The report of a description file.
 
+pub mod lines;
 pub mod text;

@@ -3,7 +3,7 @@ use mathlib.Core.Path.{_≡_, sym, ap, _∙_}
 use Rattle.theory.proofs.Typed.{typed-widths}
 use Rattle.theory.proofs.FileLaws.{judge-well-formed}
 use Rattle.theory.proofs.Fielded.{fields-of}
-use Rattle.verdicts.proofs.TableLaws.{sheet-of, levels-of, starts-of, orders-of}
+use Rattle.verdicts.proofs.TableLaws.{tables-made}
 use Rattle.verdicts.proofs.CallLaws.{judged-by, rows-by, verdicts-refused, verdicts-slow, verdicts-fast, verdicts-done}
 use borrow.Author.Needs.{needs}
 use Rattle.verdicts.proofs.verdicts.Statement.{statement}
@@ -67,15 +67,10 @@ slots-at-requires c κs =
     let d = S .args .d in
     let sheet = c .before .before .before .before .before .before .before .before .before .before .before .before .before .before .before .before .load-sheet in
     let judged = judged-by d (sheet .result) _ (sheet .ensures) (c .before .before .before .before .before .before .before .before .before .before .before .before .before .before .enum-told .given .1) in
-    let good = judge-well-formed d (typed-widths d _ (S .good .0)) judged in
-    let table = sheet-of d (sheet .result .rows) (c .before .before .before .before .before .before .before .before .before .before .table-of .result) (rows-by d (sheet .result) (sheet .ensures) judged) (c .before .before .before .before .before .before .before .before .before .before .table-of .ensures) in
-    let matrix = c .before .before .before .before .before .link-matrix in (
+    let good = judge-well-formed d (typed-widths d _ (S .good .0)) judged in (
       good,
-      record {
-        by-level = levels-of d (c .before .before .before .before .before .before .before .before .before .before .table-of .result) (c .before .before .before .before .before .before .before .before .levels-of .result) table (c .before .before .before .before .before .before .before .before .levels-of .ensures);
-        by-start = starts-of d (c .before .before .before .before .before .before .before .before .before .before .table-of .result) (c .before .before .before .before .before .before .starts-of .result) table (c .before .before .before .before .before .before .starts-of .ensures);
-        by-order = orders-of d good (matrix .result) (c .before .before .before .orders-of .result) (λ i j a b x y. matrix .ensures i j (a, b, x, y)) (c .before .before .before .orders-of .ensures);
-      },
+      tables-made d (sheet .result .rows) (c .before .before .before .before .before .before .before .before .before .before .table-of .result) (c .before .before .before .before .before .before .before .before .levels-of .result) (c .before .before .before .before .before .before .starts-of .result) (c .before .before .before .before .before .link-matrix .result) (c .before .before .before .orders-of .result)
+          good (rows-by d (sheet .result) (sheet .ensures) judged) (c .before .before .before .before .before .before .before .before .before .before .table-of .ensures) (c .before .before .before .before .before .before .before .before .levels-of .ensures) (c .before .before .before .before .before .before .starts-of .ensures) (c .before .before .before .before .before .link-matrix .ensures) (c .before .before .before .orders-of .ensures),
       c .before .before .before .before .before .before .before .before .before .before .before .before .before .if1 .left,
       c .before .before .before .before .before .before .before .before .before .before .before .before .if2 .left,
     )

@@ -1,12 +1,16 @@
 -- Texts on a page, one after the other, and a page copied out. Assumes nothing.
 use Prim.Native.Nat.{ℕ, zero, suc, _+_, _<_, _≤_}
 use mathlib.Core.Path.{_≡_, refl, sym, ap, _∙_}
-use mathlib.Core.List.{List, [], _∷_, _++_, append-assoc}
+use mathlib.Core.List.{List, [], _∷_, _++_, append-assoc, append-nil}
 use native.Mathlib.Nat.{not-suc-le-zero, le-of-suc-le-suc}
 use native.Mathlib.Numerals.{add-one}
 use native.Mathlib.Omega.{arith}
 use lib.ListN.{length, getD, take, drop, set, length-append}
 use Rattle.report.specs.Page.{Put}
+
+-- no text
+pub put-none : (a : List ℕ) (at : ℕ) → Put a at [] a at
+put-none a at = record { put-end = omega arith; put-size = refl; put-front = sym (append-nil (take at a)) }
 
 -- a text, and another behind it
 pub put-then : {a b c : List ℕ} {at mid end : ℕ} (t u : List ℕ) → Put a at t b mid → Put b mid u c end → Put a at (t ++ u) c end

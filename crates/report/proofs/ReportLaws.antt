@@ -4,25 +4,29 @@ use mathlib.Core.Path.{_≡_, refl, sym, ap, _∙_}
 use mathlib.Core.Bool.{true}
 use mathlib.Core.List.{List, [], _++_}
 use native.Mathlib.Omega.{arith}
-use borrow.Author.Tests.{lt-ltb}
+use borrow.Author.Tests.{lt-ltb, le-ltb}
 use lib.Dec.{ltb}
-use lib.ListN.{length, getD, length-append}
+use lib.ListN.{length, getD, take, drop, length-append}
+use lib.Seq.{take-append-seam}
 use Rattle.model.specs.declared.Description.{Description}
 use Rattle.model.specs.declared.Outcome.{Outcome}
 use Rattle.model.specs.declared.Outcome.the-variants.{Done, Refused}
 use Rattle.model.specs.declared.Reading.{Reading}
 use Rattle.model.specs.declared.Refusal.{Refusal}
+use Rattle.model.specs.declared.Filled.{Filled}
+use Rattle.model.specs.declared.Filled.the-variants.{Bytes as Bytes′, Unfilled}
 use Rattle.model.specs.declared.VerdictSlot.{VerdictSlot}
 use Rattle.model.specs.Basics.{tab, joined}
 use Rattle.model.specs.Graph.{linkAt}
-use Rattle.model.specs.File.{parseFile, lastChecks, readFile}
+use Rattle.model.specs.File.{parseFile, lastChecks, readFile, fillWith, filledBy}
 use Rattle.model.specs.Verdicts.{allHeld, largestBelow, slotAt, freeSlot, verdictAt}
-use Rattle.model.specs.Report.{linkLine, linkLines, refusedLine, reportFor, reportOf}
+use Rattle.model.specs.Report.{linkLine, linkLines, refusedLine, reportFor, reportOf, reported, pageReported, printed}
 use Rattle.theory.proofs.NumberBytes.{Bytes}
 use Rattle.theory.proofs.Fielded.{well-formed}
 use Rattle.theory.proofs.JudgeLaws.{LastPasses, last-passes}
 use Rattle.theory.proofs.ReadBack.{parsed-fielded}
 use Rattle.theory.proofs.RecordLaws.{joined-cut}
+use Rattle.theory.proofs.FileLength.{read-first}
 use Rattle.theory.proofs.Table.{getD-tab}
 use Rattle.theory.proofs.WellFormed.{WellFormed}
 use Rattle.loads.specs.Tables.{checkedLoads}
@@ -92,3 +96,31 @@ unfolding listing
 listing-room d slots n k h =
     let c = joined-cut n (lineAt d slots) k h in
     omega (arith, ap length (c .1) ∙ length-append (joined k (lineAt d slots)) (lineAt d slots k ++ c .0), length-append (lineAt d slots k) (c .0))
+
+-- a buffer that takes the longest report takes every report, at its front
+module _ (s out : List ℕ) (bytes : Bytes s) (room : 11168 ≤ length out) where
+  whole-filled : reported s out ≡ Bytes′ (length (reportOf s))
+  unfolding reported fillWith
+  whole-filled = rw (le-ltb (length out) (length (reportOf s)) (omega (arith, report-length s bytes)))
+
+  whole-page : pageReported s out ≡ reportOf s ++ drop (length (reportOf s)) out
+  unfolding pageReported filledBy
+  whole-page = rw (le-ltb (length out) (length (reportOf s)) (omega (arith, report-length s bytes)))
+
+  pub whole-count : (x : Filled) (n : ℕ) → x ≡ reported s out → x ≡ Bytes′ n → n ≡ length (reportOf s)
+  whole-count x n p q = let f = whole-filled in cc
+
+  pub whole-never : (x : Filled) (r : Refusal) (place : ℕ) → x ≡ reported s out → x ≡ Unfilled r place → ⊥
+  whole-never x r place p q = let f = whole-filled in let z : _≡_ {A = ℕ} 0 1 = cc in omega arith
+
+  pub whole-fits : length (reportOf s) ≤ length (pageReported s out)
+  whole-fits =
+      rw (whole-page, length-append (reportOf s) (drop (length (reportOf s)) out)) (omega arith)
+
+  pub whole-front : take (length (reportOf s)) (pageReported s out) ≡ reportOf s
+  whole-front = rw whole-page (take-append-seam (reportOf s) (drop (length (reportOf s)) out))
+
+-- "ignores the rest, which alters no answer"
+pub printed-whole : (s : List ℕ) → printed s ≡ reportOf s
+unfolding printed reportOf
+printed-whole s = rw (read-first s)

@@ -14,7 +14,7 @@ pub mod text;
 
 ghost use mathlib.Core.Path.{_≡_};
 ghost use Prim.Native.Nat.{_+_, _≤_};
-ghost use lib.ListN.{length};
+ghost use lib.ListN.{length, take};
 ghost use Rattle.model.specs.Report.{reportOf, reported, pageReported};
 ghost use Rattle.report.specs.Listing.{listing};
 ghost use Rattle.report.specs.Page.{Put};
@@ -71,4 +71,16 @@ pub fn report(file: &[u8], out: &mut [u8]) -> Filled
     let mut page = [0u8; LONGEST];
     let n = put_report(file, &mut page);
     copy_out(&page, n, &mut *out)
+}
+
+// The report of a file at the front of a page that takes the longest one, and its length.
+pub fn put_whole(file: &[u8], page: &mut [u8]) -> usize
+    requires { ⌜ 11168 ≤ length (now page) ⌝ }
+    ensures { λ r. ⌜ (r ≤ length (now (page .exit))) × (take r (now (page .exit)) ≡ reportOf (now (file .entry))) ⌝ }
+{
+    let filled = report(file, &mut *page);
+    match filled {
+        Filled::Bytes(n) => n,
+        Filled::Unfilled(_, _) => 0,
+    }
 }

@@ -1,4 +1,4 @@
--- `bench::put_whole` meets its contract: a page for the longest report is never too short. Assumes nothing.
+-- `report::put_whole` meets its contract: a page for the longest report is never too short. Assumes nothing.
 use Prim.Native.Nat.{ℕ, _≤_}
 use mathlib.Core.Path.{_≡_, ap, sym, _∙_}
 use mathlib.Core.List.{List}
@@ -6,9 +6,9 @@ use lib.ListN.{length, take}
 use borrow.Author.Needs.{needs}
 use Rattle.model.specs.Report.{reportOf, pageReported}
 use Rattle.theory.proofs.NumberBytes.{Bytes}
 use Rattle.report.proofs.ReportLaws.{whole-count, whole-never, whole-fits, whole-front}
-use Rattle.bench.proofs.put_whole.Statement.{statement}
-use Rattle.bench.proofs.put_whole.Tie as tie
+use Rattle.report.proofs.put_whole.Statement.{statement}
+use Rattle.report.proofs.put_whole.Tie as tie
 
 report-requires : tie.Need-report-requires
 report-requires c κs = search needs

@@ -1,0 +1,126 @@
+-- The report by the outcomes of reading, and its length. Assumes nothing.
+use Prim.Native.Nat.{ℕ, zero, suc, _+_, _≤_, _<_}
+use mathlib.Core.Path.{_≡_, refl, sym, ap, _∙_}
+use mathlib.Core.Bool.{true}
+use mathlib.Core.List.{List, [], _++_}
+use native.Mathlib.Omega.{arith}
+use borrow.Author.Tests.{lt-ltb, le-ltb}
+use lib.Dec.{ltb}
+use lib.ListN.{length, getD, take, drop, length-append}
+use lib.Seq.{take-append-seam}
+use Rattle.model.specs.declared.Description.{Description}
+use Rattle.model.specs.declared.Outcome.{Outcome}
+use Rattle.model.specs.declared.Outcome.the-variants.{Done, Refused}
+use Rattle.model.specs.declared.Reading.{Reading}
+use Rattle.model.specs.declared.Refusal.{Refusal}
+use Rattle.model.specs.declared.Filled.{Filled}
+use Rattle.model.specs.declared.Filled.the-variants.{Bytes as Bytes′, Unfilled}
+use Rattle.model.specs.declared.VerdictSlot.{VerdictSlot}
+use Rattle.model.specs.Basics.{tab, joined}
+use Rattle.model.specs.Graph.{linkAt}
+use Rattle.model.specs.File.{parseFile, lastChecks, readFile, fillWith, filledBy}
+use Rattle.model.specs.Verdicts.{allHeld, largestBelow, slotAt, freeSlot, verdictAt}
+use Rattle.model.specs.Report.{linkLine, linkLines, refusedLine, reportFor, reportOf, reported, pageReported, printed}
+use Rattle.theory.proofs.NumberBytes.{Bytes}
+use Rattle.theory.proofs.Fielded.{well-formed}
+use Rattle.theory.proofs.JudgeLaws.{LastPasses, last-passes}
+use Rattle.theory.proofs.ReadBack.{parsed-fielded}
+use Rattle.theory.proofs.RecordLaws.{joined-cut}
+use Rattle.theory.proofs.FileLength.{read-first}
+use Rattle.theory.proofs.Table.{getD-tab}
+use Rattle.theory.proofs.WellFormed.{WellFormed}
+use Rattle.loads.specs.Tables.{checkedLoads}
+use Rattle.loads.proofs.Checks.{checked-outcome}
+use Rattle.files.proofs.Laws.{read-refused, read-unchecked, read-checked}
+use Rattle.report.specs.Listing.{lineAt, listing}
+use Rattle.report.proofs.ReportLength.{verdicts-length, refusal-length}
+
+-- the three ways that a reading ends
+module _ (s : List ℕ) where
+  pub report-unparsed : (r : Refusal) (p : ℕ) → parseFile s .outcome ≡ Refused r p → refusedLine r p ≡ reportOf s
+  unfolding reportOf
+  report-unparsed r p e = rw (← read-refused s r p e)
+
+  pub report-unchecked : (r : Refusal) (p : ℕ) → parseFile s .outcome ≡ Done → checkedLoads (parseFile s .description) .outcome ≡ Refused r p → refusedLine r p ≡ reportOf s
+  unfolding reportOf
+  report-unchecked r p e q = rw (← read-unchecked s r p e q)
+
+  pub report-checked : parseFile s .outcome ≡ Done → checkedLoads (parseFile s .description) .outcome ≡ Done → reportFor (parseFile s .description) (largestBelow (allHeld (parseFile s .description)) 2801) ≡ reportOf s
+  unfolding reportOf
+  report-checked e q = rw (← read-checked s e q, e)
+
+  pub parsed-good : Bytes s → parseFile s .outcome ≡ Done → checkedLoads (parseFile s .description) .outcome ≡ Done → WellFormed (parseFile s .description)
+  parsed-good b e q =
+      let p : LastPasses (parseFile s .description) = last-passes (parseFile s .description) (sym (checked-outcome (parseFile s .description)) ∙ q) in
+      well-formed (parsed-fielded s b e) (p .some) (p .no-loop) (p .light)
+
+  -- no report is longer than 11,168 bytes
+  pub report-length : Bytes s → length (reportOf s) ≤ 11168
+  report-length b = go (parseFile s .outcome) refl (checkedLoads (parseFile s .description) .outcome) refl
+    where
+      go : (o : Outcome) → parseFile s .outcome ≡ o → (c : Outcome) → checkedLoads (parseFile s .description) .outcome ≡ c → length (reportOf s) ≤ 11168
+      go (Refused r p) e c q = rw (← report-unparsed r p e) (omega (arith, refusal-length r p))
+      go Done e (Refused r p) q = rw (← report-unchecked r p e q) (omega (arith, refusal-length r p))
+      go Done e Done q =
+          rw (← report-checked e q) (verdicts-length (parseFile s .description) (parsed-good b e q) (allHeld (parseFile s .description)))
+
+-- the lines by the table of verdicts are the lines of the report
+joined-alike : (n : ℕ) (f g : ℕ → List ℕ) → ((l : ℕ) → l < n → f l ≡ g l) → joined n f ≡ joined n g
+unfolding joined
+joined-alike zero f g h = refl
+joined-alike (suc n) f g h = rw (joined-alike n f g (λ l p. h l (omega arith)), h n (omega arith))
+
+pub listing-is : (d : Description) (t : ℕ) (slots : List VerdictSlot) → d .«link_count» ≤ 256 → slots ≡ tab 256 (slotAt d t) → listing d slots (d .«link_count») ≡ linkLines d t
+unfolding listing linkLines
+listing-is d t slots h e =
+    joined-alike
+    (d .«link_count»)
+    (lineAt d slots)
+    (λ l. linkLine l (linkAt d l) (verdictAt d t l))
+    (λ l p. ap (λ (x : VerdictSlot). linkLine l (linkAt d l) (x .verdict)) (slot l p))
+  where
+    slot : (l : ℕ) → l < d .«link_count» → getD slots l freeSlot ≡ record { verdict = verdictAt d t l }
+    slot l p = rw e (getD-tab 256 (slotAt d t) freeSlot l (omega arith) ∙ rw (lt-ltb l (d .«link_count») p))
+
+-- a line is behind the lines before it
+pub listing-none : (d : Description) (slots : List VerdictSlot) → [] ≡ listing d slots 0
+unfolding listing joined
+listing-none d slots = refl
+
+pub listing-more : (d : Description) (slots : List VerdictSlot) (n : ℕ) → listing d slots (n + 1) ≡ listing d slots n ++ lineAt d slots n
+unfolding listing
+listing-more d slots n = Rattle.theory.proofs.Table.joined-more n (lineAt d slots)
+
+pub listing-room : (d : Description) (slots : List VerdictSlot) (n k : ℕ) → k < n → length (listing d slots k) + length (lineAt d slots k) ≤ length (listing d slots n)
+unfolding listing
+listing-room d slots n k h =
+    let c = joined-cut n (lineAt d slots) k h in
+    omega (arith, ap length (c .1) ∙ length-append (joined k (lineAt d slots)) (lineAt d slots k ++ c .0), length-append (lineAt d slots k) (c .0))
+
+-- a buffer that takes the longest report takes every report, at its front
+module _ (s out : List ℕ) (bytes : Bytes s) (room : 11168 ≤ length out) where
+  whole-filled : reported s out ≡ Bytes′ (length (reportOf s))
+  unfolding reported fillWith
+  whole-filled = rw (le-ltb (length out) (length (reportOf s)) (omega (arith, report-length s bytes)))
+
+  whole-page : pageReported s out ≡ reportOf s ++ drop (length (reportOf s)) out
+  unfolding pageReported filledBy
+  whole-page = rw (le-ltb (length out) (length (reportOf s)) (omega (arith, report-length s bytes)))
+
+  pub whole-count : (x : Filled) (n : ℕ) → x ≡ reported s out → x ≡ Bytes′ n → n ≡ length (reportOf s)
+  whole-count x n p q = let f = whole-filled in cc
+
+  pub whole-never : (x : Filled) (r : Refusal) (place : ℕ) → x ≡ reported s out → x ≡ Unfilled r place → ⊥
+  whole-never x r place p q = let f = whole-filled in let z : _≡_ {A = ℕ} 0 1 = cc in omega arith
+
+  pub whole-fits : length (reportOf s) ≤ length (pageReported s out)
+  whole-fits =
+      rw (whole-page, length-append (reportOf s) (drop (length (reportOf s)) out)) (omega arith)
+
+  pub whole-front : take (length (reportOf s)) (pageReported s out) ≡ reportOf s
+  whole-front = rw whole-page (take-append-seam (reportOf s) (drop (length (reportOf s)) out))
+
+-- "ignores the rest, which alters no answer"
+pub printed-whole : (s : List ℕ) → printed s ≡ reportOf s
+unfolding printed reportOf
+printed-whole s = rw (read-first s)

@@ -1,0 +1,68 @@
+-- The report stage by stage, from the answers of the calls that make it: parsed, checked, quoted. Assumes nothing.
+use Prim.Native.Nat.{ℕ, _+_, _≤_}
+use mathlib.Core.Path.{_≡_, refl, sym, ap, _∙_}
+use mathlib.Core.List.{List, _++_}
+use native.Mathlib.Omega.{arith}
+use lib.ListN.{length, length-append}
+use Rattle.model.specs.declared.Description.{Description}
+use Rattle.model.specs.declared.LoadSheet.{LoadSheet}
+use Rattle.model.specs.declared.Outcome.the-variants.{Done, Refused}
+use Rattle.model.specs.declared.Reading.{Reading}
+use Rattle.model.specs.declared.Refusal.{Refusal}
+use Rattle.model.specs.Basics.{tab}
+use Rattle.model.specs.Graph.{system}
+use Rattle.model.specs.Loads.{sheet}
+use Rattle.model.specs.File.{parseFile}
+use Rattle.model.specs.Verdicts.{allHeld, largestBelow, slotAt}
+use Rattle.model.specs.Report.{tempoLine, refusedLine, shownTempo, reportFor, reportOf}
+use Rattle.theory.proofs.NumberBytes.{Bytes}
+use Rattle.theory.proofs.Fielded.{Fielded}
+use Rattle.theory.proofs.ReadBack.{parsed-fielded}
+use Rattle.theory.proofs.WellFormed.{WellFormed}
+use Rattle.loads.specs.Tables.{checkedLoads}
+use Rattle.loads.proofs.Checks.{checked-outcome, checked-rows}
+use Rattle.quotes.specs.declared.Quoted.{Quoted}
+use Rattle.quotes.specs.Quoted.{quotedOf}
+use Rattle.report.specs.Listing.{listing}
+use Rattle.report.proofs.ReportLaws.{report-unparsed, report-unchecked, report-checked, parsed-good, listing-is}
+
+quoted-parts : (d : Description) (q : Quoted) → WellFormed d → q ≡ quotedOf d → tempoLine (q .quote) ++ listing d (q .slots) (d .«link_count») ≡ reportFor d (largestBelow (allHeld d) 2801)
+unfolding quotedOf reportFor
+quoted-parts d q w e =
+    let t = shownTempo (largestBelow (allHeld d) 2801) in
+    rw e
+    (ap (λ (l : List ℕ). tempoLine (largestBelow (allHeld d) 2801) ++ l) (listing-is d t (tab 256 (slotAt d t)) (w .few-links) refl))
+
+module _ (s : List ℕ) (x : Reading) (parsed : x ≡ parseFile s) where
+  outcome-is : x .outcome ≡ parseFile s .outcome
+  outcome-is = ap (λ (r : Reading). r .outcome) parsed
+
+  -- the fields are refused, or accepted
+  pub stage-unparsed : (r : Refusal) (p : ℕ) → x .outcome ≡ Refused r p → refusedLine r p ≡ reportOf s
+  stage-unparsed r p e = report-unparsed s r p (sym outcome-is ∙ e)
+
+  pub stage-fields : Bytes s → x .outcome ≡ Done → Fielded (x .description)
+  stage-fields b e = rw parsed (parsed-fielded s b (sym outcome-is ∙ e))
+
+  module _ (y : LoadSheet) (checked : y ≡ checkedLoads (x .description)) (done : x .outcome ≡ Done) where
+    last-is : y .outcome ≡ checkedLoads (parseFile s .description) .outcome
+    last-is = ap (λ (l : LoadSheet). l .outcome) checked ∙ ap (λ (r : Reading). checkedLoads (r .description) .outcome) parsed
+
+    -- the last checks refuse, or pass
+    pub stage-unchecked : (r : Refusal) (p : ℕ) → y .outcome ≡ Refused r p → refusedLine r p ≡ reportOf s
+    stage-unchecked r p e = report-unchecked s r p (sym outcome-is ∙ done) (sym last-is ∙ e)
+
+    pub stage-good : Bytes s → y .outcome ≡ Done → WellFormed (x .description)
+    stage-good b e = rw parsed (parsed-good s b (sym outcome-is ∙ done) (sym last-is ∙ e))
+
+    pub stage-rows : y .outcome ≡ Done → y .rows ≡ sheet (system (x .description))
+    stage-rows e =
+        ap (λ (l : LoadSheet). l .rows) checked
+        ∙ checked-rows (x .description) (sym (checked-outcome (x .description)) ∙ sym (ap (λ (l : LoadSheet). l .outcome) checked) ∙ e)
+
+    -- the tempo line and the link lines are the report
+    pub stage-parts : Bytes s → y .outcome ≡ Done → (q : Quoted) → q ≡ quotedOf (x .description) → tempoLine (q .quote) ++ listing (x .description) (q .slots) (x .description .«link_count») ≡ reportOf s
+    stage-parts b e q f =
+        quoted-parts (x .description) q (stage-good b e) f
+        ∙ ap (λ (r : Reading). reportFor (r .description) (largestBelow (allHeld (r .description)) 2801)) parsed
+        ∙ report-checked s (sym outcome-is ∙ done) (sym last-is ∙ e)

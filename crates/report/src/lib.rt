@@ -1,0 +1,86 @@
+// The report of a description file.
+
+use lines::link_line;
+use lines::refused_line;
+use lines::tempo_line;
+use model::Description;
+use model::Filled;
+use model::Outcome;
+use model::VerdictSlot;
+use text::copy_out;
+
+pub mod lines;
+pub mod text;
+
+ghost use mathlib.Core.Path.{_≡_};
+ghost use Prim.Native.Nat.{_+_, _≤_};
+ghost use lib.ListN.{length, take};
+ghost use Rattle.model.specs.Report.{reportOf, reported, pageReported};
+ghost use Rattle.report.specs.Listing.{listing};
+ghost use Rattle.report.specs.Page.{Put};
+
+// The bytes of the longest report.
+pub const LONGEST: usize = 11168;
+
+// A line for each link, with its verdict.
+fn link_lines(page: &mut [u8], at: usize, d: Description, slots: [VerdictSlot; 256]) -> usize
+    requires { ⌜ (d .«link_count» ≤ 256) × (at + length (listing d slots (d .«link_count»)) ≤ length (now page)) ⌝ }
+    ensures { λ r. ⌜ Put (now (page .entry)) at (listing d slots (d .«link_count»)) (now (page .exit)) r ⌝ }
+{
+    let n = d.link_count;
+    let mut end = at;
+    let mut l: usize = 0;
+    while l < n {
+        let e = d.links[l];
+        let slot = slots[l];
+        let v = slot.verdict;
+        end = link_line(&mut *page, end, l, e, v);
+        l += 1;
+    }
+    end
+}
+
+// The report of a file on a page that takes the longest one.
+fn put_report(file: &[u8], page: &mut [u8]) -> usize
+    requires { ⌜ 11168 ≤ length (now page) ⌝ }
+    ensures { λ r. ⌜ Put (now (page .entry)) 0 (reportOf (now (file .entry))) (now (page .exit)) r ⌝ }
+{
+    let parsed = fields::parse(file);
+    let fields = parsed.outcome;
+    if let Outcome::Refused(why, place) = fields {
+        return refused_line(&mut *page, 0, why, place);
+    }
+    let d = parsed.description;
+    let sheet = loads::last_checks(d);
+    let last = sheet.outcome;
+    if let Outcome::Refused(why, place) = last {
+        return refused_line(&mut *page, 0, why, place);
+    }
+    let rows = sheet.rows;
+    let quoted = quotes::quote_from(d, rows);
+    let quote = quoted.quote;
+    let slots = quoted.slots;
+    let at = tempo_line(&mut *page, 0, quote);
+    link_lines(&mut *page, at, d, slots)
+}
+
+// The report of a file into a lent buffer: all of it, or not one byte where the buffer is shorter.
+pub fn report(file: &[u8], out: &mut [u8]) -> Filled
+    ensures { λ r. ⌜ (r ≡ reported (now (file .entry)) (now (out .entry))) × (now (out .exit) ≡ pageReported (now (file .entry)) (now (out .entry))) ⌝ }
+{
+    let mut page = [0u8; LONGEST];
+    let n = put_report(file, &mut page);
+    copy_out(&page, n, &mut *out)
+}
+
+// The report of a file at the front of a page that takes the longest one, and its length.
+pub fn put_whole(file: &[u8], page: &mut [u8]) -> usize
+    requires { ⌜ 11168 ≤ length (now page) ⌝ }
+    ensures { λ r. ⌜ (r ≤ length (now (page .exit))) × (take r (now (page .exit)) ≡ reportOf (now (file .entry))) ⌝ }
+{
+    let filled = report(file, &mut *page);
+    match filled {
+        Filled::Bytes(n) => n,
+        Filled::Unfilled(_, _) => 0,
+    }
+}

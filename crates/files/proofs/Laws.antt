@@ -88,3 +88,17 @@ read-checked s at e q =
 pub read-start : (s : List ℕ) → readFrom s 0 ≡ readFile s
 unfolding readFrom readFile parseFile
 read-start s = rw (sub-zero (length s))
+
+pub parse-start : (s : List ℕ) → parseAt s 0 ≡ parseFile s
+unfolding parseFile
+parse-start s = rw (sub-zero (length s))
+
+-- the same three ways of a whole file
+pub file-refused : (s : List ℕ) (r : Refusal) (p : ℕ) → parseFile s .outcome ≡ Refused r p → refusedReading r p ≡ readFile s
+file-refused s r p e = read-refused s 0 r p (rw (parse-start s) e) ∙ read-start s
+
+pub file-unchecked : (s : List ℕ) (r : Refusal) (p : ℕ) → parseFile s .outcome ≡ Done → checkedLoads (parseFile s .description) .outcome ≡ Refused r p → refusedReading r p ≡ readFile s
+file-unchecked s r p e q = read-unchecked s 0 r p (rw (parse-start s) e) (rw (parse-start s) q) ∙ read-start s
+
+pub file-checked : (s : List ℕ) → parseFile s .outcome ≡ Done → checkedLoads (parseFile s .description) .outcome ≡ Done → parseFile s ≡ readFile s
+file-checked s e q = sym (parse-start s) ∙ read-checked s 0 (rw (parse-start s) e) (rw (parse-start s) q) ∙ read-start s

@@ -21,7 +21,7 @@ ghost use Rattle.machine.specs.Run.{callsIn};
 ghost use Rattle.ticks.specs.Calls.{unstarted, untouched, RunCall};
 
 // The spacing of each source at tempo t.
-fn gaps_of(d: Description, t: u32) -> [u32; 16]
+pub fn gaps_of(d: Description, t: u32) -> [u32; 16]
     requires { ⌜ WellFormed d × (200 ≤ t) × (t ≤ 3000) ⌝ }
     ensures { λ r. ⌜ GapsOf d t r ⌝ }
 {

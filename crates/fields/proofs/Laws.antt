@@ -22,7 +22,7 @@ use Rattle.model.specs.declared.Reading.{Reading}
 use Rattle.model.specs.Field.{bodyLength, takeField, checkField, passed, withField}
 use Rattle.model.specs.File.{parseFrom}
 use Rattle.theory.proofs.Tests.{same-test}
-use Rattle.theory.proofs.FieldLaws.{length-field, take-took, took-length}
+use Rattle.theory.proofs.FieldLaws.{length-field, take-took, took-length, took-inside}
 use Rattle.theory.proofs.RecordLaws.{parse-fine, parse-unfit, parse-broken, parse-end}
 use Rattle.fields.specs.Steps.{checkedTaken, stoppedAt}
 
@@ -68,16 +68,17 @@ fine-taken p (Whole g m) f next e = go (checkField p g) refl
 
 -- r is what a reading answers from a place on
 abbrev pub ReadsAs : List ℕ → ℕ → Progress → Description → Reading → Type 0
-ReadsAs s at p d r = (n : ℕ) → length s < at + n → r ≡ parseFrom n s at p d
+ReadsAs s at p d r = (n : ℕ) → 0 < n → length s < at + n → r ≡ parseFrom n s at p d
 
-pub reads-more : (s : List ℕ) (at : ℕ) (p : Progress) (d : Description) (f : Field) (next : ℕ) (r : Reading) → at ≤ length s → takeField s at ≡ Whole f next → checkField p f ≡ Fine → ReadsAs s next (passed p f) (withField d f) r → ReadsAs s at p d r
-reads-more s at p d f next r l e q h zero m = absurd (omega arith)
-reads-more s at p d f next r l e q h (suc n) m =
-    h n (omega (arith, took-length (take-took s at f next e), length-field f)) ∙ sym (parse-fine n s at p d f next e q)
+pub reads-more : (s : List ℕ) (at : ℕ) (p : Progress) (d : Description) (f : Field) (next : ℕ) (r : Reading) → takeField s at ≡ Whole f next → checkField p f ≡ Fine → ReadsAs s next (passed p f) (withField d f) r → ReadsAs s at p d r
+reads-more s at p d f next r e q h zero z m = absurd (omega arith)
+reads-more s at p d f next r e q h (suc n) z m =
+    let k = take-took s at f next e in
+    h n (omega (arith, took-inside k, took-length k, length-field f)) (omega (arith, took-length k, length-field f)) ∙ sym (parse-fine n s at p d f next e q)
 
-pub reads-stop : (s : List ℕ) (at : ℕ) (p : Progress) (d : Description) (t : Taken) → at ≤ length s → checkedTaken p (takeField s at) ≡ t → OneOf (1 ∷ 2 ∷ []) (tag T.the-type t) → ReadsAs s at p d (stoppedAt t at d)
-reads-stop s at p d t l e k zero m = absurd (omega arith)
-reads-stop s at p d t l e k (suc n) m = go (takeField s at) refl
+pub reads-stop : (s : List ℕ) (at : ℕ) (p : Progress) (d : Description) (t : Taken) → checkedTaken p (takeField s at) ≡ t → OneOf (1 ∷ 2 ∷ []) (tag T.the-type t) → ReadsAs s at p d (stoppedAt t at d)
+reads-stop s at p d t e k zero z m = absurd (omega arith)
+reads-stop s at p d t e k (suc n) z m = go (takeField s at) refl
   where
     unfit : (f : Field) (next : ℕ) → takeField s at ≡ Whole f next → (h : Check) → checkField p f ≡ h → stoppedAt t at d ≡ parseFrom (suc n) s at p d
     unfit f next q Fine g =

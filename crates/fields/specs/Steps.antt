@@ -1,6 +1,8 @@
 -- The steps of a reading and of the judging of a record that the code takes one by one.
-use Prim.Native.Nat.{ℕ}
+use Prim.Native.Nat.{ℕ, suc, _-_}
 use mathlib.Core.Bool.{cond}
+use mathlib.Core.List.{List}
+use lib.ListN.{length}
 use Rattle.model.specs.declared.Description.{Description}
 use Rattle.model.specs.declared.Field.{Field}
 use Rattle.model.specs.declared.Refusal.the-variants.{CutShort, TooMany}
@@ -12,8 +14,9 @@ use Rattle.model.specs.declared.Check.the-variants.{Fine, Unfit}
 use Rattle.model.specs.declared.Outcome.{Outcome}
 use Rattle.model.specs.declared.Outcome.the-variants.{Done, Refused}
 use Rattle.model.specs.declared.Reading.{Reading}
-use Rattle.model.specs.Field.{checkField}
-use Rattle.model.specs.File.{refusedReading, fileOf, parseFile, overfull}
+use Rattle.model.specs.Field.{checkField, noProgress}
+use Rattle.model.specs.Refusals.{blank}
+use Rattle.model.specs.File.{refusedReading, fileOf, parseFrom, parseFile, overfull}
 
 -- a field that was taken, if it may stand where it does
 abbrev pub ifFine : Check → Field → ℕ → Taken
@@ -34,6 +37,10 @@ stoppedAt End at d = record { outcome = Done; description = d }
 abbrev pub unfitAt : Check → ℕ → Outcome
 unfitAt Fine at = Done
 unfitAt (Unfit r) at = Refused r at
+
+-- all fields from a place on: "taken field by field from a reading place in the caller's bytes"
+abbrev pub parseAt : List ℕ → ℕ → Reading
+parseAt s at = parseFrom (suc (length s - at)) s at noProgress blank
 
 -- a record's counts and fields: "judged as its file would be, counts above the limits giving 5 first at place 0"
 unfoldable pub recordChecks : Description → Outcome

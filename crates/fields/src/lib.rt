@@ -20,8 +20,8 @@ ghost use lib.ListN.{length, getD};
 ghost use lib.Seq.{sets};
 ghost use Rattle.model.specs.Field.{bytesOf, numberIn, bodyLength, fieldIn, takeField, inTurn, hasRoom, onScale, hasEnds, isTask, isSource, checkField, passed, fieldOf, fieldBytes};
 ghost use Rattle.model.specs.Refusals.{blank};
-ghost use Rattle.model.specs.File.{parseFile, fileOf, fillWith, filledBy};
-ghost use Rattle.fields.specs.Steps.{checkedTaken, stoppedAt, unfitAt, recordChecks};
+ghost use Rattle.model.specs.File.{fileOf, fillWith, filledBy};
+ghost use Rattle.fields.specs.Steps.{checkedTaken, stoppedAt, unfitAt, parseAt, recordChecks};
 
 // The byte at a place.
 fn byte_at(s: &[u8], at: usize) -> u32
@@ -32,7 +32,7 @@ fn byte_at(s: &[u8], at: usize) -> u32
 }
 
 // The number in two bytes, high byte first.
-fn half_at(s: &[u8], at: usize) -> u16
+pub fn half_at(s: &[u8], at: usize) -> u16
     requires { ⌜ at + 2 ≤ length (now s) ⌝ }
     ensures { λ r. ⌜ r ≡ numberIn (now (s .entry)) at 2 ⌝ }
 {
@@ -295,9 +295,9 @@ fn stopped(t: Taken, at: usize, d: Description) -> Reading
     }
 }
 
-// All fields of a file: one that does not come out whole, or may not stand where it does, ends the reading.
-pub fn parse(s: &[u8]) -> Reading
-    ensures { λ r. ⌜ r ≡ parseFile (now (s .entry)) ⌝ }
+// All fields from a place on: one that does not come out whole, or may not stand where it does, ends the reading.
+pub fn parse(s: &[u8], start: usize) -> Reading
+    ensures { λ r. ⌜ r ≡ parseAt (now (s .entry)) start ⌝ }
 {
     let mut d = empty();
     let mut p = Progress {
@@ -307,7 +307,7 @@ pub fn parse(s: &[u8]) -> Reading
         from: 0,
         to: 0,
     };
-    let mut at: usize = 0;
+    let mut at: usize = start;
     loop {
         let t = checked_at(s, at, p);
         let Taken::Whole(f, next) = t else {

@@ -3,7 +3,8 @@ use Prim.Native.Nat.{ℕ}
 use mathlib.Core.Path.{_≡_, refl, sym, ap, _∙_}
 use mathlib.Core.Bool.{Bool, true, false, cond}
 use mathlib.Core.List.{List}
-use lib.ListN.{replicate}
+use native.Mathlib.Nat.{sub-zero}
+use lib.ListN.{length, replicate}
 use Rattle.model.specs.declared.Description.{Description}
 use Rattle.model.specs.declared.LoadSheet.{LoadSheet}
 use Rattle.model.specs.declared.Outcome.{Outcome}
@@ -17,9 +18,9 @@ use Rattle.model.specs.File.{Widths, fileOf, parseFile, lastChecks, readFile, f
 use Rattle.theory.proofs.Tests.{not-both}
 use Rattle.theory.proofs.Fielded.{Fielded}
 use Rattle.theory.proofs.FileLaws.{judge-steps, record-fielded}
-use Rattle.fields.specs.Steps.{recordChecks}
+use Rattle.fields.specs.Steps.{recordChecks, parseAt}
 use Rattle.loads.specs.Tables.{checkedLoads}
-use Rattle.files.specs.Answers.{refusedSheet}
+use Rattle.files.specs.Answers.{refusedSheet, readFrom}
 
 judge-is : (d : Description) → Widths d → judge d ≡ onDone (recordChecks d) (lastChecks d) Refused
 unfolding recordChecks
@@ -61,24 +62,43 @@ checked-outcome d = go (lastChecks d)
     go (Refused r place) = refl
 
 -- a reading whose fields are refused
-pub read-refused : (s : List ℕ) (r : Refusal) (p : ℕ) → parseFile s .outcome ≡ Refused r p → refusedReading r p ≡ readFile s
-unfolding readFile
-read-refused s r p e = rw e
+pub read-refused : (s : List ℕ) (at : ℕ) (r : Refusal) (p : ℕ) → parseAt s at .outcome ≡ Refused r p → refusedReading r p ≡ readFrom s at
+unfolding readFrom
+read-refused s at r p e = rw e
 
 -- a reading whose fields are accepted goes by the last checks
-read-last : (s : List ℕ) → parseFile s .outcome ≡ Done → finished (parseFile s .description) ≡ readFile s
-unfolding readFile
-read-last s e = rw e
+read-last : (s : List ℕ) (at : ℕ) → parseAt s at .outcome ≡ Done → finished (parseAt s at .description) ≡ readFrom s at
+unfolding readFrom
+read-last s at e = rw e
 
-pub read-unchecked : (s : List ℕ) (r : Refusal) (p : ℕ) → parseFile s .outcome ≡ Done → checkedLoads (parseFile s .description) .outcome ≡ Refused r p → refusedReading r p ≡ readFile s
-read-unchecked s r p e q =
-    let f : lastChecks (parseFile s .description) ≡ Refused r p = sym (checked-outcome (parseFile s .description)) ∙ q in
-    (rw f) ∙ read-last s e
+pub read-unchecked : (s : List ℕ) (at : ℕ) (r : Refusal) (p : ℕ) → parseAt s at .outcome ≡ Done → checkedLoads (parseAt s at .description) .outcome ≡ Refused r p → refusedReading r p ≡ readFrom s at
+read-unchecked s at r p e q =
+    let f : lastChecks (parseAt s at .description) ≡ Refused r p = sym (checked-outcome (parseAt s at .description)) ∙ q in
+    (rw f) ∙ read-last s at e
 
-pub read-checked : (s : List ℕ) → parseFile s .outcome ≡ Done → checkedLoads (parseFile s .description) .outcome ≡ Done → parseFile s ≡ readFile s
-read-checked s e q =
-    let f : lastChecks (parseFile s .description) ≡ Done = sym (checked-outcome (parseFile s .description)) ∙ q in
-    same-reading (parseFile s) e ∙ (rw f) ∙ read-last s e
+pub read-checked : (s : List ℕ) (at : ℕ) → parseAt s at .outcome ≡ Done → checkedLoads (parseAt s at .description) .outcome ≡ Done → parseAt s at ≡ readFrom s at
+read-checked s at e q =
+    let f : lastChecks (parseAt s at .description) ≡ Done = sym (checked-outcome (parseAt s at .description)) ∙ q in
+    same-reading (parseAt s at) e ∙ (rw f) ∙ read-last s at e
   where
     same-reading : (x : Reading) → x .outcome ≡ Done → x ≡ record { outcome = Done; description = x .description }
     same-reading x h = λ i. record { outcome = h i; description = x .description }
+
+-- from the start of the bytes it is the reading of a file
+pub read-start : (s : List ℕ) → readFrom s 0 ≡ readFile s
+unfolding readFrom readFile parseFile
+read-start s = rw (sub-zero (length s))
+
+pub parse-start : (s : List ℕ) → parseAt s 0 ≡ parseFile s
+unfolding parseFile
+parse-start s = rw (sub-zero (length s))
+
+-- the same three ways of a whole file
+pub file-refused : (s : List ℕ) (r : Refusal) (p : ℕ) → parseFile s .outcome ≡ Refused r p → refusedReading r p ≡ readFile s
+file-refused s r p e = read-refused s 0 r p (rw (parse-start s) e) ∙ read-start s
+
+pub file-unchecked : (s : List ℕ) (r : Refusal) (p : ℕ) → parseFile s .outcome ≡ Done → checkedLoads (parseFile s .description) .outcome ≡ Refused r p → refusedReading r p ≡ readFile s
+file-unchecked s r p e q = read-unchecked s 0 r p (rw (parse-start s) e) (rw (parse-start s) q) ∙ read-start s
+
+pub file-checked : (s : List ℕ) → parseFile s .outcome ≡ Done → checkedLoads (parseFile s .description) .outcome ≡ Done → parseFile s ≡ readFile s
+file-checked s e q = sym (parse-start s) ∙ read-checked s 0 (rw (parse-start s) e) (rw (parse-start s) q) ∙ read-start s

@@ -10,7 +10,9 @@ use model::Row;
 ghost use mathlib.Core.Path.{_≡_};
 ghost use Rattle.model.specs.File.{readFile, judge, loadSheet, refusedReading, written, pageAfter};
 ghost use Rattle.model.specs.Loads.{noRow};
-ghost use Rattle.files.specs.Answers.{refusedSheet};
+ghost use Rattle.files.specs.Answers.{refusedSheet, readFrom};
+
+pub mod reader;
 
 // Beside a refusal every load is 0.
 fn refused_sheet(outcome: Outcome) -> LoadSheet
@@ -52,11 +54,11 @@ fn refused_reading(why: Refusal, place: usize) -> Reading
     }
 }
 
-// The description of a file, or what the file is refused for.
-pub fn read(s: &[u8]) -> Reading
-    ensures { λ r. ⌜ r ≡ readFile (now (s .entry)) ⌝ }
+// The description of the file that begins at a place of the bytes, or what that file is refused for.
+fn read_at(s: &[u8], at: usize) -> Reading
+    ensures { λ r. ⌜ r ≡ readFrom (now (s .entry)) at ⌝ }
 {
-    let parsed = fields::parse(s);
+    let parsed = fields::parse(s, at);
     let fields = parsed.outcome;
     if let Outcome::Refused(why, place) = fields {
         return refused_reading(why, place);
@@ -68,6 +70,13 @@ pub fn read(s: &[u8]) -> Reading
         return refused_reading(why, place);
     }
     parsed
+}
+
+// The description of a file, or what the file is refused for: read from the start of its bytes.
+pub fn read(s: &[u8]) -> Reading
+    ensures { λ r. ⌜ r ≡ readFile (now (s .entry)) ⌝ }
+{
+    reader::read_from(reader::new(s))
 }
 
 // A record's file into a lent buffer, or what the record is refused for; a refusal changes no byte.

@@ -31,7 +31,7 @@ use Rattle.theory.proofs.Table.{getD-tab}
 use Rattle.theory.proofs.WellFormed.{WellFormed}
 use Rattle.loads.specs.Tables.{checkedLoads}
 use Rattle.loads.proofs.Checks.{checked-outcome}
-use Rattle.files.proofs.Laws.{read-refused, read-unchecked, read-checked}
+use Rattle.files.proofs.Laws.{file-refused, file-unchecked, file-checked}
 use Rattle.report.specs.Listing.{lineAt, listing}
 use Rattle.report.proofs.ReportLength.{verdicts-length, refusal-length}
 
@@ -39,15 +39,15 @@ use Rattle.report.proofs.ReportLength.{verdicts-length, refusal-length}
 module _ (s : List ℕ) where
   pub report-unparsed : (r : Refusal) (p : ℕ) → parseFile s .outcome ≡ Refused r p → refusedLine r p ≡ reportOf s
   unfolding reportOf
-  report-unparsed r p e = rw (← read-refused s r p e)
+  report-unparsed r p e = rw (← file-refused s r p e)
 
   pub report-unchecked : (r : Refusal) (p : ℕ) → parseFile s .outcome ≡ Done → checkedLoads (parseFile s .description) .outcome ≡ Refused r p → refusedLine r p ≡ reportOf s
   unfolding reportOf
-  report-unchecked r p e q = rw (← read-unchecked s r p e q)
+  report-unchecked r p e q = rw (← file-unchecked s r p e q)
 
   pub report-checked : parseFile s .outcome ≡ Done → checkedLoads (parseFile s .description) .outcome ≡ Done → reportFor (parseFile s .description) (largestBelow (allHeld (parseFile s .description)) 2801) ≡ reportOf s
   unfolding reportOf
-  report-checked e q = rw (← read-checked s e q, e)
+  report-checked e q = rw (← file-checked s e q, e)
 
   pub parsed-good : Bytes s → parseFile s .outcome ≡ Done → checkedLoads (parseFile s .description) .outcome ≡ Done → WellFormed (parseFile s .description)
   parsed-good b e q =

@@ -20,6 +20,8 @@ use Rattle.theory.proofs.Fielded.{Fielded}
 use Rattle.theory.proofs.ReadBack.{parsed-fielded}
 use Rattle.theory.proofs.WellFormed.{WellFormed}
 use Rattle.loads.specs.Tables.{checkedLoads}
+use Rattle.fields.specs.Steps.{parseAt}
+use Rattle.files.proofs.Laws.{parse-start}
 use Rattle.loads.proofs.Checks.{checked-outcome, checked-rows}
 use Rattle.quotes.specs.declared.Quoted.{Quoted}
 use Rattle.quotes.specs.Quoted.{quotedOf}
@@ -33,7 +35,10 @@ quoted-parts d q w e =
     rw e
     (ap (λ (l : List ℕ). tempoLine (largestBelow (allHeld d) 2801) ++ l) (listing-is d t (tab 256 (slotAt d t)) (w .few-links) refl))
 
-module _ (s : List ℕ) (x : Reading) (parsed : x ≡ parseFile s) where
+module _ (s : List ℕ) (x : Reading) (parsed-start : x ≡ parseAt s 0) where
+  parsed : x ≡ parseFile s
+  parsed = parsed-start ∙ parse-start s
+
   outcome-is : x .outcome ≡ parseFile s .outcome
   outcome-is = ap (λ (r : Reading). r .outcome) parsed
 

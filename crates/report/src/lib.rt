@@ -45,7 +45,7 @@ fn put_report(file: &[u8], page: &mut [u8]) -> usize
     requires { ⌜ 11168 ≤ length (now page) ⌝ }
     ensures { λ r. ⌜ Put (now (page .entry)) 0 (reportOf (now (file .entry))) (now (page .exit)) r ⌝ }
 {
-    let parsed = fields::parse(file);
+    let parsed = fields::parse(file, 0);
     let fields = parsed.outcome;
     if let Outcome::Refused(why, place) = fields {
         return refused_line(&mut *page, 0, why, place);

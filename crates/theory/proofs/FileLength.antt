@@ -15,15 +15,20 @@ use Rattle.model.specs.declared.Description.{Description}
 use Rattle.model.specs.declared.Field.{Field}
 use Rattle.model.specs.declared.Field.the-variants.{OfTask, OfSource, OfLink}
 use Rattle.model.specs.declared.Progress.{Progress}
-use Rattle.model.specs.declared.Refusal.the-variants.{StrangeTag, WrongLength}
+use Rattle.model.specs.declared.Outcome.{Outcome}
+use Rattle.model.specs.declared.Outcome.the-variants.{Done, Refused}
+use Rattle.model.specs.declared.Refusal.{Refusal}
+use Rattle.model.specs.declared.Refusal.the-variants.{StrangeTag, WrongLength, NoTask, Loop, TooHeavy}
 use Rattle.model.specs.declared.Taken.{Taken}
 use Rattle.model.specs.declared.Taken.the-variants.{Whole, Broken, End}
 use Rattle.model.specs.declared.Check.{Check}
 use Rattle.model.specs.declared.Check.the-variants.{Fine, Unfit}
 use Rattle.model.specs.Basics.{joined}
-use Rattle.model.specs.Refusals.{blank, noLink, noSource}
+use Rattle.model.specs.Refusals.{blank, noLink, noSource, onDone}
+use Rattle.model.specs.Graph.{system, cyclic}
+use Rattle.model.specs.Loads.{tooHeavy}
 use Rattle.model.specs.Field.{numberIn, bodyLength, fieldBytes, fieldIn, takeField, checkField, withField, passed, noProgress, fieldOf}
-use Rattle.model.specs.File.{fileOf, parseFrom, parseFile, readFile}
+use Rattle.model.specs.File.{fileOf, parseFrom, parseFile, lastChecks, finished, refusedReading, readFile}
 use Rattle.theory.proofs.Tests.{Cmp, less, same, more, cmp}
 use Rattle.theory.proofs.NumberBytes.{number-same}
 use Rattle.theory.proofs.FieldLaws.{length-field, body-most, take-took, took-length}
@@ -162,3 +167,49 @@ parse-first s = go (cmp 4096 (length s))
 pub read-first : (s : List ℕ) → readFile (take 4096 s) ≡ readFile s
 unfolding readFile
 read-first s = rw (parse-first s)
+
+-- the place of a refusal is within the longest file; 0 for none
+abbrev pub placeIn : Outcome → ℕ
+placeIn Done = 0
+placeIn (Refused r place) = place
+
+parse-place : (n : ℕ) (s : List ℕ) (at : ℕ) (p : Progress) (d : Description) → Near at p → placeIn (parseFrom n s at p d .outcome) ≤ 2128
+unfolding parseFrom
+parse-place zero s at p d y = omega (arith, y .place, y .tasks, y .sources, y .links)
+parse-place (suc n) s at p d y = taken (takeField s at) refl (parse-place n s)
+  where
+    here : (r : Refusal) → placeIn (refusedReading r at .outcome) ≤ 2128
+    here r = omega (arith, y .place, y .tasks, y .sources, y .links)
+
+    checked : (f : Field) (next : ℕ) → takeField s at ≡ Whole f next → (c : Check) → checkField p f ≡ c → ((a : ℕ) (q : Progress) (x : Description) → Near a q → placeIn (parseFrom n s a q x .outcome) ≤ 2128) → placeIn (parseFrom (suc n) s at p d .outcome) ≤ 2128
+    checked f next t Fine q ih = rw (parse-fine n s at p d f next t q) (ih next (passed p f) (withField d f) (near-more at p f next (next-most s at f next t .1) q y))
+    checked f next t (Unfit r) q ih = rw (parse-unfit n s at p d f next r t q) (here r)
+
+    taken : (t : Taken) → takeField s at ≡ t → ((a : ℕ) (q : Progress) (x : Description) → Near a q → placeIn (parseFrom n s a q x .outcome) ≤ 2128) → placeIn (parseFrom (suc n) s at p d .outcome) ≤ 2128
+    taken (Whole f next) t ih = checked f next t (checkField p f) refl ih
+    taken (Broken r) t ih = rw (parse-broken n s at p d r t) (here r)
+    taken End t ih = rw (parse-end n s at p d t) (omega arith)
+
+last-place : (d : Description) → placeIn (lastChecks d) ≡ 0
+unfolding lastChecks
+last-place d = go (eqb (d .«task_count») 0) (cyclic (system d)) (tooHeavy (system d))
+  where
+    go : (a b c : Bool) → placeIn (cond a (Refused NoTask 0) (cond b (Refused Loop 0) (cond c (Refused TooHeavy 0) Done))) ≡ 0
+    go true b c = refl
+    go false true c = refl
+    go false false true = refl
+    go false false false = refl
+
+pub read-place : (s : List ℕ) → placeIn (readFile s .outcome) ≤ 2128
+unfolding readFile parseFile
+read-place s = go (parseFile s .outcome) refl
+  where
+    last : (o : Outcome) (d : Description) → placeIn o ≡ 0 → placeIn (onDone o (record { outcome = Done; description = d }) refusedReading .outcome) ≤ 2128
+    last Done d e = omega arith
+    last (Refused r place) d e = omega arith
+
+    go : (o : Outcome) → parseFile s .outcome ≡ o → placeIn (onDone (parseFile s .outcome) (finished (parseFile s .description)) refusedReading .outcome) ≤ 2128
+    go Done e = rw e (last (lastChecks (parseFile s .description)) (parseFile s .description) (last-place (parseFile s .description)))
+    go (Refused r place) e =
+        let b : placeIn (parseFile s .outcome) ≤ 2128 = parse-place (suc (length s)) s 0 noProgress blank (record { place = omega arith; tasks = omega arith; sources = omega arith; links = omega arith }) in
+        rw e (rw e at b)

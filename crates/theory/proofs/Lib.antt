@@ -43,3 +43,5 @@ pub mod Assurance
 pub mod Demand3
 pub mod Lawful
 pub mod Typed
+pub mod PlainCalls
+pub mod Instances

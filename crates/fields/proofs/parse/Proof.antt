@@ -1,28 +1,28 @@
--- `fields::parse` meets its contract. The loop's invariant: the reading that is left, from the place and with what is known and held there, answers as the whole
--- reading does; the counts are those of the description. The measure is what is left of the bytes. Assumes nothing.
+-- `fields::parse` meets its contract. The loop's invariant: the reading that is left, from the place and with what is known and held there, answers as the reading
+-- from the start does; the counts are those of the description. The measure is what is left of the bytes. Assumes nothing.
 use borrow.Author.Needs.{needs}
 use Prim.Native.Nat.{suc, _≤_, _<_, _-_}
 use mathlib.Core.Path.{_≡_, refl, sym, ap, _∙_}
 use lib.ListN.{length}
 use native.Mathlib.Omega.{arith}
 use Rattle.model.specs.declared.Reading.{Reading}
-use Rattle.model.specs.File.{parseFile}
 use Rattle.theory.proofs.FieldLaws.{length-field, take-took, took-length, took-inside}
 use Rattle.theory.proofs.ReadLaws.{Counts, counts-more, task-turn, source-turn, link-room}
 use Rattle.model.specs.declared.Taken.the-variants.{Whole}
 use Rattle.model.specs.declared.Check.the-variants.{Fine}
 use Rattle.model.specs.Field.{takeField, checkField, withField}
 use Rattle.theory.proofs.JudgeLaws.{Passes, fine-passes}
+use Rattle.fields.specs.Steps.{parseAt}
 use Rattle.fields.proofs.Laws.{cases, fine-taken, ReadsAs, reads-more, reads-stop}
 use Rattle.fields.proofs.parse.Statement.{statement}
 use Rattle.fields.proofs.parse.Tie as tie
 
 abbrev Inv-loop : tie.InvT-loop
-Inv-loop s d₀ p₀ at₀ d p at =
-    (at ≤ length s) × Counts p d × ((r : Reading) → ReadsAs s at p d r → r ≡ parseFile s)
+Inv-loop s start d₀ p₀ at₀ d p at =
+    Counts p d × ((r : Reading) → ReadsAs s at p d r → r ≡ parseAt s start)
 
 abbrev μ-loop : tie.MeasureT-loop
-μ-loop s d₀ p₀ at₀ d p at = length s - at
+μ-loop s start d₀ p₀ at₀ d p at = length s - at
 
 -- the field that was taken, and that it may stand where it does
 taken-fine : (c : tie.After-known-told Inv-loop μ-loop) → (takeField (c .before .before .before .before .before .before .before .args .s .now) (c .before .before .before .before .loop .at) ≡ Whole (c .before .t .given .0 .0) (c .before .t .given .0 .1 .0)) × (checkField (c .before .before .before .before .loop .p) (c .before .t .given .0 .0) ≡ Fine)
@@ -46,17 +46,17 @@ with-it c =
 few-tasks : (c : tie.After-known-told2 Inv-loop μ-loop) → c .before .before .before .before .before .before .before .loop .d .«task_count» < 32
 few-tasks c =
     let L = c .before .before .before .before .before .before .before .loop in
-    task-turn (L .p) (L .d) _ (L .inv .1) (rw (c .before .f .given .1) at (passes (c .before .before .before))) .2
+    task-turn (L .p) (L .d) _ (L .inv .0) (rw (c .before .f .given .1) at (passes (c .before .before .before))) .2
 
 few-sources : (c : tie.After-known-told3 Inv-loop μ-loop) → c .before .before .before .before .before .before .before .loop .d .«source_count» < 16
 few-sources c =
     let L = c .before .before .before .before .before .before .before .loop in
-    source-turn (L .p) (L .d) _ (L .inv .1) (rw (c .before .f2 .given .1) at (passes (c .before .before .before))) .1
+    source-turn (L .p) (L .d) _ (L .inv .0) (rw (c .before .f2 .given .1) at (passes (c .before .before .before))) .1
 
 few-links : (c : tie.After-known-told4 Inv-loop μ-loop) → c .before .before .before .before .before .before .before .loop .d .«link_count» < 256
 few-links c =
     let L = c .before .before .before .before .before .before .before .loop in
-    link-room (L .p) (L .d) _ (L .inv .1) (rw (c .before .f3 .given .1) at (passes (c .before .before .before)))
+    link-room (L .p) (L .d) _ (L .inv .0) (rw (c .before .f3 .given .1) at (passes (c .before .before .before)))
 
 -- the reading goes on past the field, within the bytes
 goes-on : (c : tie.After-known-told Inv-loop μ-loop) → (c .before .before .before .before .loop .at < c .before .t .given .0 .1 .0) × (c .before .t .given .0 .1 .0 ≤ length (c .before .before .before .before .before .before .before .args .s .now))
@@ -68,12 +68,10 @@ empty-requires : tie.Need-empty-requires Inv-loop μ-loop
 empty-requires c κs = search needs
 
 loop-holds : tie.Need-loop-holds Inv-loop μ-loop
-unfolding parseFile
 loop-holds c =
     let s = (c .before .before .args .s .now) in (
-      omega arith,
       rw (c .empty .ensures) (record { tasks = refl; sources = refl; links = refl }),
-      λ r h. rw (c .empty .ensures) at (h (suc (length s)) (omega arith)),
+      λ r h. rw (c .empty .ensures) at (h (suc (length s - c .before .before .args .start)) (omega arith) (omega arith)),
     )
 
 checked-at-requires : tie.Need-checked-at-requires Inv-loop μ-loop
@@ -88,9 +86,9 @@ stopped-requires c κs = search needs
 returns : tie.Need-returns Inv-loop μ-loop
 returns c =
     let L = (c .before .before .before .loop) in
-    L .inv .2
+    L .inv .1
     (c .stopped .result)
-    (rw (c .stopped .ensures) (reads-stop (c .before .before .before .before .before .before .args .s .now) (L .at) (L .p) (L .d) (c .before .before .checked-at .result) (L .inv .0) (sym (c .before .before .checked-at .ensures)) (c .before .match .keys2)))
+    (rw (c .stopped .ensures) (reads-stop (c .before .before .before .before .before .before .args .s .now) (L .at) (L .p) (L .d) (c .before .before .checked-at .result) (sym (c .before .before .checked-at .ensures)) (c .before .match .keys2)))
 
 enum-known-f : tie.Need-enum-known-f Inv-loop μ-loop
 enum-known-f c = search needs
@@ -107,8 +105,8 @@ add-d c = omega (arith, few-tasks c)
 enum-known-f-2 : tie.Need-enum-known-f-2 Inv-loop μ-loop
 enum-known-f-2 c = search needs
 
-mul-t20 : tie.Need-mul-t20 Inv-loop μ-loop
-mul-t20 c = omega (arith, few-sources c)
+mul-t21 : tie.Need-mul-t21 Inv-loop μ-loop
+mul-t21 c = omega (arith, few-sources c)
 
 element-set-from-d : tie.Need-element-set-from-d Inv-loop μ-loop
 element-set-from-d c = few-sources c
@@ -140,9 +138,8 @@ loop-again c =
     let w = with-it (c .before) in
     let t = taken-fine (c .before .before) in
     let f = (c .before .before .before .t .given .0 .0) in (
-      goes-on (c .before .before) .1,
-      rw (c .advanced .ensures, w .1, w .0) (counts-more (L .p) (L .d) f (L .inv .1)),
-      λ r h. L .inv .2 r (reads-more (c .before .before .before .before .before .before .before .before .before .args .s .now) (L .at) (L .p) (L .d) f (c .before .before .before .t .given .0 .1 .0) r (L .inv .0) (t .0) (t .1) (rw (c .advanced .ensures, w .1, w .0) at h)),
+      rw (c .advanced .ensures, w .1, w .0) (counts-more (L .p) (L .d) f (L .inv .0)),
+      λ r h. L .inv .1 r (reads-more (c .before .before .before .before .before .before .before .before .before .args .s .now) (L .at) (L .p) (L .d) f (c .before .before .before .t .given .0 .1 .0) r (t .0) (t .1) (rw (c .advanced .ensures, w .1, w .0) at h)),
     )
 
 pub parse-spec : {M : Type 1} → statement M
@@ -162,7 +159,7 @@ parse-spec =
     element-write-d
     add-d
     enum-known-f-2
-    mul-t20
+    mul-t21
     element-set-from-d
     add-d-2
     enum-known-f-3

@@ -1,0 +1,182 @@
+//! `bench`: the time of each call, proved and plain Rust on the same inputs in the same run.
+//! Without the proved archive it times plain Rust alone.
+
+use compare::generate::{self, Draft};
+use compare::{LONGEST_REPORT, RECORD_BYTES, Side, library, plain};
+use std::hint::black_box;
+use std::time::{Duration, Instant};
+
+/// Timings of which the median is told. Sides take turns, so that a slow moment meets both.
+const REPETITIONS: usize = 101;
+/// A repetition makes so many calls that it lasts about this long: shorter than a turn on a busy
+/// processor, so that the median is of repetitions that nothing interrupted.
+const REPETITION: Duration = Duration::from_micros(400);
+/// A case with slow calls ends after about this long, with three repetitions or more.
+const PATIENCE: Duration = Duration::from_secs(3);
+const TICKS: usize = 100_000;
+const TEMPO: u32 = 1_200;
+
+/// One line of the table: a call, and how many units of work (calls, or ticks) it is.
+struct Case {
+    name: &'static str,
+    units: usize,
+    call: Box<dyn FnMut(&Side) -> i64>,
+}
+
+fn main() {
+    let sides: Vec<Side> = [Some(plain::SIDE), library::side()].into_iter().flatten().collect();
+    println!("time per call, or per tick in a run; median of up to {REPETITIONS} repetitions\n");
+    print_head(&sides);
+    for mut case in cases() {
+        let answers: Vec<i64> = sides.iter().map(|side| (case.call)(side)).collect();
+        assert!(
+            answers.iter().all(|answer| *answer == answers[0]),
+            "{}: answers differ: {answers:?}",
+            case.name
+        );
+        let times = medians(&mut case, &sides);
+        print_line(&case, &times);
+    }
+}
+
+fn cases() -> Vec<Case> {
+    let small = generate::boxed().bytes();
+    let typical = generate::bench_typical();
+    let full = generate::bench_full();
+    vec![
+        report("report, small (3 tasks, 2 sources, 4 links)", small.clone()),
+        report("report, typical (12, 5, 30)", typical.clone()),
+        report("report, full (32, 16, 256)", full.clone()),
+        quote("quote, small", small.clone()),
+        quote("quote, typical", typical.clone()),
+        quote("quote, full", full.clone()),
+        read("reading accepted, typical (run of no ticks)", typical.clone()),
+        read("reading accepted, full (run of no ticks)", full.clone()),
+        quote("reading refused at the last field, full", refused_late(&full)),
+        report("report, dense (2^30 paths)", generate::dense().bytes()),
+        report("report, hostile (10^9 bare rounds)", generate::hostile().bytes()),
+        ticks("tick, small", small),
+        ticks("tick, typical", typical),
+        ticks("tick, full", full),
+        ticks("tick, a source in every tick", busy()),
+    ]
+}
+
+fn report(name: &'static str, file: Vec<u8>) -> Case {
+    let mut page = [0; LONGEST_REPORT];
+    let call = move |side: &Side| {
+        let written = (side.report)(black_box(&file), &mut page);
+        black_box(&page);
+        written
+    };
+    Case { name, units: 1, call: Box::new(call) }
+}
+
+fn quote(name: &'static str, file: Vec<u8>) -> Case {
+    Case { name, units: 1, call: Box::new(move |side| (side.quote)(black_box(&file))) }
+}
+
+/// The reading alone has no call of its own: a run without ticks reads, judges and starts.
+fn read(name: &'static str, file: Vec<u8>) -> Case {
+    Case { name, units: 1, call: Box::new(move |side| run(side, &file, &[], &mut [])) }
+}
+
+/// A long run, in which reading the file once does not count.
+fn ticks(name: &'static str, file: Vec<u8>) -> Case {
+    let calls = generate::legal_calls(&file, TEMPO, TICKS, 7);
+    let mut outcomes = vec![0; TICKS];
+    let call = move |side: &Side| run(side, &file, &calls, &mut outcomes);
+    Case { name, units: TICKS, call: Box::new(call) }
+}
+
+fn run(side: &Side, file: &[u8], calls: &[u8], outcomes: &mut [u8]) -> i64 {
+    let mut record = [0; RECORD_BYTES];
+    let code = (side.run)(black_box(file), TEMPO, black_box(calls), outcomes, &mut record);
+    black_box((outcomes, &record));
+    code
+}
+
+/// The file with a last link that names no critical number.
+fn refused_late(file: &[u8]) -> Vec<u8> {
+    let mut file = file.to_vec();
+    if let Some(critical) = file.last_mut() {
+        *critical = 2;
+    }
+    file
+}
+
+/// Short runs and spacings: something fires, ends or is dropped in nearly every tick.
+fn busy() -> Vec<u8> {
+    use compare::plain::description::Source::Fixed;
+    let links = [[1, 3, 1], [1, 4, 0], [2, 4, 1], [3, 4, 0], [33, 1, 1], [33, 2, 1], [34, 2, 0], [35, 4, 0]];
+    Draft::new(&[2, 1, 1, 1], &[Fixed(9), Fixed(4), Fixed(2)], &links).bytes()
+}
+
+/// The median time of one unit on each side, in nanoseconds.
+fn medians(case: &mut Case, sides: &[Side]) -> Vec<f64> {
+    let counts: Vec<u32> = sides.iter().map(|side| calls_to_fill(REPETITION, case, side)).collect();
+    let mut times = vec![Vec::new(); sides.len()];
+    let start = Instant::now();
+    for repetition in 0..REPETITIONS {
+        if repetition >= 3 && start.elapsed() > PATIENCE {
+            break;
+        }
+        for (place, side) in sides.iter().enumerate() {
+            let time = time_of(counts[place], case, side).as_nanos() as f64;
+            times[place].push(time / f64::from(counts[place]) / case.units as f64);
+        }
+    }
+    times.iter_mut().map(|times| median(times)).collect()
+}
+
+fn calls_to_fill(time: Duration, case: &mut Case, side: &Side) -> u32 {
+    let mut count = 1;
+    while time_of(count, case, side) < time && count < 1 << 24 {
+        count *= 2;
+    }
+    count
+}
+
+fn time_of(count: u32, case: &mut Case, side: &Side) -> Duration {
+    let start = Instant::now();
+    for _ in 0..count {
+        black_box((case.call)(side));
+    }
+    start.elapsed()
+}
+
+fn median(times: &mut [f64]) -> f64 {
+    times.sort_by(f64::total_cmp);
+    times[times.len() / 2]
+}
+
+fn print_head(sides: &[Side]) {
+    print!("{:<46}", "");
+    for side in sides {
+        print!("{:>12}", side.name);
+    }
+    println!("{}", if sides.len() > 1 { "   proved / plain" } else { "" });
+}
+
+fn print_line(case: &Case, times: &[f64]) {
+    print!("{:<46}", case.name);
+    for &time in times {
+        print!("{:>12}", words(time));
+    }
+    if let [plain, proved] = times {
+        print!("{:>17.2}", proved / plain);
+    }
+    if case.units > 1 {
+        let rates: Vec<String> = times.iter().map(|time| format!("{:.1}", 1e3 / time)).collect();
+        print!("   {} million ticks a second", rates.join(", "));
+    }
+    println!();
+}
+
+fn words(nanoseconds: f64) -> String {
+    match nanoseconds {
+        time if time < 1e3 => format!("{time:.1} ns"),
+        time if time < 1e6 => format!("{:.2} µs", time / 1e3),
+        time => format!("{:.2} ms", time / 1e6),
+    }
+}

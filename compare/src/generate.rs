@@ -1,0 +1,32 @@
+//! Inputs from a seed: files of every kind that document 01 tells apart, and runs of ticks.
+
+mod damage;
+mod draft;
+mod edges;
+mod files;
+mod random;
+mod runs;
+
+pub use draft::Draft;
+pub use edges::{boxed, edges};
+pub use files::{bench_full, bench_typical, dense, hostile};
+pub use random::Random;
+pub use runs::{Run, legal_calls, run};
+
+/// A file of a kind chosen by chance.
+pub fn file(random: &mut Random) -> Vec<u8> {
+    match random.below(100) {
+        0..20 => files::any(random).bytes(),
+        20..50 => files::tuned(random).bytes(),
+        50..58 => files::heavy(random).bytes(),
+        58..62 => files::any_dense(random).bytes(),
+        62..66 => files::nearly_full(random).bytes(),
+        66..90 => damage::damaged(random),
+        90..94 => damage::long(random),
+        94..97 => damage::noise(random),
+        _ => {
+            let edges = edges();
+            edges[random.index(edges.len())].clone()
+        }
+    }
+}

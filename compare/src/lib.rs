@@ -1,0 +1,33 @@
+//! The proved library and a plain Rust implementation of document 01, side by side.
+//!
+//! [`plain`] is written from the document alone; [`library`] wraps the proved archive. Both answer
+//! the same three calls, so that [`generate`]d inputs can be put to both.
+
+pub mod generate;
+pub mod library;
+pub mod plain;
+pub mod vectors;
+
+/// Bytes of a machine record: 32 awake, 32 × 4 used, 256 waiting, 256 dropped, 16 × 4 ages.
+pub const RECORD_BYTES: usize = 736;
+
+/// Bytes of one tick call: the mask of arrivals in two, high byte first, "finish", one unused.
+pub const CALL_BYTES: usize = 4;
+
+/// No report is longer: 256 link lines of at most 45 bytes and the tempo line.
+pub const LONGEST_REPORT: usize = 12_288;
+
+/// One implementation, by the calls that both have.
+#[derive(Clone, Copy)]
+pub struct Side {
+    pub name: &'static str,
+    /// The report on a file, into a page: the bytes written, or -13.
+    pub report: fn(file: &[u8], page: &mut [u8]) -> i64,
+    /// The quoted tempo in tenths, or -(10,000 × number + place).
+    pub quote: fn(file: &[u8]) -> i64,
+    /// A list of tick calls from the idle start. Fills an outcome for each and the last record and
+    /// returns 0, or returns -(10,000 × number + place) and fills nothing.
+    pub run: RunCall,
+}
+
+pub type RunCall = fn(file: &[u8], tempo: u32, calls: &[u8], outcomes: &mut [u8], record: &mut [u8]) -> i64;

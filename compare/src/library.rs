@@ -1,0 +1,63 @@
+//! The proved library's exported calls, wrapped. Linked only where the archive is there (build.rs).
+
+use crate::Side;
+
+/// The proved side, if its archive is linked.
+#[cfg(not(proved))]
+pub fn side() -> Option<Side> {
+    None
+}
+
+/// The proved side, if its archive is linked.
+#[cfg(proved)]
+pub fn side() -> Option<Side> {
+    Some(Side { name: "proved", report: linked::report, quote: linked::quote, run: linked::run })
+}
+
+#[cfg(proved)]
+mod linked {
+    // A `&[u8]` of the library's functions passes as pointer and length.
+    unsafe extern "C" {
+        fn bench_report(file: *const u8, file_len: usize, out: *mut u8, out_len: usize) -> i64;
+        fn bench_quote(file: *const u8, file_len: usize) -> i64;
+        fn bench_run(
+            file: *const u8,
+            file_len: usize,
+            tempo: u32,
+            calls: *const u8,
+            calls_len: usize,
+            outcomes: *mut u8,
+            outcomes_len: usize,
+            record: *mut u8,
+            record_len: usize,
+        ) -> i64;
+    }
+
+    // Each call below is safe for the same reason: every pointer and length comes from one slice
+    // that lives through the call, the slices written to are borrowed alone, and the library
+    // keeps no pointer.
+
+    pub fn report(file: &[u8], page: &mut [u8]) -> i64 {
+        unsafe { bench_report(file.as_ptr(), file.len(), page.as_mut_ptr(), page.len()) }
+    }
+
+    pub fn quote(file: &[u8]) -> i64 {
+        unsafe { bench_quote(file.as_ptr(), file.len()) }
+    }
+
+    pub fn run(file: &[u8], tempo: u32, calls: &[u8], outcomes: &mut [u8], record: &mut [u8]) -> i64 {
+        unsafe {
+            bench_run(
+                file.as_ptr(),
+                file.len(),
+                tempo,
+                calls.as_ptr(),
+                calls.len(),
+                outcomes.as_mut_ptr(),
+                outcomes.len(),
+                record.as_mut_ptr(),
+                record.len(),
+            )
+        }
+    }
+}

@@ -1,0 +1,138 @@
+//! The definitions of document 01 word by word, slow, and only for tests: what the fast code of
+//! this module must equal on small files.
+
+use super::Plan;
+use super::description::{Description, Link, TASKS};
+use super::quote::quote;
+use super::verdicts::{Verdict, Verdicts};
+use crate::generate::{self, Random};
+
+/// W(j): e(j) plus the sum of added(j, k) over tasks k > j.
+fn work(file: &Description, j: usize) -> u64 {
+    u64::from(file.runs[j - 1]) + (j + 1..=file.runs.len()).map(|k| added(file, j, k)).sum::<u64>()
+}
+
+/// W(j) if a link i to j exists; else the largest added(k, j) over links from i to k with k > j; else 0.
+fn added(file: &Description, i: usize, j: usize) -> u64 {
+    let ends =
+        || file.links.iter().filter(|link| usize::from(link.from) == i).map(|link| usize::from(link.to));
+    if ends().any(|to| to == j) {
+        return work(file, j);
+    }
+    ends().filter(|&k| k > j).map(|k| added(file, k, j)).max().unwrap_or(0)
+}
+
+/// The sum of added(i, k) over k ≥ j.
+fn load(file: &Description, i: usize, j: usize) -> u64 {
+    (j..=file.runs.len()).map(|k| added(file, i, k)).sum()
+}
+
+/// D divided by the spacing, rounded up, and at least 1.
+fn spacings(delay: u64, spacing: u64) -> u64 {
+    delay.div_ceil(spacing).max(1)
+}
+
+/// The delay of a link from a source, if it is held.
+fn delay(file: &Description, link: Link, tempo: u32) -> Option<u64> {
+    let j = usize::from(link.to);
+    let sources = || {
+        file.sources.iter().enumerate().map(|(place, source)| (33 + place, u64::from(source.spacing(tempo))))
+    };
+    let (_, own) = sources().nth(link.source()?)?;
+    let start = (1..j).map(|k| load(file, k, j)).max().unwrap_or(0);
+    let loads: Vec<(u64, u64)> = sources().map(|(u, spacing)| (load(file, u, j), spacing)).collect();
+    let mut delay = start;
+    while delay < own {
+        let next = start + loads.iter().map(|&(load, spacing)| load * spacings(delay, spacing)).sum::<u64>();
+        if next == delay {
+            return Some(delay);
+        }
+        delay = next;
+    }
+    None
+}
+
+/// Whether some neighbourhood of i (document 000, C1 to C4) has all its frontier below j. Every
+/// pair of disjoint sets of tasks is tried.
+fn has_neighbourhood(file: &Description, i: usize, j: usize) -> bool {
+    let tasks = file.runs.len() as u32;
+    (0..3u32.pow(tasks)).any(|choice| {
+        let part = |task: usize| choice / 3u32.pow(task as u32 - 1) % 3;
+        let in_frontier = |task: usize| task <= TASKS && part(task) == 1;
+        let in_interior = |task: usize| task <= TASKS && part(task) == 2;
+        let in_either = |task: usize| in_frontier(task) || in_interior(task);
+        let all = || 1..=tasks as usize;
+        let ends = |from: usize| {
+            let links = file.links.iter().filter(move |link| usize::from(link.from) == from);
+            links.filter(|link| in_interior(link.to.into())).count()
+        };
+        let c1 = in_either(i);
+        let c2 = file.links.iter().all(|link| !in_interior(link.to.into()) || in_either(link.from.into()));
+        let c3 = all().filter(|&k| in_either(k)).all(|k| ends(k) == usize::from(k != i));
+        let c4 = all().filter(|&k| in_frontier(k)).all(|k| all().filter(|&n| in_interior(n)).all(|n| k < n));
+        c1 && c2 && c3 && c4 && all().filter(|&k| in_frontier(k)).all(|k| k < j)
+    })
+}
+
+fn verdict(file: &Description, link: Link, tempo: u32) -> Verdict {
+    match link.source() {
+        _ if !link.critical => Verdict::Free,
+        None => Verdict::Order { held: has_neighbourhood(file, link.from.into(), link.to.into()) },
+        Some(source) => {
+            let spacing = file.sources[source].spacing(tempo);
+            Verdict::Delay { delay: delay(file, link, tempo), spacing }
+        }
+    }
+}
+
+/// Accepted files with at most so many tasks.
+fn small_plans(seed: u64, tasks: usize, count: usize) -> impl Iterator<Item = Plan> {
+    let mut random = Random::new(seed);
+    let files = std::iter::repeat_with(move || generate::file(&mut random));
+    let plans = files.filter_map(|file| Plan::read(&file).ok());
+    plans
+        .filter(move |plan| plan.description.runs.len() <= tasks && !plan.description.links.is_empty())
+        .take(count)
+}
+
+#[test]
+fn loads_are_the_defined_ones() {
+    for plan in small_plans(1, 9, 400) {
+        let file = &plan.description;
+        for j in 1..=file.runs.len() {
+            let nodes = (1..=file.runs.len()).chain((33..).take(file.sources.len()));
+            for i in nodes {
+                assert_eq!(plan.loads.level(j - 1)[i - 1], load(file, i, j), "load({i}, {j})");
+            }
+        }
+    }
+}
+
+#[test]
+fn verdicts_are_the_defined_ones() {
+    for plan in small_plans(2, 7, 400) {
+        for tempo in [200, 777, 1_200, 3_000] {
+            let verdicts = Verdicts::at(&plan, tempo);
+            for &link in plan.description.links.iter() {
+                assert_eq!(verdicts.on(link), verdict(&plan.description, link, tempo), "{link:?} at {tempo}");
+            }
+        }
+    }
+}
+
+/// Every tempo is tried, so the search and the fact it rests on are tried too.
+#[test]
+fn quotes_are_the_largest_good_tempos() {
+    for plan in small_plans(3, 32, 150) {
+        let doubtful = |verdict| match verdict {
+            Verdict::Free | Verdict::Order { held: true } => false,
+            Verdict::Order { held: false } => true,
+            Verdict::Delay { delay, .. } => delay.is_none(),
+        };
+        let good = |tempo: &u32| {
+            let verdicts = Verdicts::at(&plan, *tempo);
+            !plan.description.links.iter().any(|&link| doubtful(verdicts.on(link)))
+        };
+        assert_eq!(quote(&plan).ok(), (200..=3_000).rev().find(good));
+    }
+}

@@ -1,0 +1,142 @@
+-- A list of calls as a run goes through it: its masks, the record before each call and the codes of the answers. Assumes nothing.
+use Prim.Native.Nat.{ℕ, zero, suc, _+_, _-_, _/_, _^_, _≤_, _<_, min}
+use mathlib.Core.Path.{_≡_, refl, sym, ap, subst, _∙_}
+use mathlib.Core.Bool.{Bool, true, false}
+use mathlib.Core.List.{List, [], _∷_, _++_}
+use native.Mathlib.Omega.{arith}
+use native.Mathlib.Nat.{div-div-eq-div-mul, div-one, pow-suc}
+use native.Mathlib.Numerals.{add-one}
+use lib.ListN.{length, getD, set, take, drop}
+use lib.Seq.{take-all}
+use lib.Dec.{leb}
+use borrow.Author.Tests.{lt-ltb, le-ltb, leb-true}
+use Rattle.model.specs.declared.Source.{Source}
+use Rattle.model.specs.declared.Source.the-variants.{Fixed, Paced}
+use Rattle.model.specs.declared.Field.the-variants.{OfSource}
+use Rattle.model.specs.declared.Description.{Description}
+use Rattle.model.specs.declared.Machine.{Machine}
+use Rattle.model.specs.declared.Ticked.{Ticked}
+use Rattle.model.specs.declared.Refusal.{Refusal}
+use Rattle.model.specs.declared.Refusal.the-variants.{ShortPage, OffKnob}
+use Rattle.model.specs.declared.Outcome.{Outcome}
+use Rattle.model.specs.declared.Outcome.the-variants.{Done, Refused}
+use Rattle.model.specs.Refusals.{noSource}
+use Rattle.model.specs.Field.{onScale}
+use Rattle.model.specs.Graph.{sourceAt}
+use Rattle.model.specs.File.{SourceFits, Widths, judge, filledBy}
+use Rattle.model.specs.Verdicts.{judgeAt, onKnob}
+use Rattle.model.specs.Machine.{idle, blankMachine, lawful, plainTick}
+use Rattle.model.specs.History.{Call, answers, left, isDone}
+use Rattle.theory.proofs.Tests.{not-both, and-left, and-right}
+use Rattle.theory.proofs.WellFormed.{WellFormed}
+use Rattle.theory.proofs.Table.{length-tab, getD-tab}
+use Rattle.theory.proofs.Replay.{callAt, quietCall}
+use Rattle.theory.proofs.Lawful.{rules-kept}
+use Rattle.machine.specs.Run.{callIn, callsIn, codeOf, codes, page, ran}
+
+-- masks: all of it, and one bit less
+pub whole-mask : (mask : ℕ) → mask ≡ mask / 2 ^ 0
+whole-mask mask = sym (div-one mask)
+
+pub halved : (mask u rest : ℕ) → rest ≡ mask / 2 ^ u → rest / 2 ≡ mask / 2 ^ (u + 1)
+halved mask u rest e = rw (e, add-one u, pow-suc 2 u) (div-div-eq-div-mul mask (2 ^ u) 2)
+
+-- an answer as its code and its record
+pub coded : (r r′ : Ticked) → r ≡ r′ → (codeOf (r .outcome) ≡ codeOf (r′ .outcome)) × (r .machine ≡ r′ .machine)
+coded r r′ e = (ap (λ (k : Ticked). codeOf (k .outcome)) e, ap (λ (k : Ticked). k .machine) e)
+
+-- as many calls as whole fours, the i-th being that of the i-th four
+pub calls-length : (bytes : List ℕ) → length (callsIn bytes) ≡ length bytes / 4
+calls-length bytes = length-tab (length bytes / 4) (callIn bytes)
+
+pub calls-at : (bytes : List ℕ) (i : ℕ) → i < length bytes / 4 → callAt (callsIn bytes) i ≡ callIn bytes i
+calls-at bytes i h = getD-tab (length bytes / 4) (callIn bytes) quietCall i h
+
+-- the record after one call more, and that call's code
+pub left-more : (d : Description) (t : ℕ) (cs : List Call) (m : Machine) (i : ℕ) → i < length cs → left d t m (take (i + 1) cs) ≡ plainTick d t (left d t m (take i cs)) (callAt cs i .arrivals) (callAt cs i .finish) .machine
+unfolding left
+left-more d t cs m i h = rw add-one (go cs m i h)
+  where
+    go : (cs : List Call) (m : Machine) (i : ℕ) → i < length cs → left d t m (take (suc i) cs) ≡ plainTick d t (left d t m (take i cs)) (callAt cs i .arrivals) (callAt cs i .finish) .machine
+    go [] m i h = absurd (omega arith)
+    go (c ∷ cs) m zero h = refl
+    go (c ∷ cs) m (suc i) h = go cs (plainTick d t m (c .arrivals) (c .finish) .machine) i (omega arith)
+
+pub code-at : (d : Description) (t : ℕ) (cs : List Call) (m : Machine) (i : ℕ) → i < length cs → getD (codes (answers d t m cs)) i 0 ≡ codeOf (plainTick d t (left d t m (take i cs)) (callAt cs i .arrivals) (callAt cs i .finish) .outcome)
+unfolding codes answers left
+code-at d t [] m i h = absurd (omega arith)
+code-at d t (c ∷ cs) m zero h = refl
+code-at d t (c ∷ cs) m (suc i) h = code-at d t cs (plainTick d t m (c .arrivals) (c .finish) .machine) i (omega arith)
+
+pub codes-length : (d : Description) (t : ℕ) (cs : List Call) (m : Machine) → length (codes (answers d t m cs)) ≡ length cs
+unfolding codes answers
+codes-length d t [] m = refl
+codes-length d t (c ∷ cs) m = ap suc (codes-length d t cs (plainTick d t m (c .arrivals) (c .finish) .machine))
+
+-- one more byte of a page stored in a buffer
+pub store-more : (out text : List ℕ) (i : ℕ) → i < length out → i < length text → set (take i text ++ drop i out) i (getD text i 0) ≡ take (i + 1) text ++ drop (i + 1) out
+store-more out text i a b = rw add-one (go out text i a b)
+  where
+    go : (out text : List ℕ) (i : ℕ) → i < length out → i < length text → set (take i text ++ drop i out) i (getD text i 0) ≡ take (suc i) text ++ drop (suc i) out
+    go [] text i a b = absurd (omega arith)
+    go (y ∷ out) [] i a b = absurd (omega arith)
+    go (y ∷ out) (x ∷ text) zero a b = refl
+    go (y ∷ out) (x ∷ text) (suc i) a b = ap (λ l. x ∷ l) (go out text i (omega arith) (omega arith))
+
+-- one turn of a run
+pub run-turn : (d : Description) (t : ℕ) (cs : List Call) (m m₁ m₂ : Machine) (i code : ℕ) (marks : List Bool) (finish : Bool) → i < length cs → m₁ ≡ left d t m (take i cs) → callAt cs i ≡ record { arrivals = record { marks = marks }; finish = finish } → (code ≡ codeOf (plainTick d t m₁ (record { marks = marks }) finish .outcome)) × (m₂ ≡ plainTick d t m₁ (record { marks = marks }) finish .machine) → (m₂ ≡ left d t m (take (i + 1) cs)) × (code ≡ getD (codes (answers d t m cs)) i 0)
+run-turn d t cs m m₁ m₂ i code marks finish h e q w =
+    (w .1 ∙ sym (rw (q, ← e) at (left-more d t cs m i h)), w .0 ∙ sym (rw (q, ← e) at (code-at d t cs m i h)))
+
+pub store-turn : (out out₁ text : List ℕ) (i code : ℕ) → i < length out → i < length text → out₁ ≡ take i text ++ drop i out → code ≡ getD text i 0 → set out₁ i code ≡ take (i + 1) text ++ drop (i + 1) out
+store-turn out out₁ text i code a b e f = rw (e, f) (store-more out text i a b)
+
+-- the run's answer and its buffer, where the buffer is too short and where it is not
+pub ran-short : (d : Description) (t : ℕ) (cs : List Call) (buffer : List ℕ) → length buffer < length cs → record { outcome = Refused ShortPage 0; machine = blankMachine } ≡ ran d t cs buffer
+ran-short d t cs buffer h = rw (lt-ltb (length buffer) (length cs) h) refl
+
+pub ran-whole : (d : Description) (t : ℕ) (cs : List Call) (buffer : List ℕ) (m : Machine) → length cs ≤ length buffer → m ≡ left d t (idle d t) cs → record { outcome = Done; machine = m } ≡ ran d t cs buffer
+ran-whole d t cs buffer m h e = rw (le-ltb (length buffer) (length cs) h, e) refl
+
+pub filled-short : (d : Description) (t : ℕ) (cs : List Call) (buffer : List ℕ) → length buffer < length cs → buffer ≡ filledBy (page d t cs) buffer
+unfolding filledBy
+filled-short d t cs buffer h = rw (codes-length d t cs (idle d t), lt-ltb (length buffer) (length cs) h) refl
+
+pub filled-whole : (d : Description) (t : ℕ) (cs : List Call) (buffer : List ℕ) → length cs ≤ length buffer → take (length cs) (page d t cs) ++ drop (length cs) buffer ≡ filledBy (page d t cs) buffer
+unfolding filledBy
+filled-whole d t cs buffer h =
+    let e : length (page d t cs) ≡ length cs = codes-length d t cs (idle d t) in
+    rw (take-all (length cs) (page d t cs) (omega (arith, e)), e, le-ltb (length buffer) (length cs) h) refl
+
+-- a tempo that is judged as done is on the knob
+pub on-knob : (d : Description) (t : ℕ) → judgeAt d t ≡ Done → (200 ≤ t) × (t ≤ 3000)
+unfolding judgeAt
+on-knob d t e = go (judge d) refl (onKnob t) refl
+  where
+    done-only : (r : Refusal) (place : ℕ) → Refused r place ≡ Done → ⊥
+    done-only r place q = not-both (ap isDone q) refl
+
+    go : (o : Outcome) → judge d ≡ o → (b : Bool) → onKnob t ≡ b → (200 ≤ t) × (t ≤ 3000)
+    go Done p true q =
+        (leb-true 200 t (and-left (leb 200 t) (leb t 3000) q), leb-true t 3000 (and-right (leb 200 t) (leb t 3000) q))
+    go Done p false q = absurd (done-only OffKnob 0 (rw (p, q) at e))
+    go (Refused r place) p b q = absurd (done-only r place (rw p at e))
+
+-- the record before each call keeps the rules
+pub kept : (d : Description) (t : ℕ) (cs : List Call) (m : Machine) → WellFormed d → judgeAt d t ≡ Done → m ≡ left d t (idle d t) cs → lawful d t m ≡ true
+kept d t cs m g j e =
+    let k : (200 ≤ t) × (t ≤ 3000) = on-knob d t j in
+    ap (lawful d t) e ∙ rules-kept d g t (k .0) (k .1) cs
+
+-- the numbers of an accepted description fit their types
+scale-fits : (s : Source) → onScale (OfSource s) ≡ true → SourceFits s
+scale-fits (Fixed m) e = omega (arith, leb-true m 1000000000 (and-right (leb 1 m) (leb m 1000000000) e))
+scale-fits (Paced p) e = omega (arith, leb-true p 960 (and-right (leb 1 p) (leb p 960) e))
+
+pub widths : (d : Description) → WellFormed d → Widths d
+widths d g = record {
+  run-width = λ k h. let s : 1 + k - 1 ≡ k = omega arith in let low : getD (d .runs) k 0 ≤ 10000000 = rw s at (g .run-most (1 + k) (omega arith) (omega arith)) in omega arith;
+  source-width = λ k h.
+      let s : 33 + k - 33 ≡ k = omega arith in
+      subst (λ x. SourceFits (getD (d .sources) x noSource .source)) s (scale-fits (sourceAt d (33 + k)) (g .source-scale (33 + k) (omega arith) (omega arith)));
+}

@@ -1,0 +1,82 @@
+// The tick call on a record by value, once its description is judged.
+
+use crate::rules::lawful;
+use crate::rules::strangers;
+use crate::rules::too_soon;
+use model::Arrivals;
+use model::Machine;
+use model::Outcome;
+use model::Refusal;
+use model::Ticked;
+use steps::plan::Plan;
+use steps::step::step;
+ghost use mathlib.Core.Path.{_≡_};
+ghost use Rattle.steps.specs.Parts.{Sound, Countable, Steps};
+ghost use Rattle.model.specs.declared.Outcome.the-variants.{Refused};
+ghost use Rattle.machine.specs.Judged.{Planned, TickIs};
+
+// One tick of a record by value.
+pub fn stepped(p: Plan, marks: &[bool; 16], finish: bool, m: Machine) -> Machine
+    requires { ⌜ Sound p × Countable (m .used) ⌝ }
+    ensures { λ r. ⌜ Steps p (now (marks .entry)) finish m r ⌝ }
+{
+    let mut awake = m.awake;
+    let mut used = m.used;
+    let mut waiting = m.waiting;
+    let mut dropped = m.dropped;
+    let mut ages = m.ages;
+    step(
+        p,
+        marks,
+        finish,
+        &mut awake,
+        &mut used,
+        &mut waiting,
+        &mut dropped,
+        &mut ages,
+    );
+    Machine {
+        awake,
+        used,
+        waiting,
+        dropped,
+        ages,
+    }
+}
+
+// A refused tick leaves the record as it was.
+pub fn refused(why: Refusal, m: Machine) -> Ticked
+    ensures { λ r. ⌜ r ≡ record { outcome = Refused why 0; machine = m } ⌝ }
+{
+    let outcome = Outcome::Refused(why, 0);
+    Ticked {
+        outcome,
+        machine: m,
+    }
+}
+
+// The tick call: 16, 15 and 14 in this order, or else the record one tick later.
+pub fn tick_judged(p: Plan, m: Machine, a: Arrivals, finish: bool) -> Ticked
+    requires { ⌜ Planned p ⌝ }
+    ensures { λ r. ⌜ TickIs p m a finish r ⌝ }
+{
+    if !lawful(p, m) {
+        return refused(Refusal::ForeignState, m);
+    }
+    let marks = a.marks;
+    let sources = p.sources;
+    if strangers(sources, &marks) {
+        return refused(Refusal::Stranger, m);
+    }
+    let gaps = p.gaps;
+    let ages = m.ages;
+    if too_soon(&gaps, sources, &marks, &ages) {
+        return refused(Refusal::TooSoon, m);
+    }
+    let next = stepped(p, &marks, finish, m);
+    let outcome = Outcome::Done;
+    Ticked {
+        outcome,
+        machine: next,
+    }
+}

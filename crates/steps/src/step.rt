@@ -1,0 +1,226 @@
+// The steps of a tick, on tables of the description and on the parts of the machine's record, each lent by itself.
+
+use crate::plan::Plan;
+ghost use mathlib.Core.Path.{_≡_};
+ghost use mathlib.Core.Bool.{_||_};
+ghost use Prim.Native.Nat.{_+_, _≤_, _<_, min};
+ghost use lib.Dec.{eqb};
+ghost use Rattle.model.specs.Machine.{highestIn};
+ghost use Rattle.steps.specs.Parts.{Enters, Fires, Arrives, Runs, Clears, Ends, Ages, Sound, Countable, Steps, parts};
+
+// The number of a task as a place in a table.
+pub fn number(x: u8) -> usize
+    ensures { λ r. ⌜ r ≡ x ⌝ }
+{
+    x as usize
+}
+
+// The number of a node as the tables hold it.
+fn node(x: usize) -> u8
+    requires { ⌜ x < 256 ⌝ }
+    ensures { λ r. ⌜ r ≡ x ⌝ }
+{
+    x as u8
+}
+
+// Node x fires: each link out of it that waits is dropped, waits anew and wakes its task.
+pub fn fire(
+    from: &[u8; 256],
+    to: &[u8; 256],
+    links: usize,
+    x: u8,
+    awake: &mut [bool; 32],
+    waiting: &mut [bool; 256],
+    dropped: &mut [bool; 256],
+)
+    requires { ⌜ Enters (now to) links ⌝ }
+    ensures { λ _. ⌜ Fires (now (from .entry)) (now (to .entry)) links x (now (awake .entry)) (now (waiting .entry)) (now (dropped .entry)) (now (awake .exit)) (now (waiting .exit)) (now (dropped .exit)) ⌝ }
+{
+    let mut l: usize = 0;
+    while l < links {
+        if from[l] == x {
+            if waiting[l] {
+                dropped[l] = true;
+            }
+            waiting[l] = true;
+            awake[number(to[l]) - 1] = true;
+        }
+        l += 1;
+    }
+}
+
+// Step 1: each arriving source fires, in rising number, and its age becomes 0.
+pub fn arrive<'a>(
+    from: &'a [u8; 256],
+    to: &'a [u8; 256],
+    links: usize,
+    marks: &[bool; 16],
+    sources: usize,
+    awake: &mut [bool; 32],
+    waiting: &mut [bool; 256],
+    dropped: &mut [bool; 256],
+    ages: &mut [u32; 16],
+)
+    requires { ⌜ Enters (now to) links × (sources ≤ 16) ⌝ }
+    ensures { λ _. ⌜ Arrives (now (from .entry)) (now (to .entry)) links (now (marks .entry)) sources (now (awake .entry)) (now (waiting .entry)) (now (dropped .entry)) (now (ages .entry)) (now (awake .exit)) (now (waiting .exit)) (now (dropped .exit)) (now (ages .exit)) ⌝ }
+{
+    let mut u: usize = 0;
+    while u < sources {
+        if marks[u] {
+            fire(
+                from,
+                to,
+                links,
+                node(33 + u),
+                &mut *awake,
+                &mut *waiting,
+                &mut *dropped,
+            );
+            ages[u] = 0;
+        }
+        u += 1;
+    }
+}
+
+// The highest awake task, or 0.
+pub fn highest(awake: &[bool; 32], tasks: usize) -> usize
+    requires { ⌜ tasks ≤ 32 ⌝ }
+    ensures { λ r. ⌜ r ≡ highestIn (now (awake .entry)) tasks ⌝ }
+{
+    let mut k = tasks;
+    while 0 < k {
+        if awake[k - 1] {
+            return k;
+        }
+        k -= 1;
+    }
+    0
+}
+
+// Step 2: the task that runs has used one tick more.
+pub fn run_task(h: usize, used: &mut [u32; 32])
+    requires { ⌜ (h ≤ 32) × Countable (now used) ⌝ }
+    ensures { λ _. ⌜ Runs h (now (used .entry)) (now (used .exit)) ⌝ }
+{
+    if h == 0 {
+        return;
+    }
+    let more = used[h - 1] + 1;
+    used[h - 1] = more;
+}
+
+// The waiting marks on links into task h clear.
+pub fn clear_into(to: &[u8; 256], links: usize, h: u8, waiting: &mut [bool; 256])
+    requires { ⌜ links ≤ 256 ⌝ }
+    ensures { λ _. ⌜ Clears (now (to .entry)) links h (now (waiting .entry)) (now (waiting .exit)) ⌝ }
+{
+    let mut l: usize = 0;
+    while l < links {
+        if to[l] == h {
+            waiting[l] = false;
+        }
+        l += 1;
+    }
+}
+
+// Whether a run ends: the task has used its longest run, or the caller says so.
+fn ends(used: u32, run: u32, finish: bool) -> bool
+    ensures { λ r. ⌜ r ≡ (eqb used run || finish) ⌝ }
+{
+    if used == run {
+        return true;
+    }
+    finish
+}
+
+// Step 3: a run that ends puts its task to sleep, clears the marks on links into it, and fires it.
+pub fn end_run<'a>(
+    from: &'a [u8; 256],
+    to: &'a [u8; 256],
+    links: usize,
+    runs: &'a [u32; 32],
+    h: usize,
+    finish: bool,
+    awake: &mut [bool; 32],
+    used: &mut [u32; 32],
+    waiting: &mut [bool; 256],
+    dropped: &mut [bool; 256],
+)
+    requires { ⌜ Enters (now to) links × (h ≤ 32) ⌝ }
+    ensures { λ _. ⌜ Ends (now (from .entry)) (now (to .entry)) links (now (runs .entry)) h finish (now (awake .entry)) (now (used .entry)) (now (waiting .entry)) (now (dropped .entry)) (now (awake .exit)) (now (used .exit)) (now (waiting .exit)) (now (dropped .exit)) ⌝ }
+{
+    if h == 0 {
+        return;
+    }
+    if ends(used[h - 1], runs[h - 1], finish) {
+        let x = node(h);
+        awake[h - 1] = false;
+        used[h - 1] = 0;
+        clear_into(to, links, x, &mut *waiting);
+        fire(from, to, links, x, awake, waiting, dropped);
+    }
+}
+
+// An age one tick later: at most the spacing.
+fn aged(age: u32, gap: u32) -> u32
+    ensures { λ r. ⌜ r ≡ min gap (age + 1) ⌝ }
+{
+    if age < gap { age + 1 } else { gap }
+}
+
+// Step 4: ages rise by one, up to the spacing.
+pub fn age_all(gaps: &[u32; 16], sources: usize, ages: &mut [u32; 16])
+    requires { ⌜ sources ≤ 16 ⌝ }
+    ensures { λ _. ⌜ Ages (now (gaps .entry)) sources (now (ages .entry)) (now (ages .exit)) ⌝ }
+{
+    let mut u: usize = 0;
+    while u < sources {
+        ages[u] = aged(ages[u], gaps[u]);
+        u += 1;
+    }
+}
+
+// One tick: the four steps.
+pub fn step(
+    p: Plan,
+    marks: &[bool; 16],
+    finish: bool,
+    awake: &mut [bool; 32],
+    used: &mut [u32; 32],
+    waiting: &mut [bool; 256],
+    dropped: &mut [bool; 256],
+    ages: &mut [u32; 16],
+)
+    requires { ⌜ Sound p × Countable (now used) ⌝ }
+    ensures { λ _. ⌜ Steps p (now (marks .entry)) finish (parts (now (awake .entry)) (now (used .entry)) (now (waiting .entry)) (now (dropped .entry)) (now (ages .entry))) (parts (now (awake .exit)) (now (used .exit)) (now (waiting .exit)) (now (dropped .exit)) (now (ages .exit))) ⌝ }
+{
+    let links = p.links;
+    let tasks = p.tasks;
+    let sources = p.sources;
+    arrive(
+        &p.from,
+        &p.to,
+        links,
+        marks,
+        sources,
+        &mut *awake,
+        &mut *waiting,
+        &mut *dropped,
+        &mut *ages,
+    );
+    let h = highest(awake, tasks);
+    run_task(h, &mut *used);
+    end_run(
+        &p.from,
+        &p.to,
+        links,
+        &p.runs,
+        h,
+        finish,
+        &mut *awake,
+        &mut *used,
+        &mut *waiting,
+        &mut *dropped,
+    );
+    age_all(&p.gaps, sources, &mut *ages);
+}

@@ -1,0 +1,85 @@
+-- The public calls by their tests: judged, the knob, then the plain machine. Assumes nothing.
+use Prim.Native.Nat.{ℕ, _+_, _-_, _≤_, _<_}
+use mathlib.Core.Path.{_≡_, refl, sym, ap, _∙_}
+use mathlib.Core.Bool.{Bool, true, false, cond, _&&_}
+use mathlib.Core.List.{List}
+use native.Mathlib.Omega.{arith}
+use lib.Dec.{leb}
+use borrow.Author.Tests.{le-leb, lt-leb, leb-true}
+use Rattle.model.specs.declared.Description.{Description}
+use Rattle.model.specs.declared.Machine.{Machine}
+use Rattle.model.specs.declared.Arrivals.{Arrivals}
+use Rattle.model.specs.declared.Ticked.{Ticked}
+use Rattle.model.specs.declared.Refusal.{Refusal}
+use Rattle.model.specs.declared.Refusal.the-variants.{OffKnob}
+use Rattle.model.specs.declared.Outcome.{Outcome}
+use Rattle.model.specs.declared.Outcome.the-variants.{Done, Refused}
+use Rattle.model.specs.Refusals.{onDone}
+use Rattle.model.specs.File.{Widths, judge}
+use Rattle.model.specs.Verdicts.{judgeAt, onKnob}
+use Rattle.model.specs.Machine.{idle, started, judgeTick, plainTick}
+use Rattle.model.specs.History.{Call}
+use Rattle.theory.proofs.Tests.{not-both, and-left, and-right, both, and-false-left, and-false-right}
+use Rattle.theory.proofs.WellFormed.{WellFormed}
+use Rattle.theory.proofs.FileLaws.{judge-well-formed}
+use Rattle.machine.specs.Run.{RunOf}
+use Rattle.ticks.specs.Calls.{unstarted, untouched, RunCall}
+
+refused-not : {r : Refusal} {p : ℕ} → Refused r p ≡ Done → ⊥
+refused-not e = let z : _≡_ {A = ℕ} 0 1 = cc in omega arith
+
+module _ (d : Description) (t : ℕ) where
+  pub at-refused : (r : Refusal) (p : ℕ) → judge d ≡ Refused r p → Refused r p ≡ judgeAt d t
+  unfolding judgeAt
+  at-refused r p e = rw e
+
+  pub at-slow : judge d ≡ Done → t < 200 → Refused OffKnob 0 ≡ judgeAt d t
+  unfolding judgeAt
+  at-slow e h = rw (e, and-false-left (leb 200 t) (leb t 3000) (lt-leb 200 t h))
+
+  pub at-fast : judge d ≡ Done → 3000 < t → Refused OffKnob 0 ≡ judgeAt d t
+  unfolding judgeAt
+  at-fast e h = rw (e, and-false-right (leb 200 t) (leb t 3000) (lt-leb t 3000 h))
+
+  pub at-done : judge d ≡ Done → 200 ≤ t → t ≤ 3000 → Done ≡ judgeAt d t
+  unfolding judgeAt
+  at-done e a b = rw (e, both (leb 200 t) (leb t 3000) (le-leb 200 t a) (le-leb t 3000 b))
+
+  -- what is known once a description is judged at a tempo
+  pub at-known : Widths d → judgeAt d t ≡ Done → WellFormed d × (200 ≤ t) × (t ≤ 3000)
+  unfolding judgeAt
+  at-known w = go (judge d) refl (onKnob t) refl
+    where
+      go : (o : Outcome) → judge d ≡ o → (b : Bool) → onKnob t ≡ b → onDone o (cond b (let x : Outcome = Done in x) (Refused OffKnob 0)) Refused ≡ Done → WellFormed d × (200 ≤ t) × (t ≤ 3000)
+      go Done e true k f = (judge-well-formed d w e, leb-true 200 t (and-left (leb 200 t) (leb t 3000) k), leb-true t 3000 (and-right (leb 200 t) (leb t 3000) k))
+      go Done e false k f = absurd (refused-not f)
+      go (Refused r p) e b k f = absurd (refused-not f)
+
+  pub start-refused : (r : Refusal) (p : ℕ) → judgeAt d t ≡ Refused r p → unstarted r p ≡ started d t
+  unfolding started
+  start-refused r p e = rw e
+
+  pub start-done : (m : Machine) → judgeAt d t ≡ Done → m ≡ idle d t → _≡_ {A = Ticked} (record { outcome = Done; machine = m }) (started d t)
+  unfolding started
+  start-done m e q = rw e (ap (λ (x : Machine). let r : Ticked = record { outcome = Done; machine = x } in r) q)
+
+  pub tick-refused : (m : Machine) (a : Arrivals) (f : Bool) (r : Refusal) (p : ℕ) → judgeAt d t ≡ Refused r p → untouched r p m ≡ plainTick d t m a f
+  unfolding plainTick judgeTick
+  tick-refused m a f r p e = rw e
+
+  pub run-refused : (cs : List Call) (b : List ℕ) (r : Refusal) (p : ℕ) (x : Ticked) → judgeAt d t ≡ Refused r p → x ≡ unstarted r p → RunCall d t cs b b x
+  run-refused cs b r p x e q =
+      record {
+        refused = λ r′ p′ e′. (q ∙ same r p r′ p′ (sym e ∙ e′), refl);
+        done = λ e′. absurd (refused-not (sym e ∙ e′));
+      }
+    where
+      same : (a : Refusal) (i : ℕ) (b : Refusal) (j : ℕ) → Refused a i ≡ Refused b j → unstarted a i ≡ unstarted b j
+      same a i b j h = ap (λ (o : Outcome). let y : Ticked = record { outcome = o; machine = unstarted a i .machine } in y) h
+
+  pub run-done : (cs : List Call) (b b′ : List ℕ) (x : Ticked) → judgeAt d t ≡ Done → RunOf d t cs b b′ x → RunCall d t cs b b′ x
+  run-done cs b b′ x e g =
+      record {
+        refused = λ r p e′. absurd (refused-not (sym e′ ∙ e));
+        done = λ e′. g;
+      }

@@ -1,0 +1,138 @@
+// The public calls of the tick machine: a start, one tick, and a run of many ticks. Each judges its description itself.
+
+use machine::run::run_judged;
+use machine::tick::tick_judged;
+use model::Arrivals;
+use model::Description;
+use model::Machine;
+use model::Outcome;
+use model::Refusal;
+use model::Ticked;
+use steps::plan::idle_of;
+use steps::plan::plan_of;
+use verdicts::rounds::spacing_at;
+ghost use mathlib.Core.Path.{_≡_};
+ghost use Prim.Native.Nat.{ℕ, _≤_};
+ghost use Rattle.model.specs.Machine.{started, plainTick};
+ghost use Rattle.model.specs.Verdicts.{judgeAt};
+ghost use Rattle.theory.proofs.WellFormed.{WellFormed};
+ghost use Rattle.steps.specs.Parts.{GapsOf};
+ghost use Rattle.machine.specs.Run.{callsIn};
+ghost use Rattle.ticks.specs.Calls.{unstarted, untouched, RunCall};
+
+// The spacing of each source at tempo t.
+pub fn gaps_of(d: Description, t: u32) -> [u32; 16]
+    requires { ⌜ WellFormed d × (200 ≤ t) × (t ≤ 3000) ⌝ }
+    ensures { λ r. ⌜ GapsOf d t r ⌝ }
+{
+    let mut gaps = [0u32; 16];
+    let mut u: usize = 0;
+    while u < d.source_count {
+        let slot = d.sources[u];
+        let source = slot.source;
+        gaps[u] = spacing_at(source, t);
+        u += 1;
+    }
+    gaps
+}
+
+// Refusals 1 to 10 as judged, then 11.
+fn judge_at(d: Description, t: u32) -> Outcome
+    ensures { λ r. ⌜ r ≡ judgeAt d t ⌝ }
+{
+    let judged = files::judge(d);
+    let Outcome::Done = judged else {
+        return judged;
+    };
+    if t < 200 {
+        return Outcome::Refused(Refusal::OffKnob, 0);
+    }
+    if 3000 < t {
+        return Outcome::Refused(Refusal::OffKnob, 0);
+    }
+    Outcome::Done
+}
+
+// Beside a refused start the record is all zeros.
+fn refused_start(why: Refusal, place: usize) -> Ticked
+    ensures { λ r. ⌜ r ≡ unstarted why place ⌝ }
+{
+    let awake = [false; 32];
+    let used = [0u32; 32];
+    let waiting = [false; 256];
+    let dropped = [false; 256];
+    let ages = [0u32; 16];
+    Ticked {
+        outcome: Outcome::Refused(why, place),
+        machine: Machine {
+            awake,
+            used,
+            waiting,
+            dropped,
+            ages,
+        },
+    }
+}
+
+// A refused tick leaves the record as it was.
+fn refused_tick(why: Refusal, place: usize, m: Machine) -> Ticked
+    ensures { λ r. ⌜ r ≡ untouched why place m ⌝ }
+{
+    Ticked {
+        outcome: Outcome::Refused(why, place),
+        machine: m,
+    }
+}
+
+// The idle record of a description at tempo t.
+pub fn start(d: Description, t: u32) -> Ticked
+    ensures { λ r. ⌜ r ≡ started d t ⌝ }
+{
+    let judged = judge_at(d, t);
+    if let Outcome::Refused(why, place) = judged {
+        return refused_start(why, place);
+    }
+    let gaps = gaps_of(d, t);
+    let plan = plan_of(d, gaps);
+    let m = idle_of(plan);
+    Ticked {
+        outcome: Outcome::Done,
+        machine: m,
+    }
+}
+
+// One tick of a record by value.
+pub fn tick_value(d: Description, t: u32, m: Machine, a: Arrivals, finish: bool) -> Ticked
+    ensures { λ r. ⌜ r ≡ plainTick d t m a finish ⌝ }
+{
+    let judged = judge_at(d, t);
+    if let Outcome::Refused(why, place) = judged {
+        return refused_tick(why, place, m);
+    }
+    let gaps = gaps_of(d, t);
+    let plan = plan_of(d, gaps);
+    tick_judged(plan, m, a, finish)
+}
+
+// Many tick calls from the start, with the description judged once. A call has four bytes: the mask of its arrivals, high byte
+// first, whose lowest bit is source 33; finish, unless it is 0; and one that is not looked at. Its refusal's number, or 0, goes to
+// its byte of the buffer.
+pub fn run(d: Description, t: u32, calls: &[u8], outcomes: &mut [u8]) -> Ticked
+    ensures { λ r. ⌜ RunCall d t (callsIn (now (calls .entry))) (now (outcomes .entry)) (now (outcomes .exit)) r ⌝ }
+{
+    let judged = judge_at(d, t);
+    if let Outcome::Refused(why, place) = judged {
+        return refused_start(why, place);
+    }
+    let gaps = gaps_of(d, t);
+    run_judged(d, t, gaps, calls, outcomes)
+}
+
+// The caller's own record is advanced by one tick; a refusal leaves it as it was.
+pub fn tick(d: Description, t: u32, m: &mut Machine, a: Arrivals, finish: bool) -> Outcome
+    ensures { λ r. ⌜ (r ≡ plainTick d t (now (m .entry)) a finish .outcome) × (now (m .exit) ≡ plainTick d t (now (m .entry)) a finish .machine) ⌝ }
+{
+    let r = tick_value(d, t, *m, a, finish);
+    *m = r.machine;
+    r.outcome
+}

@@ -1,0 +1,273 @@
+// The figures of document 01 and document 000's printed example, run and compared. A line for each group says how many agree.
+
+use cases::Tally;
+use libc::STDOUT_FILENO;
+
+mod build;
+mod cases;
+
+// Document 01's Box.
+const BOX: [u8; 57] =
+    *b"\x01\x00\x04\x00\x00\x01\x90\x01\x00\x04\x00\x00\x01\x2c\x01\x00\x04\x00\x00\x00\xc8\x03\x00\x02\x01\xe0\x02\x00\x04\x00\x00\x07\xd0\x04\x00\x03\x02\x01\x00\x04\x00\x03\x02\x03\x01\x04\x00\x03\x21\x02\x01\x04\x00\x03\x22\x03\x01";
+
+// Document 01's Twin: runs 2, 2, 2; links 1>3, 2>3, 33>1, 33>2, all critical.
+fn twin(spacing: u8) -> [u8; 52] {
+    let mut file =
+        *b"\x01\x00\x04\x00\x00\x00\x02\x01\x00\x04\x00\x00\x00\x02\x01\x00\x04\x00\x00\x00\x02\x02\x00\x04\x00\x00\x00\x00\x04\x00\x03\x01\x03\x01\x04\x00\x03\x02\x03\x01\x04\x00\x03\x21\x01\x01\x04\x00\x03\x21\x02\x01";
+    file[27] = spacing;
+    file
+}
+
+// Document 000's Figure 1: runs 2, 1, 2, 1, 2; source 33 has the spacing 20; a reading of source 34 may be missed.
+fn paper(spacing: u8) -> [u8; 97] {
+    let mut file =
+        *b"\x01\x00\x04\x00\x00\x00\x02\x01\x00\x04\x00\x00\x00\x01\x01\x00\x04\x00\x00\x00\x02\x01\x00\x04\x00\x00\x00\x01\x01\x00\x04\x00\x00\x00\x02\x02\x00\x04\x00\x00\x00\x14\x02\x00\x04\x00\x00\x00\x00\x04\x00\x03\x01\x02\x01\x04\x00\x03\x01\x05\x01\x04\x00\x03\x02\x04\x01\x04\x00\x03\x04\x03\x01\x04\x00\x03\x05\x03\x01\x04\x00\x03\x05\x04\x01\x04\x00\x03\x21\x01\x01\x04\x00\x03\x22\x02\x00";
+    file[48] = spacing;
+    file
+}
+
+const PAPER_REPORT: [u8; 187] =
+    *b"tempo 300.0\nlink 1 1>2 held order\nlink 2 1>5 held order\nlink 3 2>4 held order\nlink 4 4>3 held order\nlink 5 5>3 held order\nlink 6 5>4 held order\nlink 7 33>1 held 19 of 20\nlink 8 34>2 free\n";
+
+// A longest run is 1 to 10,000,000.
+fn runs() -> Tally {
+    let t = cases::none();
+    let t = cases::reads(t, b"\x01\x00\x04\x00\x00\x00\x00", 6, 0);
+    let t = cases::reads(t, b"\x01\x00\x04\x00\x00\x00\x01", 0, 0);
+    let t = cases::reads(t, b"\x01\x00\x04\x00\x98\x96\x80", 0, 0);
+    cases::reads(t, b"\x01\x00\x04\x00\x98\x96\x81", 6, 0)
+}
+
+// A least spacing is 1 to 1,000,000,000.
+fn spacings() -> Tally {
+    let t = cases::none();
+    let t = cases::reads(
+        t,
+        b"\x01\x00\x04\x00\x00\x00\x01\x02\x00\x04\x00\x00\x00\x00",
+        6,
+        7,
+    );
+    let t = cases::reads(
+        t,
+        b"\x01\x00\x04\x00\x00\x00\x01\x02\x00\x04\x00\x00\x00\x01",
+        0,
+        0,
+    );
+    let t = cases::reads(
+        t,
+        b"\x01\x00\x04\x00\x00\x00\x01\x02\x00\x04\x3b\x9a\xca\x00",
+        0,
+        0,
+    );
+    cases::reads(
+        t,
+        b"\x01\x00\x04\x00\x00\x00\x01\x02\x00\x04\x3b\x9a\xca\x01",
+        6,
+        7,
+    )
+}
+
+// Pulses are 1 to 960.
+fn pulses() -> Tally {
+    let t = cases::none();
+    let t = cases::reads(t, b"\x01\x00\x04\x00\x00\x00\x01\x03\x00\x02\x00\x00", 6, 7);
+    let t = cases::reads(t, b"\x01\x00\x04\x00\x00\x00\x01\x03\x00\x02\x00\x01", 0, 0);
+    let t = cases::reads(t, b"\x01\x00\x04\x00\x00\x00\x01\x03\x00\x02\x03\xc0", 0, 0);
+    cases::reads(t, b"\x01\x00\x04\x00\x00\x00\x01\x03\x00\x02\x03\xc1", 6, 7)
+}
+
+// A critical number is 0 or 1.
+fn criticals() -> Tally {
+    let t = cases::none();
+    let t = cases::reads(
+        t,
+        b"\x01\x00\x04\x00\x00\x00\x01\x01\x00\x04\x00\x00\x00\x01\x04\x00\x03\x01\x02\x00",
+        0,
+        0,
+    );
+    let t = cases::reads(
+        t,
+        b"\x01\x00\x04\x00\x00\x00\x01\x01\x00\x04\x00\x00\x00\x01\x04\x00\x03\x01\x02\x01",
+        0,
+        0,
+    );
+    cases::reads(
+        t,
+        b"\x01\x00\x04\x00\x00\x00\x01\x01\x00\x04\x00\x00\x00\x01\x04\x00\x03\x01\x02\x02",
+        6,
+        14,
+    )
+}
+
+// 1 to 32 tasks, 0 to 16 sources, 0 to 256 links; the longest file has 1,872 bytes.
+fn counts() -> Tally {
+    let t = cases::none();
+    let t = cases::crowd(t, 0, 0, 0, 8, 0);
+    let t = cases::crowd(t, 32, 0, 224, 0, 0);
+    let t = cases::crowd(t, 33, 0, 231, 5, 224);
+    let t = cases::crowd(t, 1, 0, 7, 0, 0);
+    let t = cases::crowd(t, 1, 16, 119, 0, 0);
+    let t = cases::crowd(t, 1, 17, 126, 5, 119);
+    let t = cases::crowd(t, 32, 16, 336, 0, 0);
+    let t = cases::crowd(t, 32, 16, 1872, 0, 0);
+    cases::crowd(t, 32, 16, 1878, 5, 1872)
+}
+
+// A tempo is 200 to 3,000.
+fn tempos() -> Tally {
+    let t = cases::none();
+    let t = cases::judged_at(t, b"\x01\x00\x04\x00\x00\x00\x01", 199, 11);
+    let t = cases::judged_at(t, b"\x01\x00\x04\x00\x00\x00\x01", 200, 0);
+    let t = cases::judged_at(t, b"\x01\x00\x04\x00\x00\x00\x01", 3000, 0);
+    cases::judged_at(t, b"\x01\x00\x04\x00\x00\x00\x01", 3001, 11)
+}
+
+// The report of Box; a buffer that it just fills, and one that is a byte shorter; the same of the longest report.
+fn pages() -> Tally {
+    let t = cases::none();
+    let t = cases::reports(
+        t,
+        &BOX,
+        b"tempo 178.3\nlink 1 2>1 free\nlink 2 2>3 held order\nlink 3 33>2 held 700 of 701\nlink 4 34>3 held 400 of 2000\n",
+    );
+    let t = cases::fills(t, &BOX, 107, 0);
+    let t = cases::fills(t, &BOX, 106, 13);
+    let t = cases::longest(t, 11168, 0);
+    cases::longest(t, 11167, 13)
+}
+
+// Document 000, section 4.2: the delay of (7, 1) is 19, whatever the spacing of its task 6 from 10 to 14.
+// Its tasks 7 and 6 are the sources 33 and 34 here.
+fn paper_delays() -> Tally {
+    let t = cases::none();
+    let t = cases::held(t, &paper(10), 200, 7, 19, 20);
+    let t = cases::held(t, &paper(11), 200, 7, 19, 20);
+    let t = cases::held(t, &paper(12), 200, 7, 19, 20);
+    let t = cases::held(t, &paper(13), 200, 7, 19, 20);
+    cases::held(t, &paper(14), 200, 7, 19, 20)
+}
+
+// Figure 1 as a whole: every event that theorem 1 speaks of is held.
+fn paper_report() -> Tally {
+    let t = cases::none();
+    let t = cases::reports(t, &paper(10), &PAPER_REPORT);
+    cases::reports(t, &paper(14), &PAPER_REPORT)
+}
+
+// Document 000, section 4.3: every λ that it prints.
+fn paper_added() -> Tally {
+    let t = cases::none();
+    let t = cases::added(t, &paper(10), 4, 3, 2);
+    let t = cases::added(t, &paper(10), 2, 3, 2);
+    let t = cases::added(t, &paper(10), 2, 4, 1);
+    let t = cases::added(t, &paper(10), 5, 3, 2);
+    let t = cases::added(t, &paper(10), 5, 4, 1);
+    let t = cases::added(t, &paper(10), 1, 2, 4);
+    let t = cases::added(t, &paper(10), 1, 3, 2);
+    let t = cases::added(t, &paper(10), 1, 4, 1);
+    let t = cases::added(t, &paper(10), 1, 5, 2);
+    let t = cases::added(t, &paper(10), 33, 1, 11);
+    cases::added(t, &paper(10), 34, 2, 4)
+}
+
+// Document 000, section 4.2: δ(7, 1) and δ(6, 1).
+fn paper_loads() -> Tally {
+    let t = cases::none();
+    let t = cases::load(t, &paper(10), 33, 1, 11);
+    cases::load(t, &paper(10), 34, 1, 4)
+}
+
+// P1, P2, P3.
+fn marked_box() -> Tally {
+    let t = cases::none();
+    let t = cases::reads(t, b"", 8, 0);
+    let t = cases::reports(t, b"\x01\x00\x04\x00\x00\x00\x01", b"tempo 300.0\n");
+    let t = cases::load(t, &BOX, 33, 1, 900);
+    let t = cases::load(t, &BOX, 2, 3, 200);
+    let t = cases::writes_back(t, &BOX);
+    let t = cases::held(t, &BOX, 1783, 3, 700, 701);
+    cases::doubtful(t, &BOX, 1784, 3, 700)
+}
+
+// P4: Twin with the spacings 9 and 8.
+fn marked_twin() -> Tally {
+    let t = cases::none();
+    let t = cases::load(t, &twin(9), 33, 1, 8);
+    let t = cases::held(t, &twin(9), 200, 3, 8, 9);
+    let t = cases::held(t, &twin(9), 200, 4, 6, 9);
+    cases::doubtful(t, &twin(8), 200, 3, 8)
+}
+
+// P6 and P7.
+fn marked_orders() -> Tally {
+    let t = cases::none();
+    let t = cases::reports(
+        t,
+        b"\x01\x00\x04\x00\x00\x00\x01\x01\x00\x04\x00\x00\x00\x01\x01\x00\x04\x00\x00\x00\x01\x04\x00\x03\x01\x03\x00\x04\x00\x03\x03\x02\x01",
+        b"tempo 300.0\nlink 1 1>3 free\nlink 2 3>2 held order\n",
+    );
+    let t = cases::reports(
+        t,
+        b"\x01\x00\x04\x00\x00\x00\x01\x01\x00\x04\x00\x00\x00\x01\x01\x00\x04\x00\x00\x00\x01\x02\x00\x04\x00\x00\x00\x64\x04\x00\x03\x01\x03\x00\x04\x00\x03\x03\x02\x01\x04\x00\x03\x21\x03\x00",
+        b"tempo none\nlink 1 1>3 free\nlink 2 3>2 doubt order\nlink 3 33>3 free\n",
+    );
+    cases::reports(
+        t,
+        b"\x01\x00\x04\x00\x00\x00\x01\x01\x00\x04\x00\x00\x00\x01\x01\x00\x04\x00\x00\x00\x01\x01\x00\x04\x00\x00\x00\x01\x04\x00\x03\x01\x03\x00\x04\x00\x03\x01\x04\x00\x04\x00\x03\x03\x04\x00\x04\x00\x03\x04\x02\x01",
+        b"tempo none\nlink 1 1>3 free\nlink 2 1>4 free\nlink 3 3>4 free\nlink 4 4>2 doubt order\n",
+    )
+}
+
+// P8 and P10.
+fn marked_others() -> Tally {
+    let t = cases::none();
+    let t = cases::held(
+        t,
+        b"\x01\x00\x04\x00\x00\x00\x01\x03\x00\x02\x01\xe0\x04\x00\x03\x21\x01\x01",
+        1200,
+        1,
+        1,
+        1041,
+    );
+    let t = cases::held(
+        t,
+        b"\x01\x00\x04\x00\x00\x00\x01\x03\x00\x02\x00\x18\x04\x00\x03\x21\x01\x01",
+        1200,
+        1,
+        1,
+        20833,
+    );
+    cases::reads(
+        t,
+        b"\x01\x00\x04\x00\x00\x00\x01\x01\x00\x04\x00\x00\x00\x01\x04\x00\x03\x01\x02\x00\x04\x00\x03\x01\x02\x00",
+        4,
+        20,
+    )
+}
+
+fn print_group(name: &[u8], t: Tally) {
+    io::write_all(STDOUT_FILENO, name);
+    io::write_all(STDOUT_FILENO, b": ");
+    io::print_decimal(STDOUT_FILENO, t.agree);
+    io::write_all(STDOUT_FILENO, b" of ");
+    io::print_decimal(STDOUT_FILENO, t.cases);
+    io::write_all(STDOUT_FILENO, b" agree\n");
+}
+
+fn main() {
+    print_group(b"runs", runs());
+    print_group(b"spacings", spacings());
+    print_group(b"pulses", pulses());
+    print_group(b"critical numbers", criticals());
+    print_group(b"counts", counts());
+    print_group(b"tempos", tempos());
+    print_group(b"reports and buffers", pages());
+    print_group(b"document 000, delays", paper_delays());
+    print_group(b"document 000, report", paper_report());
+    print_group(b"document 000, added loads", paper_added());
+    print_group(b"document 000, loads", paper_loads());
+    print_group(b"P1 to P3", marked_box());
+    print_group(b"P4", marked_twin());
+    print_group(b"P6, P7", marked_orders());
+    print_group(b"P8, P10", marked_others());
+}

@@ -1,0 +1,204 @@
+-- Signed replies, the bytes of a record, and the quote of a file by its stages. Assumes nothing.
+use Prim.Native.Nat.{ℕ, zero, suc, _+_, _-_, _*_, _/_, _%_, _^_, _≤_, _<_}
+use mathlib.Core.Path.{_≡_, refl, sym, ap, subst, _∙_}
+use mathlib.Core.Bool.{Bool, true, false, cond}
+use mathlib.Core.List.{List, _++_}
+use native.Mathlib.Omega.{arith}
+use lib.ListN.{length, getD, set, take, drop}
+use lib.Seq.{take-all}
+use lib.Dec.{ltb}
+use lib.IntN.{ℤ, pos, negsuc, negℤ, _-ℤ_, +ℤ-idl}
+use mir.Syntax.{w64}
+use mir.Val.{SFits, toZ, ofZ, boolByte}
+use mir.ValLaws.{toZ-ofZ}
+use borrow.Author.Tests.{lt-ltb, le-ltb, eq-eqb, ne-eqb}
+use Rattle.model.specs.declared.Description.{Description}
+use Rattle.model.specs.declared.Machine.{Machine}
+use Rattle.model.specs.declared.Reading.{Reading}
+use Rattle.model.specs.declared.LoadSheet.{LoadSheet}
+use Rattle.model.specs.declared.Filled.{Filled}
+use Rattle.model.specs.declared.Filled.the-variants.{Bytes, Unfilled}
+use Rattle.model.specs.declared.Quote.{Quote}
+use Rattle.model.specs.declared.Quote.the-variants.{Tempo, Unquoted}
+use Rattle.model.specs.declared.Refusal.{Refusal}
+use Rattle.model.specs.declared.Refusal.the-variants.{CutShort, StrangeTag, WrongLength, OutOfTurn, TooMany, OffScale, NoSuchEnd, NoTask, Loop, TooHeavy, OffKnob, NoTempo, ShortPage, TooSoon, Stranger, ForeignState}
+use Rattle.model.specs.declared.Outcome.{Outcome}
+use Rattle.model.specs.declared.Outcome.the-variants.{Done, Refused}
+use Rattle.model.specs.Refusals.{numberOf, onDone}
+use Rattle.model.specs.File.{parseFile, readFile, fillWith, judge}
+use Rattle.model.specs.Report.{reportOf, reported}
+use Rattle.model.specs.Verdicts.{quoteOf, largestBelow, allHeld}
+use Rattle.theory.proofs.Table.{length-tab, getD-tab}
+use Rattle.theory.proofs.NumberBytes.{Bytes as AllBytes}
+use Rattle.theory.proofs.FileLength.{placeIn, read-place}
+use Rattle.theory.proofs.ReadBack.{read-judged}
+use Rattle.loads.specs.Tables.{checkedLoads}
+use Rattle.fields.specs.Steps.{parseAt}
+use Rattle.files.proofs.Laws.{parse-start, file-refused, file-unchecked, file-checked}
+use Rattle.quotes.specs.declared.Quoted.{Quoted}
+use Rattle.quotes.specs.Quoted.{quotedOf}
+use Rattle.quotes.proofs.Laws.{quote-judged}
+use Rattle.machine.proofs.RunLaws.{store-turn}
+use Rattle.library.specs.Replies.{bit, byteIn, quotedFile, recordByte, recordBytes}
+
+-- a number below 2 ^ 32 and its negative, as 64 bits with a sign
+pub pos-fits : (x : ℕ) → x < 2 ^ 32 → SFits w64 (pos x)
+pos-fits x h = record { sfits = omega arith }
+
+neg-fits : (x : ℕ) → x < 2 ^ 32 → SFits w64 (negℤ (pos x))
+neg-fits zero h = record { sfits = omega arith }
+neg-fits (suc n) h = record { sfits = omega arith }
+
+back-pos : (r : ℤ) (x : ℕ) → r ≡ pos x → x < 2 ^ 32 → toZ w64 (ofZ w64 r) ≡ pos x
+back-pos r x e h = ap (λ (z : ℤ). toZ w64 (ofZ w64 z)) e ∙ toZ-ofZ w64 (pos x) (pos-fits x h)
+
+pub below-is : (r : ℤ) (x : ℕ) → r ≡ pos x → x < 2 ^ 32 → pos 0 -ℤ toZ w64 (ofZ w64 r) ≡ negℤ (pos x)
+below-is r x e h = ap (λ (z : ℤ). pos 0 -ℤ z) (back-pos r x e h) ∙ +ℤ-idl (negℤ (pos x))
+
+pub below-fits : (r : ℤ) (x : ℕ) → r ≡ pos x → x < 2 ^ 32 → SFits w64 (pos 0 -ℤ toZ w64 (ofZ w64 r))
+below-fits r x e h = subst (SFits w64) (sym (below-is r x e h)) (neg-fits x h)
+
+pub below : (r : ℤ) (x : ℕ) → r ≡ pos x → x < 2 ^ 32 → toZ w64 (ofZ w64 (pos 0 -ℤ toZ w64 (ofZ w64 r))) ≡ negℤ (pos x)
+below r x e h = toZ-ofZ w64 (pos 0 -ℤ toZ w64 (ofZ w64 r)) (below-fits r x e h) ∙ below-is r x e h
+
+-- refusals are numbered up to 16
+pub number-most : (r : Refusal) → numberOf r ≤ 16
+number-most CutShort = omega arith
+number-most StrangeTag = omega arith
+number-most WrongLength = omega arith
+number-most OutOfTurn = omega arith
+number-most TooMany = omega arith
+number-most OffScale = omega arith
+number-most NoSuchEnd = omega arith
+number-most NoTask = omega arith
+number-most Loop = omega arith
+number-most TooHeavy = omega arith
+number-most OffKnob = omega arith
+number-most NoTempo = omega arith
+number-most ShortPage = omega arith
+number-most TooSoon = omega arith
+number-most Stranger = omega arith
+number-most ForeignState = omega arith
+
+-- a number's four bytes
+pub byte-0 : (n k : ℕ) → k ≡ 0 → n / 16777216 % 256 ≡ byteIn n k
+byte-0 n k e = rw (eq-eqb k 0 e) refl
+
+pub byte-1 : (n k : ℕ) → (k ≡ 0 → ⊥) → k ≡ 1 → n / 65536 % 256 ≡ byteIn n k
+byte-1 n k a e = rw (ne-eqb k 0 a, eq-eqb k 1 e) refl
+
+pub byte-2 : (n k : ℕ) → (k ≡ 0 → ⊥) → (k ≡ 1 → ⊥) → k ≡ 2 → n / 256 % 256 ≡ byteIn n k
+byte-2 n k a b e = rw (ne-eqb k 0 a, ne-eqb k 1 b, eq-eqb k 2 e) refl
+
+pub byte-3 : (n k : ℕ) → (k ≡ 0 → ⊥) → (k ≡ 1 → ⊥) → (k ≡ 2 → ⊥) → n % 256 ≡ byteIn n k
+byte-3 n k a b c = rw (ne-eqb k 0 a, ne-eqb k 1 b, ne-eqb k 2 c) refl
+
+pub bool-byte : (b : Bool) → boolByte b ≡ bit b
+bool-byte true = refl
+bool-byte false = refl
+
+-- the bytes of a record, part by part
+module _ (m : Machine) (i : ℕ) where
+  pub byte-awake : i < 32 → bit (getD (m .awake) i false) ≡ recordByte m i
+  unfolding recordByte
+  byte-awake h = rw (lt-ltb i 32 h) refl
+
+  pub byte-used : 32 ≤ i → i < 160 → byteIn (getD (m .used) ((i - 32) / 4) 0) ((i - 32) % 4) ≡ recordByte m i
+  unfolding recordByte
+  byte-used a h = rw (le-ltb i 32 a, lt-ltb i 160 h) refl
+
+  pub byte-waiting : 160 ≤ i → i < 416 → bit (getD (m .waiting) (i - 160) false) ≡ recordByte m i
+  unfolding recordByte
+  byte-waiting a h = rw (le-ltb i 32 (omega arith), le-ltb i 160 a, lt-ltb i 416 h) refl
+
+  pub byte-dropped : 416 ≤ i → i < 672 → bit (getD (m .dropped) (i - 416) false) ≡ recordByte m i
+  unfolding recordByte
+  byte-dropped a h = rw (le-ltb i 32 (omega arith), le-ltb i 160 (omega arith), le-ltb i 416 a, lt-ltb i 672 h) refl
+
+  pub byte-ages : 672 ≤ i → byteIn (getD (m .ages) ((i - 672) / 4) 0) ((i - 672) % 4) ≡ recordByte m i
+  unfolding recordByte
+  byte-ages a = rw (le-ltb i 32 (omega arith), le-ltb i 160 (omega arith), le-ltb i 416 (omega arith), le-ltb i 672 a) refl
+
+record-length : (m : Machine) → length (recordBytes m) ≡ 736
+unfolding recordBytes
+record-length m = length-tab 736 (recordByte m)
+
+-- a record is stored byte by byte
+pub record-turn : (m : Machine) (out out₁ : List ℕ) (i b : ℕ) → 736 ≤ length out → i < 736 → out₁ ≡ take i (recordBytes m) ++ drop i out → b ≡ recordByte m i → set out₁ i b ≡ take (i + 1) (recordBytes m) ++ drop (i + 1) out
+unfolding recordBytes
+record-turn m out out₁ i b h k e f =
+    store-turn out out₁ (recordBytes m) i b (omega arith) (omega (arith, record-length m)) e (f ∙ sym (getD-tab 736 (recordByte m) 0 i k))
+
+pub record-whole : (m : Machine) (out out₁ : List ℕ) (i : ℕ) → i ≡ 736 → out₁ ≡ take i (recordBytes m) ++ drop i out → out₁ ≡ recordBytes m ++ drop 736 out
+record-whole m out out₁ i q e =
+    e ∙ ap (λ k. take k (recordBytes m) ++ drop k out) q ∙ ap (λ (l : List ℕ). l ++ drop 736 out) (take-all 736 (recordBytes m) (omega (arith, record-length m)))
+
+-- the quote of a file: its fields refused, its last checks refused, or quoted
+module _ (s : List ℕ) (x : Reading) (from-start : x ≡ parseAt s 0) where
+  parsed : x ≡ parseFile s
+  parsed = from-start ∙ parse-start s
+
+  outcome-is : x .outcome ≡ parseFile s .outcome
+  outcome-is = ap (λ (r : Reading). r .outcome) parsed
+
+  pub quoted-unparsed : (r : Refusal) (p : ℕ) → x .outcome ≡ Refused r p → Unquoted r p ≡ quotedFile s
+  unfolding quotedFile
+  quoted-unparsed r p e = rw (← file-refused s r p (sym outcome-is ∙ e))
+
+  module _ (y : LoadSheet) (checked : y ≡ checkedLoads (x .description)) (done : x .outcome ≡ Done) where
+    last-is : y .outcome ≡ checkedLoads (parseFile s .description) .outcome
+    last-is = ap (λ (l : LoadSheet). l .outcome) checked ∙ ap (λ (r : Reading). checkedLoads (r .description) .outcome) parsed
+
+    pub quoted-unchecked : (r : Refusal) (p : ℕ) → y .outcome ≡ Refused r p → Unquoted r p ≡ quotedFile s
+    unfolding quotedFile
+    quoted-unchecked r p e = rw (← file-unchecked s r p (sym outcome-is ∙ done) (sym last-is ∙ e))
+
+    pub quoted-done : AllBytes s → y .outcome ≡ Done → (q : Quoted) → q ≡ quotedOf (x .description) → q .quote ≡ quotedFile s
+    unfolding quotedFile
+    quoted-done b e q f =
+        let whole : x ≡ readFile s = parsed ∙ file-checked s (sym outcome-is ∙ done) (sym last-is ∙ e) in
+        let accepted : readFile s .outcome ≡ Done = sym (ap (λ (r : Reading). r .outcome) whole) ∙ done in
+        ap (λ (k : Quoted). k .quote) f
+        ∙ ap (λ (r : Reading). quotedOf (r .description) .quote) whole
+        ∙ quote-judged (readFile s .description) (read-judged s b accepted)
+        ∙ sym (rw accepted refl)
+
+-- the place of its refusal
+abbrev quotePlace : Quote → ℕ
+quotePlace (Tempo t) = 0
+quotePlace (Unquoted r p) = p
+
+lowest-place : (good : ℕ → Bool) (n : ℕ) → quotePlace (largestBelow good n) ≡ 0
+unfolding largestBelow
+lowest-place good zero = refl
+lowest-place good (suc n) = go (good (200 + n)) (lowest-place good n)
+  where
+    go : (b : Bool) → quotePlace (largestBelow good n) ≡ 0 → quotePlace (elim b [ true ↦ Tempo (200 + n) | false ↦ largestBelow good n ]) ≡ 0
+    go true h = refl
+    go false h = h
+
+quoted-most : (s : List ℕ) → AllBytes s → quotePlace (quotedFile s) ≤ 2128
+unfolding quotedFile quoteOf
+quoted-most s b = go (readFile s .outcome) refl
+  where
+    go : (o : Outcome) → readFile s .outcome ≡ o → quotePlace (onDone (readFile s .outcome) (onDone (judge (readFile s .description)) (largestBelow (allHeld (readFile s .description)) 2801) Unquoted) Unquoted) ≤ 2128
+    go Done e = rw (e, read-judged s b e) (omega (arith, lowest-place (allHeld (readFile s .description)) 2801))
+    go (Refused r p) e = rw e (rw e at (read-place s))
+
+pub quoted-place : (s : List ℕ) (q : Quote) (r : Refusal) (p : ℕ) → AllBytes s → q ≡ quotedFile s → q ≡ Unquoted r p → p ≤ 2128
+quoted-place s q r p b e f =
+    let k : quotePlace (quotedFile s) ≡ p = sym (ap quotePlace e) ∙ ap quotePlace f in
+    omega (arith, quoted-most s b)
+
+-- a report's length fits
+pub filled-most : (s out : List ℕ) (f : Filled) (n : ℕ) → length (reportOf s) ≤ 11168 → f ≡ reported s out → f ≡ Bytes n → n ≤ 11168
+unfolding reported fillWith
+filled-most s out f n h e g = go (ltb (length out) (length (reportOf s))) refl
+  where
+    count : Filled → ℕ
+    count (Bytes k) = k
+    count (Unfilled r p) = 0
+
+    go : (b : Bool) → ltb (length out) (length (reportOf s)) ≡ b → n ≤ 11168
+    go true q = let e′ : f ≡ Unfilled ShortPage 0 = e ∙ rw q refl in let k : 0 ≡ n = sym (ap count e′) ∙ ap count g in omega arith
+    go false q = let e′ : f ≡ Bytes (length (reportOf s)) = e ∙ rw q refl in let k : length (reportOf s) ≡ n = sym (ap count e′) ∙ ap count g in omega arith

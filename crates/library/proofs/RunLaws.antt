@@ -1,0 +1,95 @@
+-- A run for C and Rust by its checks: the file, the knob, the buffers, then the calls. Assumes nothing.
+use Prim.Native.Nat.{ℕ, _+_, _/_, _≤_, _<_}
+use mathlib.Core.Path.{_≡_, refl, sym, ap, _∙_}
+use mathlib.Core.Bool.{Bool, true, false, cond, _||_}
+use mathlib.Core.List.{List, _++_}
+use native.Mathlib.Omega.{arith}
+use lib.ListN.{length, drop}
+use lib.Dec.{ltb, leb}
+use lib.IntN.{pos}
+use borrow.Author.Tests.{lt-ltb, le-ltb, lt-leb, le-leb}
+use Rattle.model.specs.declared.Description.{Description}
+use Rattle.model.specs.declared.Machine.{Machine}
+use Rattle.model.specs.declared.Reading.{Reading}
+use Rattle.model.specs.declared.Ticked.{Ticked}
+use Rattle.model.specs.declared.Refusal.{Refusal}
+use Rattle.model.specs.declared.Refusal.the-variants.{OffKnob, ShortPage}
+use Rattle.model.specs.declared.Outcome.{Outcome}
+use Rattle.model.specs.declared.Outcome.the-variants.{Done, Refused}
+use Rattle.model.specs.File.{readFile, filledBy}
+use Rattle.model.specs.Verdicts.{judgeAt}
+use Rattle.model.specs.Machine.{idle}
+use Rattle.model.specs.History.{left}
+use Rattle.theory.proofs.Tests.{and-false-left, and-false-right, both, or-left, or-right, or-false}
+use Rattle.theory.proofs.WellFormed.{WellFormed}
+use Rattle.theory.proofs.NumberBytes.{Bytes as AllBytes}
+use Rattle.theory.proofs.FileLength.{placeIn, read-place}
+use Rattle.theory.proofs.FileLaws.{judge-well-formed}
+use Rattle.theory.proofs.ReadBack.{read-judged, read-whence}
+use Rattle.machine.specs.Run.{callsIn, page, ran}
+use Rattle.machine.proofs.RunLaws.{calls-length}
+use Rattle.ticks.proofs.Laws.{at-done}
+use Rattle.library.specs.Replies.{refusalCode, recordBytes, runOutcome, runReply, codesAfter, recordAfter}
+
+module _ (s : List ℕ) (x : Reading) (whole : x ≡ readFile s) where
+  outcome-is : x .outcome ≡ readFile s .outcome
+  outcome-is = ap (λ (r : Reading). r .outcome) whole
+
+  pub read-most : (r : Refusal) (p : ℕ) → x .outcome ≡ Refused r p → p ≤ 2128
+  read-most r p e =
+      let k : placeIn (readFile s .outcome) ≡ p = ap placeIn (sym outcome-is ∙ e) in
+      omega (arith, read-place s)
+
+  pub read-good : AllBytes s → x .outcome ≡ Done → WellFormed (x .description)
+  read-good b e =
+      let a : readFile s .outcome ≡ Done = sym outcome-is ∙ e in
+      rw whole (judge-well-formed (readFile s .description) (read-whence s b a .widths) (read-judged s b a))
+
+  pub read-done : AllBytes s → x .outcome ≡ Done → (t : ℕ) → 200 ≤ t → t ≤ 3000 → judgeAt (x .description) t ≡ Done
+  read-done b e t l h =
+      let a : readFile s .outcome ≡ Done = sym outcome-is ∙ e in
+      rw whole (sym (at-done (readFile s .description) t (read-judged s b a) l h))
+
+  module _ (t : ℕ) (calls outcomes out : List ℕ) where
+    -- the refusals in their order
+    pub run-unread : (r : Refusal) (p : ℕ) → x .outcome ≡ Refused r p → runOutcome s t calls outcomes out ≡ Refused r p
+    unfolding runOutcome
+    run-unread r p e = rw (sym outcome-is ∙ e) refl
+
+    pub run-slow : x .outcome ≡ Done → t < 200 → runOutcome s t calls outcomes out ≡ Refused OffKnob 0
+    unfolding runOutcome
+    run-slow e h = rw (sym outcome-is ∙ e, and-false-left (leb 200 t) (leb t 3000) (lt-leb 200 t h)) refl
+
+    pub run-fast : x .outcome ≡ Done → 3000 < t → runOutcome s t calls outcomes out ≡ Refused OffKnob 0
+    unfolding runOutcome
+    run-fast e h = rw (sym outcome-is ∙ e, and-false-right (leb 200 t) (leb t 3000) (lt-leb t 3000 h)) refl
+
+    module _ (done : x .outcome ≡ Done) (low : 200 ≤ t) (high : t ≤ 3000) where
+      short : (a b : Bool) → ltb (length out) 736 ≡ a → ltb (length outcomes) (length calls / 4) ≡ b → runOutcome s t calls outcomes out ≡ cond (a || b) (Refused ShortPage 0) Done
+      unfolding runOutcome
+      short a b p q =
+          rw (sym outcome-is ∙ done, both (leb 200 t) (leb t 3000) (le-leb 200 t low) (le-leb t 3000 high), p, q) refl
+
+      pub run-short-record : length out < 736 → runOutcome s t calls outcomes out ≡ Refused ShortPage 0
+      run-short-record h = short true (ltb (length outcomes) (length calls / 4)) (lt-ltb (length out) 736 h) refl
+
+      pub run-short-codes : 736 ≤ length out → length outcomes < length calls / 4 → runOutcome s t calls outcomes out ≡ Refused ShortPage 0
+      run-short-codes k h = short false true (le-ltb (length out) 736 k) (lt-ltb (length outcomes) (length calls / 4) h)
+
+      pub run-whole : 736 ≤ length out → length calls / 4 ≤ length outcomes → runOutcome s t calls outcomes out ≡ Done
+      run-whole k h = short false false (le-ltb (length out) 736 k) (le-ltb (length outcomes) (length calls / 4) h)
+
+    -- what is answered and left
+    pub run-refused : (d : Description) (r : Refusal) (p : ℕ) → runOutcome s t calls outcomes out ≡ Refused r p → (refusalCode r p ≡ runReply (runOutcome s t calls outcomes out)) × (outcomes ≡ codesAfter (runOutcome s t calls outcomes out) d t calls outcomes) × (out ≡ recordAfter (runOutcome s t calls outcomes out) d t calls out)
+    run-refused d r p e = (rw e refl, rw e refl, rw e refl)
+
+    pub run-machine : (y : Ticked) → length calls / 4 ≤ length outcomes → y ≡ ran (x .description) t (callsIn calls) outcomes → y .machine ≡ left (x .description) t (idle (x .description) t) (callsIn calls)
+    run-machine y h e =
+        ap (λ (k : Ticked). k .machine) e
+        ∙ rw (le-ltb (length outcomes) (length (callsIn calls)) (omega (arith, calls-length calls))) refl
+
+    pub run-does : (m : Machine) (codes′ out′ : List ℕ) → runOutcome s t calls outcomes out ≡ Done → m ≡ left (x .description) t (idle (x .description) t) (callsIn calls) → codes′ ≡ filledBy (page (x .description) t (callsIn calls)) outcomes → out′ ≡ recordBytes m ++ drop 736 out → (pos 0 ≡ runReply (runOutcome s t calls outcomes out)) × (codes′ ≡ codesAfter (runOutcome s t calls outcomes out) (readFile s .description) t calls outcomes) × (out′ ≡ recordAfter (runOutcome s t calls outcomes out) (readFile s .description) t calls out)
+    run-does m codes′ out′ e f g h =
+        let filled : codes′ ≡ filledBy (page (readFile s .description) t (callsIn calls)) outcomes = g ∙ ap (λ (r : Reading). filledBy (page (r .description) t (callsIn calls)) outcomes) whole in
+        let stored : out′ ≡ recordBytes (left (readFile s .description) t (idle (readFile s .description) t) (callsIn calls)) ++ drop 736 out = h ∙ ap (λ (k : Machine). recordBytes k ++ drop 736 out) (f ∙ ap (λ (r : Reading). left (r .description) t (idle (r .description) t) (callsIn calls)) whole) in
+        (rw e refl, rw e filled, rw e stored)

@@ -1,0 +1,49 @@
+-- `bench_quote` meets its contract. Assumes nothing.
+use Rattle.library.proofs.Laws.{quoted-place}
+use mathlib.Core.Path.{_≡_, sym, ap, _∙_}
+use lib.IntN.{ℤ}
+use mir.Syntax.{w64}
+use mir.ValLaws.{toZ-ofZ}
+use Rattle.model.specs.declared.Quote.{Quote}
+use Rattle.library.specs.Replies.{quoteReply}
+use borrow.Author.Needs.{needs}
+use Rattle.library.proofs.bench_quote.Statement.{statement}
+use Rattle.library.proofs.bench_quote.Tie as tie
+use Rattle.library.proofs.bench_quote.Reads as reads
+use Rattle.library.proofs.bench_quote.Lts as lts
+use Rattle.library.proofs.positive.Reads as positive-reads
+use Rattle.library.proofs.quote_file.Reads as quote-file-reads
+use Rattle.library.proofs.refusal_code.Reads as refusal-code-reads
+
+quote-file-requires : tie.Need-quote-file-requires
+quote-file-requires c κs = search needs
+
+enum-known-quote : tie.Need-enum-known-quote
+enum-known-quote c = search needs
+
+positive-requires : tie.Need-positive-requires
+positive-requires c κs = search needs
+
+enum-known-quote-2 : tie.Need-enum-known-quote-2
+enum-known-quote-2 c = search needs
+
+refusal-code-requires : tie.Need-refusal-code-requires
+refusal-code-requires c κs = let w = c .before .quote2 .given in quoted-place (c .before .before .before .before .before .args .file .now) (c .before .before .before .quote-file .result) (w .0 .0) (w .0 .1 .0) (λ i. c .before .before .before .before .shared-slice-known .given i .fits) (c .before .before .before .quote-file .ensures) (w .1)
+
+returns : tie.Need-returns
+returns c = toZ-ofZ w64 (c .positive .result) (record { sfits = c .positive .ok }) ∙ c .positive .ensures ∙ ap (λ (q : Quote). quoteReply q) (sym (c .before .before .quote .given .1) ∙ c .before .before .before .before .quote-file .ensures)
+
+returns-2 : tie.Need-returns-2
+returns-2 c = toZ-ofZ w64 (c .refusal-code .result) (record { sfits = c .refusal-code .ok }) ∙ c .refusal-code .ensures ∙ ap (λ (q : Quote). quoteReply q) (sym (c .before .before .quote2 .given .1) ∙ c .before .before .before .before .quote-file .ensures)
+
+pub bench-quote-spec : {M : Type 1} → statement M
+bench-quote-spec =
+    tie.close
+    (tie.spec
+    quote-file-requires
+    enum-known-quote
+    positive-requires
+    enum-known-quote-2
+    refusal-code-requires
+    returns
+    returns-2)

@@ -1,0 +1,74 @@
+-- `bench_report` meets its contract. Assumes nothing.
+use Rattle.library.proofs.Laws.{number-most, filled-most}
+use mathlib.Core.Path.{_≡_, sym, ap, _∙_}
+use lib.IntN.{ℤ}
+use mir.Syntax.{w64}
+use mir.ValLaws.{toZ-ofZ}
+use Prim.Native.Nat.{ℕ}
+use native.Mathlib.Omega.{arith}
+use lib.IntN.{pos, negℤ}
+use Rattle.model.specs.declared.Filled.{Filled}
+use Rattle.report.proofs.ReportLaws.{report-length}
+use Rattle.library.specs.Replies.{reportReply}
+use borrow.Author.Needs.{needs}
+use Rattle.library.proofs.bench_report.Statement.{statement}
+use Rattle.library.proofs.bench_report.Tie as tie
+use Rattle.library.proofs.bench_report.Reads as reads
+use Rattle.library.proofs.bench_report.Lts as lts
+use Rattle.library.proofs.negative.Reads as negative-reads
+use Rattle.library.proofs.positive.Reads as positive-reads
+use Rattle.report.proofs.lines.number_of.Reads as number-of-reads
+use Rattle.report.proofs.report.Reads as report-reads
+
+report-requires : tie.Need-report-requires
+report-requires c κs = search needs
+
+enum-known-filled : tie.Need-enum-known-filled
+enum-known-filled c = search needs
+
+cast-positive : tie.Need-cast-positive
+cast-positive c = let w = c .before .filled .given in omega (arith, filled-most (c .before .before .before .before .before .before .before .before .before .args .file .now) (c .before .before .before .before .before .before .before .before .before .args .out .now) (c .before .before .before .before .before .report .result) (w .0 .0) (report-length (c .before .before .before .before .before .before .before .before .before .args .file .now) (λ i. c .before .before .before .before .before .before .before .before .shared-slice-known .given i .fits)) (c .before .before .before .before .before .report .ensures .0) (w .1))
+
+positive-requires : tie.Need-positive-requires
+positive-requires c κs = search needs
+
+enum-known-filled-2 : tie.Need-enum-known-filled-2
+enum-known-filled-2 c = search needs
+
+number-of-requires : tie.Need-number-of-requires
+number-of-requires c κs = search needs
+
+cast-negative : tie.Need-cast-negative
+cast-negative c = omega (arith, c .number-of .ensures, number-most (c .before .before .filled2 .given .0 .0))
+
+negative-requires : tie.Need-negative-requires
+negative-requires c κs = search needs
+
+same-length : tie.Need-same-length
+same-length c = search needs
+
+returns : tie.Need-returns
+returns c = (toZ-ofZ w64 (c .positive .result) (record { sfits = c .positive .ok }) ∙ c .positive .ensures ∙ ap (λ (f : Filled). reportReply f) (sym (c .before .before .filled .given .1) ∙ c .before .before .before .before .before .before .report .ensures .0), c .before .before .before .before .before .before .report .ensures .1)
+
+same-length-2 : tie.Need-same-length-2
+same-length-2 c = search needs
+
+returns-2 : tie.Need-returns-2
+returns-2 c = (toZ-ofZ w64 (c .negative .result) (record { sfits = c .negative .ok }) ∙ c .negative .ensures ∙ ap (λ (n : ℕ). negℤ (pos n)) (c .before .number-of .ensures) ∙ ap (λ (f : Filled). reportReply f) (sym (c .before .before .before .filled2 .given .1) ∙ c .before .before .before .before .before .before .before .report .ensures .0), c .before .before .before .before .before .before .before .report .ensures .1)
+
+pub bench-report-spec : {M : Type 1} → statement M
+bench-report-spec =
+    tie.close
+    (tie.spec
+    report-requires
+    enum-known-filled
+    cast-positive
+    positive-requires
+    enum-known-filled-2
+    number-of-requires
+    cast-negative
+    negative-requires
+    same-length
+    returns
+    same-length-2
+    returns-2)

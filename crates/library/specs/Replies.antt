@@ -1,0 +1,79 @@
+-- What the calls for C and Rust answer: one number, and the lent bytes as they leave them.
+use Prim.Native.Nat.{ℕ, _+_, _-_, _*_, _/_, _%_}
+use mathlib.Core.Bool.{Bool, false, cond, _||_}
+use mathlib.Core.List.{List, _++_}
+use lib.ListN.{length, getD, drop}
+use lib.Dec.{ltb, eqb}
+use lib.IntN.{ℤ, pos, negℤ}
+use Rattle.model.specs.declared.Description.{Description}
+use Rattle.model.specs.declared.Machine.{Machine}
+use Rattle.model.specs.declared.Filled.{Filled}
+use Rattle.model.specs.declared.Filled.the-variants.{Bytes, Unfilled}
+use Rattle.model.specs.declared.Quote.{Quote}
+use Rattle.model.specs.declared.Quote.the-variants.{Tempo, Unquoted}
+use Rattle.model.specs.declared.Refusal.{Refusal}
+use Rattle.model.specs.declared.Refusal.the-variants.{ShortPage, OffKnob}
+use Rattle.model.specs.declared.Outcome.{Outcome}
+use Rattle.model.specs.declared.Outcome.the-variants.{Done, Refused}
+use Rattle.model.specs.Basics.{tab}
+use Rattle.model.specs.Refusals.{numberOf, onDone}
+use Rattle.model.specs.File.{readFile, filledBy}
+use Rattle.model.specs.Verdicts.{onKnob, quoteOf}
+use Rattle.model.specs.Machine.{idle}
+use Rattle.model.specs.History.{left}
+use Rattle.machine.specs.Run.{callsIn, page}
+
+-- a refusal's number and place in one number below 0
+abbrev pub refusalCode : Refusal → ℕ → ℤ
+refusalCode r place = negℤ (pos (10000 * numberOf r + place))
+
+-- the report: how many bytes it has, or -13
+abbrev pub reportReply : Filled → ℤ
+reportReply (Bytes n) = pos n
+reportReply (Unfilled r place) = negℤ (pos (numberOf r))
+
+-- the quote of a file, as one number
+abbrev pub quoteReply : Quote → ℤ
+quoteReply (Tempo t) = pos t
+quoteReply (Unquoted r place) = refusalCode r place
+
+unfoldable pub quotedFile : List ℕ → Quote
+quotedFile s = onDone (readFile s .outcome) (quoteOf (readFile s .description)) Unquoted
+
+-- a machine's record in 736 bytes: 32 awake, 32 times 4 used, 256 waiting, 256 dropped, 16 times 4 ages, numbers high byte first
+abbrev pub bit : Bool → ℕ
+bit b = cond b 1 0
+
+-- byte k of a number's four
+abbrev pub byteIn : ℕ → ℕ → ℕ
+byteIn n k = cond (eqb k 0) (n / 16777216 % 256) (cond (eqb k 1) (n / 65536 % 256) (cond (eqb k 2) (n / 256 % 256) (n % 256)))
+
+unfoldable pub recordByte : Machine → ℕ → ℕ
+recordByte m i =
+    cond (ltb i 32) (bit (getD (m .awake) i false))
+    (cond (ltb i 160) (byteIn (getD (m .used) ((i - 32) / 4) 0) ((i - 32) % 4))
+    (cond (ltb i 416) (bit (getD (m .waiting) (i - 160) false))
+    (cond (ltb i 672) (bit (getD (m .dropped) (i - 416) false))
+    (byteIn (getD (m .ages) ((i - 672) / 4) 0) ((i - 672) % 4)))))
+
+unfoldable pub recordBytes : Machine → List ℕ
+recordBytes m = tab 736 (recordByte m)
+
+-- a run: refused as its file is, then 11, then 13 where a buffer is short; the buffers change only if it is done
+unfoldable pub runOutcome : List ℕ → ℕ → List ℕ → List ℕ → List ℕ → Outcome
+runOutcome s t calls outcomes out =
+    onDone (readFile s .outcome)
+    (cond (onKnob t)
+    (cond (ltb (length out) 736 || ltb (length outcomes) (length calls / 4)) (Refused ShortPage 0) Done)
+    (Refused OffKnob 0))
+    Refused
+
+abbrev pub runReply : Outcome → ℤ
+runReply o = onDone o (pos 0) refusalCode
+
+abbrev pub codesAfter : Outcome → Description → ℕ → List ℕ → List ℕ → List ℕ
+codesAfter o d t calls outcomes = onDone o (filledBy (page d t (callsIn calls)) outcomes) (λ r place. outcomes)
+
+abbrev pub recordAfter : Outcome → Description → ℕ → List ℕ → List ℕ → List ℕ
+recordAfter o d t calls out =
+    onDone o (recordBytes (left d t (idle d t) (callsIn calls)) ++ drop 736 out) (λ r place. out)

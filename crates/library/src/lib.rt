@@ -1,0 +1,183 @@
+// The calls for programs in C and Rust: lent bytes and numbers in, one number out. A number below 0 is a refusal.
+
+use machine::run::run_judged;
+use model::Filled;
+use model::Machine;
+use model::Outcome;
+use model::Quote;
+use model::Refusal;
+use report::lines::number_of;
+use ticks::gaps_of;
+ghost use mathlib.Core.Path.{_≡_};
+ghost use Prim.Native.Nat.{ℕ, _<_, _≤_};
+ghost use mathlib.Core.List.{_++_};
+ghost use lib.ListN.{length, drop};
+ghost use lib.IntN.{pos, negℤ};
+ghost use Rattle.model.specs.File.{readFile};
+ghost use Rattle.model.specs.Report.{reported, pageReported};
+ghost use Rattle.steps.specs.Parts.{parts};
+ghost use Rattle.library.specs.Replies.{refusalCode, reportReply, quoteReply, quotedFile, byteIn, recordByte, recordBytes, runOutcome, runReply, codesAfter, recordAfter};
+
+// x itself.
+fn positive(x: u32) -> i64
+    ensures { λ r. ⌜ r ≡ pos x ⌝ }
+{
+    x as i64
+}
+
+// x below 0.
+fn negative(x: u32) -> i64
+    ensures { λ r. ⌜ r ≡ negℤ (pos x) ⌝ }
+{
+    0 - positive(x)
+}
+
+// A refusal's number and place in one number.
+fn refusal_code(why: Refusal, place: usize) -> i64
+    requires { ⌜ place ≤ 2128 ⌝ }
+    ensures { λ r. ⌜ r ≡ refusalCode why place ⌝ }
+{
+    let number = number_of(why);
+    negative((10000 * number + place) as u32)
+}
+
+// The quote of a file.
+fn quote_file(file: &[u8]) -> Quote
+    ensures { λ r. ⌜ r ≡ quotedFile (now (file .entry)) ⌝ }
+{
+    let parsed = fields::parse(file, 0);
+    let fields = parsed.outcome;
+    if let Outcome::Refused(why, place) = fields {
+        return Quote::Unquoted(why, place);
+    }
+    let d = parsed.description;
+    let sheet = loads::last_checks(d);
+    let last = sheet.outcome;
+    if let Outcome::Refused(why, place) = last {
+        return Quote::Unquoted(why, place);
+    }
+    let rows = sheet.rows;
+    let quoted = quotes::quote_from(d, rows);
+    quoted.quote
+}
+
+// Byte k of a number's four, high byte first.
+fn byte_of(n: u32, k: usize) -> u8
+    ensures { λ r. ⌜ r ≡ byteIn n k ⌝ }
+{
+    if k == 0 {
+        return (n / 16777216 % 256) as u8;
+    }
+    if k == 1 {
+        return (n / 65536 % 256) as u8;
+    }
+    if k == 2 {
+        return (n / 256 % 256) as u8;
+    }
+    (n % 256) as u8
+}
+
+// Byte i of a machine's record.
+fn record_byte(
+    awake: &[bool; 32],
+    used: &[u32; 32],
+    waiting: &[bool; 256],
+    dropped: &[bool; 256],
+    ages: &[u32; 16],
+    i: usize,
+) -> u8
+    requires { ⌜ i < 736 ⌝ }
+    ensures { λ r. ⌜ r ≡ recordByte (parts (now (awake .entry)) (now (used .entry)) (now (waiting .entry)) (now (dropped .entry)) (now (ages .entry))) i ⌝ }
+{
+    if i < 32 {
+        return awake[i] as u8;
+    }
+    if i < 160 {
+        return byte_of(used[(i - 32) / 4], (i - 32) % 4);
+    }
+    if i < 416 {
+        return waiting[i - 160] as u8;
+    }
+    if i < 672 {
+        return dropped[i - 416] as u8;
+    }
+    byte_of(ages[(i - 672) / 4], (i - 672) % 4)
+}
+
+// A machine's record into a buffer that takes it.
+fn put_record(m: Machine, out: &mut [u8])
+    requires { ⌜ 736 ≤ length (now out) ⌝ }
+    ensures { λ _. ⌜ now (out .exit) ≡ recordBytes m ++ drop 736 (now (out .entry)) ⌝ }
+{
+    let awake = m.awake;
+    let used = m.used;
+    let waiting = m.waiting;
+    let dropped = m.dropped;
+    let ages = m.ages;
+    let mut i: usize = 0;
+    while i < 736 {
+        out[i] = record_byte(&awake, &used, &waiting, &dropped, &ages, i);
+        i += 1;
+    }
+}
+
+// The report of a file into a buffer: its length, or -13 and no byte changed.
+#[no_mangle]
+pub extern "C" fn bench_report(file: &[u8], out: &mut [u8]) -> i64
+    ensures { λ r. ⌜ (r ≡ reportReply (reported (now (file .entry)) (now (out .entry)))) × (now (out .exit) ≡ pageReported (now (file .entry)) (now (out .entry))) ⌝ }
+{
+    let filled = report::report(file, &mut *out);
+    match filled {
+        Filled::Bytes(n) => positive(n as u32),
+        Filled::Unfilled(why, _) => negative(number_of(why) as u32),
+    }
+}
+
+// The highest tempo of a file in tenths, or its refusal.
+#[no_mangle]
+pub extern "C" fn bench_quote(file: &[u8]) -> i64
+    ensures { λ r. ⌜ r ≡ quoteReply (quotedFile (now (file .entry))) ⌝ }
+{
+    let quote = quote_file(file);
+    match quote {
+        Quote::Tempo(t) => positive(t),
+        Quote::Unquoted(why, place) => refusal_code(why, place),
+    }
+}
+
+// Many tick calls from the idle start: each call's outcome and the last record into the buffers.
+#[no_mangle]
+pub extern "C" fn bench_run(
+    file: &[u8],
+    tempo: u32,
+    calls: &[u8],
+    outcomes: &mut [u8],
+    state: &mut [u8],
+) -> i64
+    ensures { λ r. ⌜ r ≡ runReply (runOutcome (now (file .entry)) tempo (now (calls .entry)) (now (outcomes .entry)) (now (state .entry))) ⌝ }
+    ensures { λ _. ⌜ now (outcomes .exit) ≡ codesAfter (runOutcome (now (file .entry)) tempo (now (calls .entry)) (now (outcomes .entry)) (now (state .entry))) (readFile (now (file .entry)) .description) tempo (now (calls .entry)) (now (outcomes .entry)) ⌝ }
+    ensures { λ _. ⌜ now (state .exit) ≡ recordAfter (runOutcome (now (file .entry)) tempo (now (calls .entry)) (now (outcomes .entry)) (now (state .entry))) (readFile (now (file .entry)) .description) tempo (now (calls .entry)) (now (state .entry)) ⌝ }
+{
+    let read = files::read(file);
+    let judged = read.outcome;
+    if let Outcome::Refused(why, place) = judged {
+        return refusal_code(why, place);
+    }
+    let d = read.description;
+    if tempo < 200 {
+        return refusal_code(Refusal::OffKnob, 0);
+    }
+    if 3000 < tempo {
+        return refusal_code(Refusal::OffKnob, 0);
+    }
+    if state.len() < 736 {
+        return refusal_code(Refusal::ShortPage, 0);
+    }
+    if outcomes.len() < calls.len() / 4 {
+        return refusal_code(Refusal::ShortPage, 0);
+    }
+    let gaps = gaps_of(d, tempo);
+    let ran = run_judged(d, tempo, gaps, calls, &mut *outcomes);
+    put_record(ran.machine, &mut *state);
+    0
+}

@@ -192,3 +192,31 @@ pub fn longest(t: Tally, size: usize, number: usize) -> Tally {
     crate::build::fill(&mut page, 32, 16);
     fills_front(t, &page, 1872, size, number)
 }
+
+// After a run of calls, four bytes each, the link at a place counted from 1 is dropped, or not.
+pub fn drops(t: Tally, file: &[u8], calls: &[u8], place: usize, expected: bool) -> Tally {
+    let r = files::read(file);
+    let d = r.description;
+    let mut outcomes = [0u8; 64];
+    let ran = ticks::run(d, 200, calls, &mut outcomes);
+    let m = ran.machine;
+    if place < 1 {
+        return counted(t, false);
+    }
+    if 256 < place {
+        return counted(t, false);
+    }
+    counted(t, m.dropped[place - 1] == expected)
+}
+
+// In a run of calls the call at a place counted from 0 is a tick, number 0, or refused with a number.
+pub fn ticks(t: Tally, file: &[u8], calls: &[u8], k: usize, number: u8) -> Tally {
+    let r = files::read(file);
+    let d = r.description;
+    let mut outcomes = [255u8; 64];
+    ticks::run(d, 200, calls, &mut outcomes);
+    if 64 <= k {
+        return counted(t, false);
+    }
+    counted(t, outcomes[k] == number)
+}

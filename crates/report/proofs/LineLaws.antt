@@ -1,13 +1,12 @@
 -- The lines of a report as the parts that are written one after the other, and their lengths. Assumes nothing.
-use Prim.Native.Nat.{ℕ, suc, _+_, _/_, _%_}
-use mathlib.Core.Path.{_≡_, refl, sym, ap, _∙_}
-use mathlib.Core.List.{List, [], _∷_, _++_, append-assoc}
+use Prim.Native.Nat.{ℕ, _+_, _/_, _%_}
+use mathlib.Core.Path.{_≡_, refl}
+use mathlib.Core.List.{[], _∷_, _++_, append-assoc}
 use native.Mathlib.Numerals.{add-one}
 use native.Mathlib.Omega.{arith}
 use lib.ListN.{length, length-append}
 use Rattle.model.specs.declared.Link.{Link}
-use Rattle.model.specs.declared.Quote.{Quote}
-use Rattle.model.specs.declared.Quote.the-variants.{Tempo, Unquoted}
+use Rattle.model.specs.declared.Quote.the-variants.{Tempo}
 use Rattle.model.specs.declared.Refusal.{Refusal}
 use Rattle.model.specs.declared.Verdict.{Verdict}
 use Rattle.model.specs.declared.Verdict.the-variants.{Held, Doubt}

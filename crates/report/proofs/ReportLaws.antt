@@ -1,24 +1,21 @@
 -- The report by the outcomes of reading, and its length. Assumes nothing.
 use Prim.Native.Nat.{ℕ, zero, suc, _+_, _≤_, _<_}
 use mathlib.Core.Path.{_≡_, refl, sym, ap, _∙_}
-use mathlib.Core.Bool.{true}
 use mathlib.Core.List.{List, [], _++_}
 use native.Mathlib.Omega.{arith}
 use borrow.Author.Tests.{lt-ltb, le-ltb}
-use lib.Dec.{ltb}
 use lib.ListN.{length, getD, take, drop, length-append}
 use lib.Seq.{take-append-seam}
 use Rattle.model.specs.declared.Description.{Description}
 use Rattle.model.specs.declared.Outcome.{Outcome}
 use Rattle.model.specs.declared.Outcome.the-variants.{Done, Refused}
-use Rattle.model.specs.declared.Reading.{Reading}
 use Rattle.model.specs.declared.Refusal.{Refusal}
 use Rattle.model.specs.declared.Filled.{Filled}
 use Rattle.model.specs.declared.Filled.the-variants.{Bytes as Bytes′, Unfilled}
 use Rattle.model.specs.declared.VerdictSlot.{VerdictSlot}
 use Rattle.model.specs.Basics.{tab, joined}
 use Rattle.model.specs.Graph.{linkAt}
-use Rattle.model.specs.File.{parseFile, lastChecks, readFile, fillWith, filledBy}
+use Rattle.model.specs.File.{parseFile, fillWith, filledBy}
 use Rattle.model.specs.Verdicts.{allHeld, largestBelow, slotAt, freeSlot, verdictAt}
 use Rattle.model.specs.Report.{linkLine, linkLines, refusedLine, reportFor, reportOf, reported, pageReported, printed}
 use Rattle.theory.proofs.NumberBytes.{Bytes}
@@ -27,7 +24,7 @@ use Rattle.theory.proofs.JudgeLaws.{LastPasses, last-passes}
 use Rattle.theory.proofs.ReadBack.{parsed-fielded}
 use Rattle.theory.proofs.RecordLaws.{joined-cut}
 use Rattle.theory.proofs.FileLength.{read-first}
-use Rattle.theory.proofs.Table.{getD-tab}
+use Rattle.theory.proofs.Table.{getD-tab, joined-more}
 use Rattle.theory.proofs.WellFormed.{WellFormed}
 use Rattle.loads.specs.Tables.{checkedLoads}
 use Rattle.loads.proofs.Checks.{checked-outcome}
@@ -89,7 +86,7 @@ listing-none d slots = refl
 
 pub listing-more : (d : Description) (slots : List VerdictSlot) (n : ℕ) → listing d slots (n + 1) ≡ listing d slots n ++ lineAt d slots n
 unfolding listing
-listing-more d slots n = Rattle.theory.proofs.Table.joined-more n (lineAt d slots)
+listing-more d slots n = joined-more n (lineAt d slots)
 
 pub listing-room : (d : Description) (slots : List VerdictSlot) (n k : ℕ) → k < n → length (listing d slots k) + length (lineAt d slots k) ≤ length (listing d slots n)
 unfolding listing

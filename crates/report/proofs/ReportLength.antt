@@ -1,22 +1,17 @@
 -- How long a report can be: 11,168 bytes. A link's line has at most 41 bytes beside its place; the places 1 to 256 have one, two or three digits; the
 -- tempo line has 12. Sixteen fixed sources of the largest spacing, each with a held link to the same sixteen tasks above the ninth, reach it. Assumes nothing.
-use Prim.Native.Nat.{ℕ, zero, suc, _+_, _-_, _*_, _/_, _^_, _<_, _≤_, min}
-use mathlib.Core.Path.{_≡_, refl, sym, ap, _∙_}
+use Prim.Native.Nat.{ℕ, zero, suc, _+_, _-_, _*_, _/_, _<_, _≤_, min}
+use mathlib.Core.Path.{_≡_, refl}
 use mathlib.Core.Bool.{Bool, true, false, cond}
-use mathlib.Core.List.{List, [], _∷_, _++_}
+use mathlib.Core.List.{List}
 use mathlib.Core.Logic.{_⊎_, ⊎-elim}
-use native.Mathlib.Numerals.{add-one}
 use native.Mathlib.Omega.{arith}
 use borrow.Author.Tests.{ltb-false}
 use lib.Dec.{ltb, eqb}
 use lib.ListN.{length, length-append}
 use Rattle.model.specs.declared.Description.{Description}
-use Rattle.model.specs.declared.Link.{Link}
 use Rattle.model.specs.declared.Refusal.{Refusal}
-use Rattle.model.specs.declared.Quote.{Quote}
-use Rattle.model.specs.declared.Quote.the-variants.{Tempo, Unquoted}
-use Rattle.model.specs.declared.Verdict.{Verdict}
-use Rattle.model.specs.declared.Verdict.the-variants.{Free, HeldOrder, DoubtOrder, Held, Doubt}
+use Rattle.model.specs.declared.Verdict.the-variants.{Free, HeldOrder, DoubtOrder}
 use Rattle.model.specs.Basics.{joined}
 use Rattle.model.specs.Refusals.{numberOf}
 use Rattle.model.specs.Graph.{System, system, linkAt, sourceAt}

@@ -1,9 +1,7 @@
 -- The report stage by stage, from the answers of the calls that make it: parsed, checked, quoted. Assumes nothing.
-use Prim.Native.Nat.{ℕ, _+_, _≤_}
+use Prim.Native.Nat.{ℕ, _+_}
 use mathlib.Core.Path.{_≡_, refl, sym, ap, _∙_}
 use mathlib.Core.List.{List, _++_}
-use native.Mathlib.Omega.{arith}
-use lib.ListN.{length, length-append}
 use Rattle.model.specs.declared.Description.{Description}
 use Rattle.model.specs.declared.LoadSheet.{LoadSheet}
 use Rattle.model.specs.declared.Outcome.the-variants.{Done, Refused}

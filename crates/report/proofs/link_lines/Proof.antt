@@ -1,11 +1,9 @@
 -- `report::link_lines` meets its contract. The loop's invariant: the lines of the first l links stand on the page. The measure is the number of
 -- links left. Assumes nothing.
-use Prim.Native.Nat.{ℕ, _+_, _-_, _<_, _≤_}
+use Prim.Native.Nat.{_+_, _-_, _≤_}
 use mathlib.Core.Path.{_≡_, sym, ap}
-use mathlib.Core.List.{List, []}
+use mathlib.Core.List.{[]}
 use native.Mathlib.Omega.{arith}
-use lib.ListN.{length}
-use borrow.Author.Needs.{needs}
 use Rattle.report.specs.Page.{Put}
 use Rattle.report.specs.Listing.{lineAt, listing}
 use Rattle.report.proofs.Pages.{put-none, put-then, put-same}

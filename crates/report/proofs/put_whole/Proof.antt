@@ -1,10 +1,8 @@
 -- `report::put_whole` meets its contract: a page for the longest report is never too short. Assumes nothing.
-use Prim.Native.Nat.{ℕ, _≤_}
-use mathlib.Core.Path.{_≡_, ap, sym, _∙_}
-use mathlib.Core.List.{List}
-use lib.ListN.{length, take}
+use mathlib.Core.Path.{_≡_}
+use lib.ListN.{length}
 use borrow.Author.Needs.{needs}
-use Rattle.model.specs.Report.{reportOf, pageReported}
+use Rattle.model.specs.Report.{reportOf}
 use Rattle.theory.proofs.NumberBytes.{Bytes}
 use Rattle.report.proofs.ReportLaws.{whole-count, whole-never, whole-fits, whole-front}
 use Rattle.report.proofs.put_whole.Statement.{statement}

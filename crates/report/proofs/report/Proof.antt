@@ -1,12 +1,12 @@
 -- `report::report` meets its contract: the page holds the report, and is copied out. Assumes nothing.
-use mathlib.Core.Path.{_≡_, ap, _∙_}
+use mathlib.Core.Path.{ap, _∙_}
 use mathlib.Core.List.{List}
 use Prim.Native.Nat.{ℕ}
 use native.Mathlib.Omega.{arith}
-use lib.ListN.{length, replicate, length-replicate}
+use lib.ListN.{length-replicate}
 use borrow.Author.Needs.{needs}
 use Rattle.model.specs.File.{fillWith, filledBy}
-use Rattle.model.specs.Report.{reportOf, reported, pageReported}
+use Rattle.model.specs.Report.{reported, pageReported}
 use Rattle.report.proofs.ReportLaws.{report-length}
 use Rattle.report.proofs.report.Statement.{statement}
 use Rattle.report.proofs.report.Tie as tie

@@ -1,9 +1,8 @@
 -- `lines::put_verdict` meets its contract. Assumes nothing.
-use mathlib.Core.Path.{_≡_}
-use mathlib.Core.List.{List, [], _∷_, _++_}
+use mathlib.Core.List.{_++_}
 use native.Mathlib.Omega.{arith}
 use borrow.Author.Needs.{needs}
-use Rattle.model.specs.Report.{decimal, wFree, wHeldOrder, wDoubtOrder, wHeld, wOf, wDoubt, verdictText}
+use Rattle.model.specs.Report.{decimal, wHeld, wOf, wDoubt, verdictText}
 use Rattle.report.proofs.LineLaws.{held-parts, doubt-parts, held-length, doubt-length}
 use Rattle.report.proofs.Pages.{put-then, put-same}
 use Rattle.report.proofs.lines.put_verdict.Statement.{statement}

@@ -1,5 +1,5 @@
 -- `lines::refused_line` meets its contract. Assumes nothing.
-use mathlib.Core.List.{List, [], _∷_, _++_}
+use mathlib.Core.List.{[], _∷_, _++_}
 use native.Mathlib.Omega.{arith}
 use borrow.Author.Needs.{needs}
 use Rattle.model.specs.Report.{decimal, wRefused, wAt, refusedLine}

@@ -1,7 +1,6 @@
 -- `lines::tempo_line` meets its contract. Assumes nothing.
 use Prim.Native.Nat.{_+_, _/_, _%_}
-use mathlib.Core.Path.{_≡_, refl}
-use mathlib.Core.List.{List, [], _∷_, _++_}
+use mathlib.Core.List.{[], _∷_, _++_}
 use native.Mathlib.Omega.{arith}
 use borrow.Author.Needs.{needs}
 use Rattle.model.specs.Report.{decimal, wTempo, tempoLine}

@@ -1,6 +1,6 @@
 -- `text::put_decimal` meets its contract: the digits of the tenth, then the last digit. The measure is the number. Assumes nothing.
-use Prim.Native.Nat.{ℕ, _≤_, _<_, _+_, _/_, _%_, _^_}
-use mathlib.Core.Path.{_≡_, refl, ap, sym, _∙_}
+use Prim.Native.Nat.{ℕ, _<_, _+_, _/_, _%_, _^_}
+use mathlib.Core.Path.{_≡_, ap, sym, _∙_}
 use mathlib.Core.List.{List, [], _∷_, _++_, append-assoc}
 use mathlib.Core.Logic.{_⊎_, ⊎-elim}
 use native.Mathlib.Omega.{arith}

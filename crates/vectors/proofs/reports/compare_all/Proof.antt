@@ -1,11 +1,11 @@
--- `vectors::compare_all` is safe and ends. The loop's invariant: the next case begins within the vectors. The measure is what is left of them.
+-- `reports::compare_all` is safe and ends. The loop's invariant: the next case begins within the vectors. The measure is what is left of them.
 -- Assumes nothing.
 use Prim.Native.Nat.{_≤_, _-_}
 use native.Mathlib.Omega.{arith}
 use lib.ListN.{length}
 use borrow.Author.Needs.{needs}
-use Rattle.vectors.proofs.compare_all.Statement.{statement}
-use Rattle.vectors.proofs.compare_all.Tie as tie
+use Rattle.vectors.proofs.reports.compare_all.Statement.{statement}
+use Rattle.vectors.proofs.reports.compare_all.Tie as tie
 
 abbrev Inv-loop : tie.InvT-loop
 Inv-loop s t₀ at₀ t at = at ≤ length s

@@ -1,9 +1,9 @@
--- `vectors::agrees` is safe and ends. Assumes nothing.
+-- `reports::agrees` is safe and ends. Assumes nothing.
 use mathlib.Core.Path.{sym}
 use lib.Seq.{length-take-le}
 use borrow.Author.Needs.{needs}
-use Rattle.vectors.proofs.agrees.Statement.{statement}
-use Rattle.vectors.proofs.agrees.Tie as tie
+use Rattle.vectors.proofs.reports.agrees.Statement.{statement}
+use Rattle.vectors.proofs.reports.agrees.Tie as tie
 
 slice-aggregate-put-whole : tie.Need-slice-aggregate-put-whole
 slice-aggregate-put-whole c = search needs

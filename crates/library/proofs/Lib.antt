@@ -1,2 +1,3 @@
+pub mod Assured
 pub mod Laws
 pub mod RunLaws

@@ -4,4 +4,5 @@ pub mod Tabled
 pub mod Walks
 pub mod Sheets
 pub mod Working
+pub mod SetLaws
 pub mod Checks

@@ -8,6 +8,7 @@ use model::Row;
 mod cycle;
 pub mod matrix;
 mod rows;
+pub mod sets;
 mod work;
 
 ghost use mathlib.Core.Path.{_≡_};

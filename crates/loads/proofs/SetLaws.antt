@@ -1,0 +1,66 @@
+-- Laws of sets as bits. Assumes nothing.
+use Prim.Native.Nat.{ℕ, zero, suc, _+_, _-_, _*_, _/_, _%_, _^_, _≤_, _<_, max}
+use mathlib.Core.Path.{_≡_, refl, sym, ap, _∙_}
+use mathlib.Core.Bool.{Bool, true, false, _||_}
+use native.Mathlib.Omega.{arith}
+use native.Mathlib.Nat.{div-eq-of-lt}
+use lib.Dec.{eqb}
+use lib.Bits.{bitOr, or-step, or-shr, shifted-even}
+use lib.Pow.{pow-lt, pow-add, shl-shr, shl-exact}
+use borrow.Author.Tests.{eq-eqb, eqb-true}
+use Rattle.theory.proofs.Tests.{Cmp, less, same, more, cmp, false-of}
+use Rattle.loads.specs.Sets.{member}
+
+odd-of : (z b m : ℕ) → z ≡ b * 2 + m → m < 2 → z % 2 ≡ m
+odd-of z b m e p = omega arith
+
+bit-or : (p q : ℕ) → p < 2 → q < 2 → eqb (max p q) 1 ≡ (eqb p 1 || eqb q 1)
+bit-or zero zero h k = refl
+bit-or zero (suc zero) h k = refl
+bit-or (suc zero) zero h k = refl
+bit-or (suc zero) (suc zero) h k = refl
+bit-or (suc (suc p)) q h k = absurd (omega arith)
+bit-or zero (suc (suc q)) h k = absurd (omega arith)
+bit-or (suc zero) (suc (suc q)) h k = absurd (omega arith)
+
+pub member-or : (a b k : ℕ) → member (bitOr a b) k ≡ (member a k || member b k)
+unfolding member
+member-or a b k =
+    let x = a / 2 ^ k in
+    let y = b / 2 ^ k in
+    ap (λ z. eqb (z % 2) 1) (or-shr a b k)
+    ∙ ap (λ z. eqb z 1) (odd-of (bitOr x y) (bitOr (x / 2) (y / 2)) (max (x % 2) (y % 2)) (or-step x y) (omega arith))
+    ∙ bit-or (x % 2) (y % 2) (omega arith) (omega arith)
+
+one-here : (k : ℕ) → member (1 * 2 ^ k) k ≡ true
+unfolding member
+one-here k = ap (λ z. eqb (z % 2) 1) (shl-shr 1 k)
+
+one-above : (k j : ℕ) → k < j → member (1 * 2 ^ k) j ≡ false
+unfolding member
+one-above k j p =
+    let small : 1 * 2 ^ k < 2 ^ j = omega (arith, pow-lt p) in
+    ap (λ z. eqb (z % 2) 1) (div-eq-of-lt small)
+
+shifted : (i j : ℕ) → 1 * 2 ^ (suc i + j) / 2 ^ j ≡ 1 * 2 ^ suc i
+shifted i j = ap (λ z. z / 2 ^ j) (omega (arith, pow-add 2 (suc i) j)) ∙ shl-shr (1 * 2 ^ suc i) j
+
+one-below : (k j i : ℕ) → k ≡ suc i + j → member (1 * 2 ^ k) j ≡ false
+unfolding member
+one-below k j i e = ap (λ k. eqb (1 * 2 ^ k / 2 ^ j % 2) 1) e ∙ ap (λ z. eqb (z % 2) 1) (shifted i j) ∙ ap (λ z. eqb z 1) (shifted-even 1 i)
+
+-- the set of k alone
+pub member-one : (k j : ℕ) → member (1 * 2 ^ k) j ≡ eqb j k
+member-one k j = go (cmp j k)
+  where
+    go : Cmp j k → member (1 * 2 ^ k) j ≡ eqb j k
+    go (less p) = one-below k j (k - suc j) (omega arith) ∙ sym (false-of (eqb j k) (λ e. omega (arith, eqb-true j k e)))
+    go (same e) = ap (λ j. member (1 * 2 ^ k) j) e ∙ one-here k ∙ sym (eq-eqb j k e)
+    go (more p) = one-above k j p ∙ sym (false-of (eqb j k) (λ e. omega (arith, eqb-true j k e)))
+
+-- the set with k besides
+pub member-with : (set k j : ℕ) → k < 64 → member (bitOr set (1 * 2 ^ k % 18446744073709551616)) j ≡ (member set j || eqb j k)
+member-with set k j p =
+    ap (λ z. member (bitOr set z) j) (shl-exact 1 k 64 (omega arith) (omega arith))
+    ∙ member-or set (1 * 2 ^ k) j
+    ∙ ap (λ b. member set j || b) (member-one k j)

@@ -1,0 +1,29 @@
+// Sets of numbers below 64, as the bits of a word.
+ghost use mathlib.Core.Path.{_≡_};
+ghost use mathlib.Core.Bool.{_||_};
+ghost use Prim.Native.Nat.{ℕ, _<_};
+ghost use lib.Dec.{eqb};
+ghost use Rattle.loads.specs.Sets.{member};
+
+// Whether k is in the set.
+pub fn has(set: u64, k: usize) -> bool
+    requires { ⌜ k < 64 ⌝ }
+    ensures { λ r. ⌜ r ≡ member set k ⌝ }
+{
+    (set >> k) % 2 == 1
+}
+
+// The set with k besides.
+pub fn with(set: u64, k: usize) -> u64
+    requires { ⌜ k < 64 ⌝ }
+    ensures { λ r. ⌜ ((j : ℕ) → member r j ≡ (member set j || eqb j k)) ⌝ }
+{
+    set | (1 << k)
+}
+
+// The members of both sets together.
+pub fn union(a: u64, b: u64) -> u64
+    ensures { λ r. ⌜ ((j : ℕ) → member r j ≡ (member a j || member b j)) ⌝ }
+{
+    a | b
+}

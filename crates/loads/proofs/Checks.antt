@@ -1,33 +1,124 @@
--- The four ways that the last checks end, and what a caller reads off their answer. Assumes nothing.
-use mathlib.Core.Path.{_≡_, refl}
-use mathlib.Core.Bool.{true, false}
+-- The four ways that the last checks end, the loads of a description that passes, and what a caller reads off. Assumes nothing.
+use Prim.Native.Nat.{ℕ, suc, _-_, _≤_, _<_}
+use mathlib.Core.Path.{_≡_, refl, sym, ap, _∙_}
+use mathlib.Core.Bool.{Bool, true, false}
+use mathlib.Core.List.{List, []}
+use native.Mathlib.Omega.{arith}
+use lib.ListN.{getD}
+use lib.Dec.{ltb}
 use borrow.Author.Tests.{eq-eqb, ne-eqb}
 use Rattle.model.specs.declared.Description.{Description}
+use Rattle.model.specs.declared.Refusal.{Refusal}
+use Rattle.model.specs.declared.Row.{Row}
 use Rattle.model.specs.declared.Refusal.the-variants.{NoTask, Loop, TooHeavy}
 use Rattle.model.specs.declared.Outcome.{Outcome}
 use Rattle.model.specs.declared.Outcome.the-variants.{Done, Refused}
 use Rattle.model.specs.Graph.{system, cyclic}
-use Rattle.model.specs.Loads.{tooHeavy, sheet}
+use Rattle.model.specs.Basics.{tab}
+use Rattle.model.specs.Loads.{load, tooHeavy, sheet, noRow}
 use Rattle.model.specs.File.{lastChecks, judge, loadSheet}
-use Rattle.loads.specs.Tables.{checkedLoads, refusedLoads}
+use Rattle.theory.proofs.Tests.{not-both, same-test}
+use Rattle.theory.proofs.Range.{Found, any-at, any-found}
+use Rattle.theory.proofs.Table.{is-tab}
+use Rattle.theory.proofs.Fielded.{Fielded}
+use Rattle.loads.specs.declared.Worked.{Worked}
+use Rattle.loads.specs.Tables.{SuccessorsOf, Closed, graph, selfIn, Ready, WorksOf, Scaled, loadBy, heavyBy, LoadsOf, SheetBy, RowsAre, WorkedOf, checkedLoads, refusedLoads}
+use Rattle.loads.proofs.Tabled.{sets-cyclic, sets-load}
+use Rattle.loads.proofs.Bringing.{self-cyclic, adds-ready, load-by}
 
+-- how the last checks end
 module _ (d : Description) where
-  pub ends-empty : d .«task_count» ≡ 0 → checkedLoads d ≡ refusedLoads NoTask
-  unfolding checkedLoads lastChecks
+  pub ends-empty : d .«task_count» ≡ 0 → lastChecks d ≡ Refused NoTask 0
+  unfolding lastChecks
   ends-empty e = rw (eq-eqb (d .«task_count») 0 e)
 
   module _ (some : d .«task_count» ≡ 0 → ⊥) where
-    pub ends-loop : cyclic (system d) ≡ true → checkedLoads d ≡ refusedLoads Loop
-    unfolding checkedLoads lastChecks
+    pub ends-loop : cyclic (system d) ≡ true → lastChecks d ≡ Refused Loop 0
+    unfolding lastChecks
     ends-loop e = rw (ne-eqb (d .«task_count») 0 some, e)
 
-    pub ends-heavy : cyclic (system d) ≡ false → tooHeavy (system d) ≡ true → checkedLoads d ≡ refusedLoads TooHeavy
-    unfolding checkedLoads lastChecks
+    pub ends-heavy : cyclic (system d) ≡ false → tooHeavy (system d) ≡ true → lastChecks d ≡ Refused TooHeavy 0
+    unfolding lastChecks
     ends-heavy e f = rw (ne-eqb (d .«task_count») 0 some, e, f)
 
-    pub ends-done : cyclic (system d) ≡ false → tooHeavy (system d) ≡ false → checkedLoads d ≡ record { outcome = Done; rows = sheet (system d) }
-    unfolding checkedLoads lastChecks
+    pub ends-done : cyclic (system d) ≡ false → tooHeavy (system d) ≡ false → lastChecks d ≡ Done
+    unfolding lastChecks
     ends-done e f = rw (ne-eqb (d .«task_count») 0 some, e, f)
+
+isDone : Outcome → Bool
+isDone Done = true
+isDone (Refused r place) = false
+
+not-done : (r : Refusal) (place : ℕ) → Refused r place ≡ Done → ⊥
+unfolding isDone
+not-done r place e = not-both {b = isDone Done} refl (sym (ap isDone e))
+
+-- a refusal comes with no works
+pub worked-refused : (d : Description) (r : Worked) (why : Refusal) → r .outcome ≡ Refused why 0 → lastChecks d ≡ Refused why 0 → WorkedOf d r
+worked-refused d r why e f = record { judged = e ∙ sym f; worked = λ g. absurd (not-done why 0 (sym f ∙ g)) }
+
+-- sets that are closed, and works over them, give a description's loads
+module _ (d : Description) (F : Fielded d) (succ adds : List ℕ) (M : SuccessorsOf d succ) (C : Closed succ (d .«task_count») adds) where
+  pub self-is : selfIn adds (d .«task_count») ≡ cyclic (system d)
+  self-is = self-cyclic succ (d .runs) (d .«task_count») adds C (F .few-tasks) ∙ sets-cyclic d succ (d .runs) F M
+
+  module _ (acyclic : cyclic (system d) ≡ false) where
+    acyclic-graph : cyclic (graph succ (d .runs) (d .«task_count»)) ≡ false
+    acyclic-graph = sets-cyclic d succ (d .runs) F M ∙ acyclic
+
+    pub sets-ready : Ready adds (d .runs) (d .«task_count»)
+    sets-ready = adds-ready succ (d .runs) (d .«task_count») adds C (F .few-tasks) acyclic-graph (F .run-most)
+
+    pub loads-of : (works : List ℕ) → WorksOf (graph adds (d .runs) (d .«task_count»)) works → Scaled works → LoadsOf d adds works
+    loads-of works W S =
+        record {
+          by-sets = λ i j N p. load-by succ (d .runs) (d .«task_count») adds C (F .few-tasks) acyclic-graph sets-ready works W i j N p ∙ sets-load d succ F M i j;
+          scaled = S;
+        }
+
+pub heavy-is : (d : Description) (adds works : List ℕ) → LoadsOf d adds works → heavyBy adds works (d .«task_count») ≡ tooHeavy (system d)
+unfolding heavyBy tooHeavy
+heavy-is d adds works L = same-test _ _ there back
+  where
+    row : (r : ℕ) → r < 48 → loadBy (getD adds r 0) works (d .«task_count») 1 ≡ load (system d) (suc r) 1
+    row r p = let e : suc r - 1 ≡ r = omega arith in rw e at (L .by-sets (suc r) 1 (omega arith, omega arith) (omega arith))
+
+    there : heavyBy adds works (d .«task_count») ≡ true → tooHeavy (system d) ≡ true
+    there e =
+        let f : Found (λ r. ltb 1000000000 (loadBy (getD adds r 0) works (d .«task_count») 1)) 0 48 = any-found _ 0 48 e in
+        any-at (λ i. ltb 1000000000 (load (system d) i 1)) 1 48 (suc (f .at)) (omega arith) (omega (arith, f .within)) (ap (ltb 1000000000) (sym (row (f .at) (f .within))) ∙ f .passes)
+
+    back : tooHeavy (system d) ≡ true → heavyBy adds works (d .«task_count») ≡ true
+    back e =
+        let f : Found (λ i. ltb 1000000000 (load (system d) i 1)) 1 48 = any-found _ 1 48 e in
+        let q : suc (f .at - 1) ≡ f .at = omega (arith, f .from) in
+        any-at (λ r. ltb 1000000000 (loadBy (getD adds r 0) works (d .«task_count») 1)) 0 48 (f .at - 1) (omega arith) (omega (arith, f .from, f .within)) (ap (ltb 1000000000) (row (f .at - 1) (omega (arith, f .from, f .within)) ∙ ap (λ i. load (system d) i 1) q) ∙ f .passes)
+
+-- rows that hold a sheet are the rows of the answer
+pub rows-are : (d : Description) (adds works : List ℕ) (t : List (List ℕ)) (rows : List Row) → LoadsOf d adds works → SheetBy adds works (d .«task_count») t → RowsAre t rows → rows ≡ sheet (system d)
+unfolding sheet
+rows-are d adds works t rows L S R =
+    is-tab
+    noRow
+    48
+    (λ r. record { loads = tab 32 (λ c. load (system d) (suc r) (suc c)) })
+    rows
+    (R .0)
+    (λ k p. R .1 k p ∙ ap row (is-tab 0 32 (λ c. load (system d) (suc k) (suc c)) (getD t k []) (S .1 k p .0) (λ c q. S .1 k p .1 c q ∙ at k c p)))
+  where
+    row : List ℕ → Row
+    row l = record { loads = l }
+
+    at : (k c : ℕ) → k < 48 → loadBy (getD adds k 0) works (d .«task_count») (suc c) ≡ load (system d) (suc k) (suc c)
+    at k c p = let e : suc k - 1 ≡ k = omega arith in rw e at (L .by-sets (suc k) (suc c) (omega arith, omega arith) (omega arith))
+
+pub sheet-refused : (d : Description) (why : Refusal) (place : ℕ) → lastChecks d ≡ Refused why place → checkedLoads d ≡ refusedLoads why place
+unfolding checkedLoads
+sheet-refused d why place e = rw e
+
+pub sheet-done : (d : Description) → lastChecks d ≡ Done → checkedLoads d ≡ record { outcome = Done; rows = sheet (system d) }
+unfolding checkedLoads
+sheet-done d e = rw e
 
 -- what a caller reads off the answer
 pub checked-outcome : (d : Description) → checkedLoads d .outcome ≡ lastChecks d

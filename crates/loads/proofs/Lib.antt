@@ -1,8 +1,9 @@
 -- Laws that the proofs of this crate's functions cite.
 pub mod Fill
 pub mod Tabled
-pub mod Walks
-pub mod Sheets
 pub mod Working
+pub mod Columns
 pub mod SetLaws
+pub mod PathLaws
+pub mod Bringing
 pub mod Checks

@@ -1,13 +1,14 @@
 -- Laws of sets as bits. Assumes nothing.
 use Prim.Native.Nat.{ℕ, zero, suc, _+_, _-_, _*_, _/_, _%_, _^_, _≤_, _<_, max}
 use mathlib.Core.Path.{_≡_, refl, sym, ap, _∙_}
-use mathlib.Core.Bool.{Bool, true, false, _||_}
+use mathlib.Core.Bool.{Bool, true, false, _||_, _&&_}
 use native.Mathlib.Omega.{arith}
-use native.Mathlib.Nat.{div-eq-of-lt}
-use lib.Dec.{eqb}
-use lib.Bits.{bitOr, or-step, or-shr, shifted-even}
-use lib.Pow.{pow-lt, pow-add, shl-shr, shl-exact}
-use borrow.Author.Tests.{eq-eqb, eqb-true}
+use native.Mathlib.Nat.{div-eq-of-lt, mod-lt, lt-of-lt-of-le}
+use native.Mathlib.Decide.{decLt}
+use lib.Dec.{eqb, ltb}
+use lib.Bits.{bitOr, bitAnd, or-step, or-shr, and-mask, shifted-even}
+use lib.Pow.{pow-pos, pow-mono, pow-lt, pow-add, shl-shr, shl-exact, field, mod-mod-pow}
+use borrow.Author.Tests.{eq-eqb, eqb-true, lt-ltb, le-ltb}
 use Rattle.theory.proofs.Tests.{Cmp, less, same, more, cmp, false-of}
 use Rattle.loads.specs.Sets.{member}
 
@@ -64,3 +65,52 @@ member-with set k j p =
     ap (λ z. member (bitOr set z) j) (shl-exact 1 k 64 (omega arith) (omega arith))
     ∙ member-or set (1 * 2 ^ k) j
     ∙ ap (λ b. member set j || b) (member-one k j)
+
+mod-odd : (y i : ℕ) → y % 2 ^ suc i % 2 ≡ y % 2
+mod-odd y i = let e : suc i ≡ i + 1 = omega arith in ap (λ z. y % 2 ^ z % 2) e ∙ mod-mod-pow y i 1
+
+-- bits below k stay, the others go
+low-bit : (set i j : ℕ) → member (set % 2 ^ (suc i + j)) j ≡ member set j
+unfolding member
+low-bit set i j = ap (λ z. eqb (z % 2) 1) (field set (suc i) j) ∙ ap (λ z. eqb z 1) (mod-odd (set / 2 ^ j) i)
+
+high-bit : (set k j : ℕ) → k ≤ j → member (set % 2 ^ k) j ≡ false
+unfolding member
+high-bit set k j p =
+    let small : set % 2 ^ k < 2 ^ j = lt-of-lt-of-le (mod-lt set (pow-pos k)) (pow-mono p) in
+    ap (λ z. eqb (z % 2) 1) (div-eq-of-lt small)
+
+and-on : (a b : Bool) → b ≡ true → (a && b) ≡ a
+and-on true b e = e
+and-on false b e = refl
+
+pub and-off : (a b : Bool) → b ≡ false → (a && b) ≡ false
+and-off true b e = e
+and-off false b e = refl
+
+member-mod : (set k j : ℕ) → member (set % 2 ^ k) j ≡ (member set j && ltb j k)
+member-mod set k j = go (decLt j k)
+  where
+    go : Dec (j < k) → member (set % 2 ^ k) j ≡ (member set j && ltb j k)
+    go (yes p) =
+        let e : k ≡ suc (k - suc j) + j = omega arith in
+        ap (λ z. member (set % 2 ^ z) j) e ∙ low-bit set (k - suc j) j ∙ sym (and-on (member set j) (ltb j k) (lt-ltb j k p))
+    go (no p) = high-bit set k j (omega arith) ∙ sym (and-off (member set j) (ltb j k) (le-ltb j k (omega arith)))
+
+pub member-below : (set k j : ℕ) → k < 64 → member (bitAnd set (1 * 2 ^ k % 18446744073709551616 - 1)) j ≡ (member set j && ltb j k)
+member-below set k j p =
+    let e : 1 * 2 ^ k ≡ 2 ^ k = omega arith in
+    ap (λ z. member (bitAnd set (z - 1)) j) (shl-exact 1 k 64 (omega arith) (omega arith) ∙ e)
+    ∙ ap (λ z. member z j) (and-mask set k)
+    ∙ member-mod set k j
+
+-- a word that a shift makes is above 0
+pub one-pos : (k : ℕ) → k < 64 → 1 ≤ 1 * 2 ^ k % 18446744073709551616
+one-pos k p =
+    let e : 1 * 2 ^ k % 18446744073709551616 ≡ 1 * 2 ^ k = shl-exact 1 k 64 (omega arith) (omega arith) in
+    omega (arith, pow-pos k)
+
+-- nothing is in the set of no bits
+pub member-none : (k : ℕ) → member 0 k ≡ false
+unfolding member
+member-none k = ap (λ z. eqb (z % 2) 1) (div-eq-of-lt (pow-pos k))

@@ -1,83 +1,85 @@
--- The graph that a matrix and a table of runs stand for. Assumes nothing.
+-- The graph that sets and a table of runs stand for. Assumes nothing.
 use Prim.Native.Nat.{ℕ, _+_, _-_, _≤_, _<_}
-use mathlib.Core.Path.{_≡_, refl, sym, _∙_}
+use mathlib.Core.Path.{_≡_, refl, sym, ap, _∙_}
 use mathlib.Core.Bool.{Bool, true, false, cond, _&&_, _||_}
-use mathlib.Core.List.{List}
+use mathlib.Core.List.{List, []}
 use mathlib.Core.Logic.{⊎-elim}
 use native.Mathlib.Omega.{arith}
+use native.Mathlib.Decide.{ℕ-discrete}
 use lib.ListN.{length, getD, set}
+use lib.Seq.{getD-set-same, getD-set-other}
 use lib.Dec.{leb, eqb}
 use borrow.Author.Tests.{leb-true, le-leb, eqb-true, eq-eqb}
 use Rattle.model.specs.declared.Description.{Description}
 use Rattle.model.specs.Basics.{anyN}
 use Rattle.model.specs.Graph.{system, linked, linkAt, cyclic}
-use Rattle.model.specs.Loads.{work, added, load}
+use Rattle.model.specs.Loads.{work, load}
 use Rattle.theory.proofs.Tests.{false-of, same-test, or-right, and-left, and-right, both}
 use Rattle.theory.proofs.Range.{any-more}
 use Rattle.theory.proofs.WellFormed.{Loaded}
 use Rattle.theory.proofs.Fielded.{Fielded, shaped-fields}
+use Rattle.theory.proofs.Rank.{Ends}
 use Rattle.theory.proofs.LoadLaws.{loaded-ends}
-use Rattle.theory.proofs.LoadBounds.{work-most, added-most, load-most}
+use Rattle.theory.proofs.LoadBounds.{work-most}
 use Rattle.theory.proofs.Alike.{SameLinks, same-cyclic, same-load}
-use Rattle.loads.specs.Tables.{placeOf, InMatrix, MatrixIs, linkedTo, graph, NodeOf, TaskOf, Ready}
+use Rattle.loads.specs.Sets.{member}
+use Rattle.loads.specs.Tables.{placeOf, InMatrix, SuccessorsOf, linkedTo, linkBy, rowOf, graph, NodeOf, TaskOf, Ready, Absent}
 use Rattle.loads.proofs.Fill.{put}
 
 or-off : (a b : Bool) → b ≡ false → (a || b) ≡ a
 or-off true b e = refl
 or-off false b e = e
 
-module _ (links : List Bool) (runs : List ℕ) (n : ℕ) where
-  -- a link of the graph is an entry of the matrix, within its rows and the tasks' columns
-  pub link-is : (i j : ℕ) → NodeOf i → TaskOf n j → graph links runs n .link i j ≡ getD links (placeOf i j) false
-  unfolding graph
+module _ (succ : List ℕ) (n : ℕ) where
+  -- a link of the graph is a member of a set, within the nodes and the tasks
+  pub link-is : (i j : ℕ) → NodeOf i → TaskOf n j → linkBy succ n i j ≡ member (rowOf succ i) (j - 1)
+  unfolding linkBy
   link-is i j p q = rw (le-leb 1 i (p .0), le-leb i 48 (p .1), le-leb 1 j (q .0), le-leb j n (q .1))
 
-  pub link-inside : (i j : ℕ) → graph links runs n .link i j ≡ true → NodeOf i × TaskOf n j
-  unfolding graph
+  pub link-inside : (i j : ℕ) → linkBy succ n i j ≡ true → NodeOf i × TaskOf n j
+  unfolding linkBy
   link-inside i j e =
-      let e1 = and-right (leb 1 i) (leb i 48 && (leb 1 j && (leb j n && getD links (placeOf i j) false))) e in
-      let e2 = and-right (leb i 48) (leb 1 j && (leb j n && getD links (placeOf i j) false)) e1 in
-      let e3 = and-right (leb 1 j) (leb j n && getD links (placeOf i j) false) e2 in
+      let e1 = and-right (leb 1 i) (leb i 48 && (leb 1 j && (leb j n && member (rowOf succ i) (j - 1)))) e in
+      let e2 = and-right (leb i 48) (leb 1 j && (leb j n && member (rowOf succ i) (j - 1))) e1 in
+      let e3 = and-right (leb 1 j) (leb j n && member (rowOf succ i) (j - 1)) e2 in
       ((leb-true 1 i (and-left (leb 1 i) _ e), leb-true i 48 (and-left (leb i 48) _ e1)), (leb-true 1 j (and-left (leb 1 j) _ e2), leb-true j n (and-left (leb j n) _ e3)))
 
-  pub run-is : (j : ℕ) → j ≤ n → graph links runs n .run j ≡ getD runs (j - 1) 0
+module _ (succ : List ℕ) (runs : List ℕ) (n : ℕ) where
+  pub ends : Ends (graph succ runs n)
+  unfolding graph
+  ends i j e = link-inside succ n i j e .1
+
+  pub run-is : (j : ℕ) → j ≤ n → graph succ runs n .run j ≡ getD runs (j - 1) 0
   unfolding graph
   run-is j p = rw (le-leb j n p)
 
-  module _ (R : Ready links runs n) where
-    run-bound : (k : ℕ) → 1 ≤ k → graph links runs n .run k ≤ 10000000
-    unfolding graph
-    run-bound k p = go (leb k n) refl
-      where
-        go : (b : Bool) → leb k n ≡ b → cond (leb k n) (getD runs (k - 1) 0) 0 ≤ 10000000
-        go true e = rw e (R .run-most k p (leb-true k n e))
-        go false e = rw e (omega arith)
+  -- equation 9 holds of the loads of a graph without a cycle
+  pub graph-loaded : cyclic (graph succ runs n) ≡ false → Loaded (graph succ runs n)
+  graph-loaded = loaded-ends (graph succ runs n) ends
 
-    -- equation 9 holds of the graph's loads, which stay below 2^56
-    pub graph-loaded : Loaded (graph links runs n)
-    unfolding graph
-    graph-loaded = loaded-ends (graph links runs n) (λ i j e. link-inside i j e .1) (R .no-cycle)
+  run-bound : ((k : ℕ) → 1 ≤ k → k ≤ n → getD runs (k - 1) 0 ≤ 10000000) → (k : ℕ) → 1 ≤ k → graph succ runs n .run k ≤ 10000000
+  unfolding graph
+  run-bound most k p = go (leb k n) refl
+    where
+      go : (b : Bool) → leb k n ≡ b → cond (leb k n) (getD runs (k - 1) 0) 0 ≤ 10000000
+      go true e = rw e (most k p (leb-true k n e))
+      go false e = rw e (omega arith)
 
-    few : graph links runs n .tasks ≤ 32
-    unfolding graph
-    few = R .few
+  few-tasks : n ≤ 32 → graph succ runs n .tasks ≤ 32
+  unfolding graph
+  few-tasks p = p
 
-    pub graph-work : (j : ℕ) → 1 ≤ j → work (graph links runs n) j ≤ 42949672960000000
-    graph-work = work-most (graph links runs n) graph-loaded run-bound few
-
-    pub graph-added : (i j : ℕ) → 1 ≤ j → added (graph links runs n) i j ≤ 42949672960000000
-    graph-added = added-most (graph links runs n) graph-loaded run-bound few
-
-    pub graph-load : (i j : ℕ) → 1 ≤ j → load (graph links runs n) i j ≤ 42949672960000000
-    graph-load = load-most (graph links runs n) graph-loaded run-bound few
+  -- a work stays below 2^56
+  pub graph-work : Ready succ runs n → (j : ℕ) → 1 ≤ j → work (graph succ runs n) j ≤ 42949672960000000
+  graph-work R = work-most (graph succ runs n) (graph-loaded (R .no-cycle)) (run-bound (R .run-most)) (few-tasks (R .few))
 
 -- the graph of a description's own tables has its links
-pub matrix-links : (d : Description) (links : List Bool) (runs : List ℕ) → Fielded d → MatrixIs d links → SameLinks (graph links runs (d .«task_count»)) (system d)
+pub sets-links : (d : Description) (succ runs : List ℕ) → Fielded d → SuccessorsOf d succ → SameLinks (graph succ runs (d .«task_count»)) (system d)
 unfolding graph system
-matrix-links d links runs F M =
+sets-links d succ runs F M =
     record {
       tasks = refl;
-      link = λ i j. same-test _ _ (λ e. to i j (link-inside links runs (d .«task_count») i j e) e) (λ e. from i j (inside i j e) e);
+      link = λ i j. same-test _ _ (λ e. to i j (link-inside succ (d .«task_count») i j e) e) (λ e. from i j (inside i j e) e);
     }
   where
     inside : (i j : ℕ) → linked d i j ≡ true → NodeOf i × TaskOf (d .«task_count») j
@@ -85,27 +87,29 @@ matrix-links d links runs F M =
         let S = shaped-fields d F in
         (⊎-elim (λ t. (t .0, omega (arith, t .1, F .few-tasks))) (λ u. (omega (arith, u .0), omega (arith, u .1, F .few-sources))) (S .from-node i j e), S .to-task i j e)
 
-    to : (i j : ℕ) → NodeOf i × TaskOf (d .«task_count») j → graph links runs (d .«task_count») .link i j ≡ true → linked d i j ≡ true
+    to : (i j : ℕ) → NodeOf i × TaskOf (d .«task_count») j → linkBy succ (d .«task_count») i j ≡ true → linked d i j ≡ true
     to i j p e =
         sym (M i j (p .0 .0, p .0 .1, p .1 .0, omega (arith, p .1 .1, F .few-tasks)))
-        ∙ (sym (link-is links runs (d .«task_count») i j (p .0) (p .1)) ∙ e)
+        ∙ (sym (link-is succ (d .«task_count») i j (p .0) (p .1)) ∙ e)
 
-    from : (i j : ℕ) → NodeOf i × TaskOf (d .«task_count») j → linked d i j ≡ true → graph links runs (d .«task_count») .link i j ≡ true
+    from : (i j : ℕ) → NodeOf i × TaskOf (d .«task_count») j → linked d i j ≡ true → linkBy succ (d .«task_count») i j ≡ true
     from i j p e =
-        link-is links runs (d .«task_count») i j (p .0) (p .1)
+        link-is succ (d .«task_count») i j (p .0) (p .1)
         ∙ (M i j (p .0 .0, p .0 .1, p .1 .0, omega (arith, p .1 .1, F .few-tasks)) ∙ e)
 
-pub matrix-cyclic : (d : Description) (links : List Bool) (runs : List ℕ) → Fielded d → MatrixIs d links → cyclic (graph links runs (d .«task_count»)) ≡ cyclic (system d)
-matrix-cyclic d links runs F M = same-cyclic (graph links runs (d .«task_count»)) (system d) (matrix-links d links runs F M)
-
-pub matrix-ready : (d : Description) (links : List Bool) → Fielded d → MatrixIs d links → cyclic (system d) ≡ false → Ready links (d .runs) (d .«task_count»)
-matrix-ready d links F M acyclic =
-    record { few = F .few-tasks; run-most = F .run-most; no-cycle = matrix-cyclic d links (d .runs) F M ∙ acyclic }
-
-pub matrix-load : (d : Description) (links : List Bool) → Fielded d → MatrixIs d links → (i j : ℕ) → load (graph links (d .runs) (d .«task_count»)) i j ≡ load (system d) i j
+-- a node that is not there has no link
+pub sets-absent : (d : Description) (succ : List ℕ) → Fielded d → SuccessorsOf d succ → Absent succ (d .«task_count») (d .«source_count»)
 unfolding graph system
-matrix-load d links F M i j =
-    same-load (graph links (d .runs) (d .«task_count»)) (system d) (matrix-links d links (d .runs) F M) (λ k. refl) i j
+sets-absent d succ F M i k p q =
+    false-of _ (λ e. ⊎-elim (λ t. omega (arith, t .1)) (λ u. ⊎-elim (λ r. omega (arith, u .0)) (λ r. omega (arith, u .1)) q) (shaped-fields d F .from-node i k (sym (sets-links d succ [] F M .link i k) ∙ e)))
+
+pub sets-cyclic : (d : Description) (succ runs : List ℕ) → Fielded d → SuccessorsOf d succ → cyclic (graph succ runs (d .«task_count»)) ≡ cyclic (system d)
+sets-cyclic d succ runs F M = same-cyclic (graph succ runs (d .«task_count»)) (system d) (sets-links d succ runs F M)
+
+pub sets-load : (d : Description) (succ : List ℕ) → Fielded d → SuccessorsOf d succ → (i j : ℕ) → load (graph succ (d .runs) (d .«task_count»)) i j ≡ load (system d) i j
+unfolding graph system
+sets-load d succ F M i j =
+    same-load (graph succ (d .runs) (d .«task_count»)) (system d) (sets-links d succ (d .runs) F M) (λ k. refl) i j
 
 -- the ends of a link stand in the matrix
 pub ends-inside : (d : Description) → Fielded d → (l : ℕ) → l < d .«link_count» → InMatrix (linkAt d l .from) (linkAt d l .to)
@@ -141,3 +145,34 @@ matrix-more d links l len p all =
         let a = eqb-true (linkAt d l .from) u (and-left (eqb (linkAt d l .from) u) (eqb (linkAt d l .to) w) e) in
         let b = eqb-true (linkAt d l .to) w (and-right (eqb (linkAt d l .from) u) (eqb (linkAt d l .to) w) e) in
         omega arith
+
+-- one more link of the description is put into the sets
+pub sets-more : (d : Description) (succ : List ℕ) (l r : ℕ) → length succ ≡ 48 → InMatrix (linkAt d l .from) (linkAt d l .to) → ((k : ℕ) → member r k ≡ (member (rowOf succ (linkAt d l .from)) k || eqb k (linkAt d l .to - 1))) → ((i j : ℕ) → InMatrix i j → member (rowOf succ i) (j - 1) ≡ linkedTo d l i j) → (i j : ℕ) → InMatrix i j → member (rowOf (set succ (linkAt d l .from - 1) r) i) (j - 1) ≡ linkedTo d (l + 1) i j
+unfolding linkedTo
+sets-more d succ l r len p new all i j q = go (ℕ-discrete i (linkAt d l .from))
+  where
+    here : ℕ → Bool
+    here k = eqb (linkAt d k .from) i && eqb (linkAt d k .to) j
+
+    index : eqb (j - 1) (linkAt d l .to - 1) ≡ true → j ≡ linkAt d l .to
+    index e = let f = eqb-true (j - 1) (linkAt d l .to - 1) e in omega (arith, p, q)
+
+    tested : i ≡ linkAt d l .from → eqb (j - 1) (linkAt d l .to - 1) ≡ here l
+    tested f =
+        same-test _ _
+        (λ e. both _ _ (eq-eqb (linkAt d l .from) i (sym f)) (eq-eqb (linkAt d l .to) j (sym (index e))))
+        (λ e. let g = eqb-true (linkAt d l .to) j (and-right (eqb (linkAt d l .from) i) (eqb (linkAt d l .to) j) e) in eq-eqb (j - 1) (linkAt d l .to - 1) (omega arith))
+
+    go : Dec (i ≡ linkAt d l .from) → member (rowOf (set succ (linkAt d l .from - 1) r) i) (j - 1) ≡ anyN here 0 (l + 1)
+    go (yes f) =
+        ap (λ k. member (getD (set succ (linkAt d l .from - 1) r) (k - 1) 0) (j - 1)) f
+        ∙ ap (λ x. member x (j - 1)) (getD-set-same succ (linkAt d l .from - 1) r 0 (omega (arith, len, p)))
+        ∙ new (j - 1)
+        ∙ ap (λ k. member (rowOf succ k) (j - 1) || eqb (j - 1) (linkAt d l .to - 1)) (sym f)
+        ∙ ap (λ b. b || eqb (j - 1) (linkAt d l .to - 1)) (all i j q)
+        ∙ ap (λ b. anyN here 0 l || b) (tested f)
+        ∙ sym (any-more here l)
+    go (no f) =
+        ap (λ x. member x (j - 1)) (getD-set-other succ (linkAt d l .from - 1) (i - 1) r 0 (λ e. f (omega (arith, p, q))))
+        ∙ all i j q
+        ∙ sym (any-more here l ∙ or-off _ _ (false-of _ (λ e. f (sym (eqb-true (linkAt d l .from) i (and-left (eqb (linkAt d l .from) i) (eqb (linkAt d l .to) j) e))))))

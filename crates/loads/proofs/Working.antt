@@ -1,152 +1,188 @@
--- Working loads out on a graph: the partial sums and maxima of the loops, the falling rank, and the memo. Assumes nothing.
-use Prim.Native.Nat.{ℕ, suc, _+_, _-_, _≤_, _<_, max}
+-- Working loads out over closed sets: the partial sums of the loops, the falling rank, the memo, and sums of works. Assumes nothing.
+use Prim.Native.Nat.{ℕ, zero, suc, _+_, _-_, _*_, _≤_, _<_}
 use mathlib.Core.Path.{_≡_, refl, sym, ap, _∙_}
 use mathlib.Core.Bool.{Bool, true, false}
 use mathlib.Core.List.{List}
 use native.Mathlib.Omega.{arith}
-use lib.ListN.{length, getD, set, length-set, replicate, getD-replicate}
+use native.Mathlib.Decide.{ℕ-discrete, decLt}
+use lib.ListN.{length, getD, set, length-set, replicate, getD-replicate, List·getD-eq-default}
 use lib.Seq.{getD-set-same, getD-set-other}
-use Rattle.model.specs.Basics.{sumN, topN, given}
+use Rattle.model.specs.Basics.{sumN, given}
 use Rattle.model.specs.Graph.{System}
-use Rattle.model.specs.Loads.{work, added, load}
-use Rattle.theory.proofs.Tests.{Cmp, less, same, more, cmp, not-both}
-use Rattle.theory.proofs.Range.{sumN-more, topN-more, sumN-first, given-off}
+use Rattle.model.specs.Loads.{work, added}
+use Rattle.theory.proofs.Tests.{Cmp, less, same, more, cmp}
+use Rattle.theory.proofs.Range.{sumN-more, sumN-first, given-le}
 use Rattle.theory.proofs.Rank.{rankOf, ends-fall}
 use Rattle.theory.proofs.LoadBounds.{sumN-part}
-use Rattle.loads.specs.Tables.{placeOf, InMatrix, graph, NodeOf, TaskOf, Ready, Memo}
-use Rattle.loads.proofs.Fill.{put}
-use Rattle.loads.proofs.Tabled.{link-is, link-inside, run-is, graph-loaded, graph-work}
+use Rattle.loads.specs.Sets.{member}
+use Rattle.loads.specs.Tables.{rowOf, graph, NodeOf, TaskOf, Ready, Memo, Scaled, WorksOf, loadBy}
+use Rattle.loads.proofs.Tabled.{link-is, ends, run-is, graph-loaded, graph-work}
+use Rattle.loads.proofs.Bringing.{ready-brought}
 
 -- W(j) with the added loads of the tasks below k alone
 unfoldable pub workTo : System → ℕ → ℕ → ℕ
 workTo s j k = s .run j + sumN (added s j) (suc j) (k - suc j)
 
--- the largest added load of j over links from i to tasks from j + 1 on below k
-unfoldable pub topOf : System → ℕ → ℕ → ℕ → ℕ
-topOf s i j k = topN (λ m. given (s .link i m) (added s m j)) (suc j) (k - suc j)
-
 pub workTo-more : (s : System) (j k : ℕ) → j + 1 ≤ k → workTo s j (k + 1) ≡ workTo s j k + added s j k
 unfolding workTo
 workTo-more s j k p = omega (arith, sumN-more (added s j) (suc j) k (omega arith))
 
-pub topOf-start : (s : System) (i j : ℕ) → topOf s i j (j + 1) ≡ 0
-unfolding topOf topN
-topOf-start s i j = let e : j + 1 - suc j ≡ 0 = omega arith in rw e refl
-
-topOf-more : (s : System) (i j k : ℕ) → j + 1 ≤ k → topOf s i j (k + 1) ≡ max (topOf s i j k) (given (s .link i k) (added s k j))
-unfolding topOf
-topOf-more s i j k p = topN-more (λ m. given (s .link i m) (added s m j)) (suc j) k (omega arith)
-
-module _ (links : List Bool) (runs : List ℕ) (n : ℕ) (R : Ready links runs n) where
-  pub rank-down : (i k : ℕ) → NodeOf i → TaskOf n k → getD links (placeOf i k) false ≡ true → rankOf (graph links runs n) k < rankOf (graph links runs n) i
+module _ (adds : List ℕ) (runs : List ℕ) (n : ℕ) (R : Ready adds runs n) where
+  pub rank-down : (i k : ℕ) → NodeOf i → TaskOf n k → member (rowOf adds i) (k - 1) ≡ true → rankOf (graph adds runs n) k < rankOf (graph adds runs n) i
   unfolding graph
-  rank-down i k N T e =
-      ends-fall
-      (graph links runs n)
-      (λ a b l. link-inside links runs n a b l .1)
-      (R .no-cycle)
-      i
-      k
-      (link-is links runs n i k N T ∙ e)
+  rank-down i k N T e = ends-fall (graph adds runs n) (ends adds runs n) (R .no-cycle) i k (link-is adds n i k N T ∙ e)
 
-  pub workTo-start : (j : ℕ) → TaskOf n j → workTo (graph links runs n) j (j + 1) ≡ getD runs (j - 1) 0
+  pub workTo-start : (j : ℕ) → TaskOf n j → workTo (graph adds runs n) j (j + 1) ≡ getD runs (j - 1) 0
   unfolding workTo sumN
   workTo-start j T =
       let e : j + 1 - suc j ≡ 0 = omega arith in
-      rw e (omega (arith, run-is links runs n j (T .1)))
+      rw e (omega (arith, run-is adds runs n j (T .1)))
 
-  pub workTo-end : (j : ℕ) → workTo (graph links runs n) j (n + 1) ≡ work (graph links runs n) j
+  pub workTo-end : (j : ℕ) → workTo (graph adds runs n) j (n + 1) ≡ work (graph adds runs n) j
   unfolding workTo graph
   workTo-end j =
       let e : n + 1 ≡ suc n = omega arith in
-      rw e (sym (graph-loaded links runs n R .whole j))
+      rw e (sym (graph-loaded adds runs n (R .no-cycle) .whole j))
 
-  pub workTo-most : (j k : ℕ) → TaskOf n j → k ≤ n + 1 → workTo (graph links runs n) j k ≤ 42949672960000000
+  pub workTo-most : (j k : ℕ) → TaskOf n j → k ≤ n + 1 → workTo (graph adds runs n) j k ≤ 42949672960000000
   unfolding workTo
   workTo-most j k T p =
       omega (
         arith,
-        graph-work links runs n R j (T .0),
+        graph-work adds runs n R j (T .0),
         workTo-end j,
-        sumN-part (added (graph links runs n) j) (suc j) (k - suc j) (n + 1 - suc j) (omega arith),
+        sumN-part (added (graph adds runs n) j) (suc j) (k - suc j) (n + 1 - suc j) (omega arith),
       )
 
-  pub topOf-link : (i j k : ℕ) → NodeOf i → TaskOf n k → j + 1 ≤ k → getD links (placeOf i k) false ≡ true → topOf (graph links runs n) i j (k + 1) ≡ max (topOf (graph links runs n) i j k) (added (graph links runs n) k j)
-  topOf-link i j k N T p e =
-      topOf-more (graph links runs n) i j k p
-      ∙ ap (λ b. max (topOf (graph links runs n) i j k) (given b (added (graph links runs n) k j))) (link-is links runs n i k N T ∙ e)
+  pub added-in : (i j : ℕ) → NodeOf i → TaskOf n j → member (rowOf adds i) (j - 1) ≡ true → work (graph adds runs n) j ≡ added (graph adds runs n) i j
+  added-in i j N T e = sym (ready-brought adds runs n R i j N T ∙ ap (λ b. given b (work (graph adds runs n) j)) e)
 
-  pub topOf-none : (i j k : ℕ) → NodeOf i → TaskOf n k → j + 1 ≤ k → getD links (placeOf i k) false ≡ false → topOf (graph links runs n) i j (k + 1) ≡ topOf (graph links runs n) i j k
-  topOf-none i j k N T p e =
-      omega (
-        arith,
-        topOf-more (graph links runs n) i j k p,
-        given-off (graph links runs n .link i k) (added (graph links runs n) k j) (link-is links runs n i k N T ∙ e),
-      )
+  pub added-out : (i j : ℕ) → NodeOf i → TaskOf n j → member (rowOf adds i) (j - 1) ≡ false → added (graph adds runs n) i j ≡ 0
+  added-out i j N T e = ready-brought adds runs n R i j N T ∙ ap (λ b. given b (work (graph adds runs n) j)) e
 
-  pub topOf-end : (i j : ℕ) → NodeOf i → TaskOf n j → getD links (placeOf i j) false ≡ false → topOf (graph links runs n) i j (n + 1) ≡ added (graph links runs n) i j
-  unfolding topOf graph
-  topOf-end i j N T e =
-      let q : n + 1 ≡ suc n = omega arith in
-      rw q (sym (graph-loaded links runs n R .through i j (link-is links runs n i j N T ∙ e)))
+-- a task of the graph
+pub tasked : (adds runs : List ℕ) (n j : ℕ) → TaskOf n j → TaskOf (graph adds runs n .tasks) j
+unfolding graph
+tasked adds runs n j T = T
 
-  pub direct-is : (i j : ℕ) → NodeOf i → TaskOf n j → getD links (placeOf i j) false ≡ true → work (graph links runs n) j ≡ added (graph links runs n) i j
-  direct-is i j N T e = sym (graph-loaded links runs n R .direct i j (link-is links runs n i j N T ∙ e))
+pub untasked : (adds runs : List ℕ) (n j : ℕ) → TaskOf (graph adds runs n .tasks) j → TaskOf n j
+unfolding graph
+untasked adds runs n j T = T
 
 -- one more entry of the memo is known
-pub memo-put : (s : System) (known : List Bool) (value : List ℕ) (i j r : ℕ) → InMatrix i j → Memo s known value → r ≡ added s i j → Memo s (set known (placeOf i j) true) (set value (placeOf i j) r)
-memo-put s known value i j r p M e =
+pub memo-put : (s : System) (known : List ℕ) (j r : ℕ) → TaskOf 32 j → Memo s known → r ≡ work s j → Memo s (set known (j - 1) r)
+memo-put s known j r T M e =
     record {
       known-length = simp length-set (M .known-length);
-      value-length = simp length-set (M .value-length);
-      right =
-          put
-          (λ u w v. getD (set known (placeOf i j) true) (placeOf u w) false ≡ true → v ≡ added s u w)
-          0
-          value
-          i
-          j
-          r
-          (M .value-length)
-          p
-          (λ f. e)
-          (λ u w q ne f. M .right u w q (sym (getD-set-other known (placeOf i j) (placeOf u w) true false ne) ∙ f));
+      right = λ k K p. go k K p (ℕ-discrete k j);
     }
+  where
+    here : getD (set known (j - 1) r) (j - 1) 0 ≡ work s j
+    here = getD-set-same known (j - 1) r 0 (omega (arith, M .known-length, T)) ∙ e
+
+    go : (k : ℕ) → TaskOf (s .tasks) k → 0 < getD (set known (j - 1) r) (k - 1) 0 → Dec (k ≡ j) → getD (set known (j - 1) r) (k - 1) 0 ≡ work s k
+    go k K p (yes q) = rw q here
+    go k K p (no q) =
+        let f = getD-set-other known (j - 1) (k - 1) r 0 (λ z. q (omega (arith, K, T))) in
+        f ∙ M .right k K (rw f at p)
 
 -- nothing is known yet
-pub memo-none : (s : System) → Memo s (replicate 1536 false) (replicate 1536 0)
-memo-none s =
+pub memo-none : (adds runs : List ℕ) (n : ℕ) → n ≤ 32 → Memo (graph adds runs n) (replicate 32 0)
+unfolding graph
+memo-none adds runs n few =
     record {
       known-length = refl;
-      value-length = refl;
-      right = λ i j p e. absurd (not-both e (getD-replicate 1536 (placeOf i j) false false (omega (arith, p .1, p .3, p .0, p .2))));
+      right = λ j T p. let none : List ℕ = replicate 32 0 in let z : getD none (j - 1) 0 ≡ 0 = getD-replicate 32 (j - 1) 0 0 (omega (arith, T, few)) in absurd (omega arith);
     }
 
--- a row of loads, filled from the highest task down
-pub load-none : (s : System) (i j : ℕ) → s .tasks < j → load s i j ≡ 0
-unfolding load sumN
-load-none s i j p = let e : suc (s .tasks) - j ≡ 0 = omega arith in rw e refl
+-- the works from task j + 1 on, filled from the highest down
+pub record WorksFrom (s : System) (n j : ℕ) (works : List ℕ) : Type 0 where
+  pub long : length works ≡ 32
+  pub worked : (c : ℕ) → j ≤ c → c < n → getD works c 0 ≡ work s (suc c)
+  pub scaled : Scaled works
 
-pub load-step : (s : System) (i j : ℕ) → j ≤ s .tasks → load s i j ≡ added s i j + load s i (suc j)
-unfolding load
-load-step s i j p =
-    let e : suc (s .tasks) - j ≡ suc (s .tasks - j) = omega arith in
-    let f : suc (s .tasks) - suc j ≡ s .tasks - j = omega arith in
-    rw (e, f) (sumN-first (added s i) j (s .tasks - j))
-
-abbrev pub RowFrom : System → ℕ → ℕ → List ℕ → Type 0
-RowFrom s i j row = (length row ≡ 32) × ((c : ℕ) → j ≤ c → c < 32 → getD row c 0 ≡ load s i (suc c))
-
-pub row-none : (s : System) (i : ℕ) → RowFrom s i (s .tasks) (replicate 32 0)
-row-none s i = (refl, λ c p q. getD-replicate 32 c 0 0 q ∙ sym (load-none s i (suc c) (omega arith)))
-
-pub row-put : (s : System) (i j : ℕ) (row : List ℕ) (x : ℕ) → j < 32 → x ≡ load s i (suc j) → RowFrom s i (suc j) row → RowFrom s i j (set row j x)
-row-put s i j row x p e h = (simp length-set (h .0), λ c q r. go c r q (cmp j c))
+pub works-none : (s : System) (n : ℕ) → WorksFrom s n n (replicate 32 0)
+works-none s n =
+    record { long = refl; worked = λ c p q. absurd (omega arith); scaled = λ j. zeros j (decLt j 32) }
   where
-    here : getD (set row j x) j 0 ≡ load s i (suc j)
-    here = getD-set-same row j x 0 (omega (arith, h .0)) ∙ e
+    none : List ℕ
+    none = replicate 32 0
 
-    go : (c : ℕ) → c < 32 → j ≤ c → Cmp j c → getD (set row j x) c 0 ≡ load s i (suc c)
-    go c r q (less k) = getD-set-other row j c x 0 (λ z. omega arith) ∙ h .1 c k r
-    go c r q (same k) = rw (← k) here
+    zeros : (j : ℕ) → Dec (j < 32) → getD none j 0 ≤ 42949672960000000
+    zeros j (yes p) = let z : getD none j 0 ≡ 0 = getD-replicate 32 j 0 0 p in omega arith
+    zeros j (no p) = let z : getD none j 0 ≡ 0 = List·getD-eq-default none 0 {n = j} (omega arith) in omega arith
+
+pub works-put : (s : System) (n j : ℕ) (works : List ℕ) (x : ℕ) → j < 32 → x ≡ work s (suc j) → x ≤ 42949672960000000 → WorksFrom s n (suc j) works → WorksFrom s n j (set works j x)
+works-put s n j works x p e b W =
+    record {
+      long = simp length-set (W .long);
+      worked = λ c q r. go c r q (cmp j c);
+      scaled = λ k. most k (ℕ-discrete k j);
+    }
+  where
+    here : getD (set works j x) j 0 ≡ x
+    here = getD-set-same works j x 0 (omega (arith, W .long))
+
+    go : (c : ℕ) → c < n → j ≤ c → Cmp j c → getD (set works j x) c 0 ≡ work s (suc c)
+    go c r q (less k) = getD-set-other works j c x 0 (λ z. omega arith) ∙ W .worked c k r
+    go c r q (same k) = rw (← k) (here ∙ e)
+    go c r q (more k) = absurd (omega arith)
+
+    most : (k : ℕ) → Dec (k ≡ j) → getD (set works j x) k 0 ≤ 42949672960000000
+    most k (yes q) = rw (q, here) b
+    most k (no q) = rw (getD-set-other works j k x 0 q) (W .scaled k)
+
+pub works-end : (adds runs : List ℕ) (n : ℕ) (works : List ℕ) → WorksFrom (graph adds runs n) n 0 works → WorksOf (graph adds runs n) works
+unfolding graph
+works-end adds runs n works W j T =
+    let e : suc (j - 1) ≡ j = omega (arith, T) in
+    rw e at (W .worked (j - 1) (omega arith) (omega (arith, T)))
+
+-- sums of works
+pub loadBy-none : (row : ℕ) (works : List ℕ) (n j : ℕ) → n < j → loadBy row works n j ≡ 0
+unfolding loadBy sumN
+loadBy-none row works n j p = let e : suc n - j ≡ 0 = omega arith in rw e refl
+
+pub loadBy-step : (row : ℕ) (works : List ℕ) (n c : ℕ) → c < n → loadBy row works n (suc c) ≡ given (member row c) (getD works c 0) + loadBy row works n (suc (suc c))
+unfolding loadBy
+loadBy-step row works n c p =
+    let e : suc n - suc c ≡ suc (n - suc c) = omega arith in
+    let f : suc n - suc (suc c) ≡ n - suc c = omega arith in
+    let g : suc c - 1 ≡ c = omega arith in
+    rw (e, f) (sumN-first (λ k. given (member row (k - 1)) (getD works (k - 1) 0)) (suc c) (n - suc c) ∙ rw g refl)
+
+pub sum-most : (f : ℕ → ℕ) (a n b : ℕ) → ((k : ℕ) → f k ≤ b) → sumN f a n ≤ n * b
+unfolding sumN
+sum-most f a zero b h = omega arith
+sum-most f a (suc n) b h = omega (arith, h (a + n), sum-most f a n b h)
+
+pub loadBy-most : (row : ℕ) (works : List ℕ) (n j : ℕ) → n ≤ 32 → Scaled works → 1 ≤ j → loadBy row works n j ≤ 1374389534720000000
+unfolding loadBy
+loadBy-most row works n j p S q =
+    omega (
+      arith,
+      sum-most
+          (λ k. given (member row (k - 1)) (getD works (k - 1) 0))
+          j
+          (suc n - j)
+          42949672960000000
+          (λ k. given-le (member row (k - 1)) (getD works (k - 1) 0) 42949672960000000 (λ e. S (k - 1))),
+    )
+
+-- a row of loads, filled from the highest task down
+abbrev pub RowFrom : ℕ → List ℕ → ℕ → ℕ → List ℕ → Type 0
+RowFrom row works n j l = (length l ≡ 32) × ((c : ℕ) → j ≤ c → c < 32 → getD l c 0 ≡ loadBy row works n (suc c))
+
+pub row-none : (row : ℕ) (works : List ℕ) (n : ℕ) → RowFrom row works n n (replicate 32 0)
+row-none row works n = (refl, λ c p q. getD-replicate 32 c 0 0 q ∙ sym (loadBy-none row works n (suc c) (omega arith)))
+
+pub row-put : (row : ℕ) (works : List ℕ) (n j : ℕ) (l : List ℕ) (x : ℕ) → j < 32 → x ≡ loadBy row works n (suc j) → RowFrom row works n (suc j) l → RowFrom row works n j (set l j x)
+row-put row works n j l x p e h = (simp length-set (h .0), λ c q r. go c r q (cmp j c))
+  where
+    here : getD (set l j x) j 0 ≡ loadBy row works n (suc j)
+    here = getD-set-same l j x 0 (omega (arith, h .0)) ∙ e
+
+    go : (c : ℕ) → c < 32 → j ≤ c → Cmp j c → getD (set l j x) c 0 ≡ loadBy row works n (suc c)
+    go c r q (less k) = getD-set-other l j c x 0 (λ z. omega arith) ∙ h .1 c k r
+    go c r q (same k) = rw (sym k) here
     go c r q (more k) = absurd (omega arith)

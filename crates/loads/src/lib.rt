@@ -5,54 +5,64 @@ use model::Outcome;
 use model::Refusal;
 use model::Row;
 
-mod cycle;
+pub mod levels;
 pub mod matrix;
+mod paths;
 mod rows;
 pub mod sets;
 mod work;
 
 ghost use mathlib.Core.Path.{_≡_};
-ghost use mathlib.Core.Bool.{false};
-ghost use Rattle.model.specs.Graph.{system, cyclic};
 ghost use Rattle.theory.proofs.Fielded.{Fielded};
-ghost use Rattle.loads.specs.Tables.{SheetIs, HeavyIs, RowsAre, checkedLoads, refusedLoads};
+ghost use Rattle.model.specs.declared.Outcome.the-variants.{Refused};
+ghost use Rattle.loads.specs.Tables.{WorkedOf, RowsAre, checkedLoads, refusedLoads};
 
-// Whether the links contain a cycle.
-pub fn has_cycle(d: Description) -> bool
-    requires { ⌜ Fielded d ⌝ }
-    ensures { λ r. ⌜ r ≡ cyclic (system d) ⌝ }
-{
-    let links = matrix::link_matrix(d);
-    let n = d.task_count;
-    cycle::cycle_in(&links, n)
+// How the last checks end, and if they pass, for each node the tasks it brings in and for each task its work: all that loads are sums of.
+pub struct Worked {
+    pub outcome: Outcome,
+    pub adds: [u64; 48],
+    pub works: [u64; 32],
 }
 
-// The load sheet: a row for each node and a column for each task.
-pub fn load_sheet(d: Description) -> [[u64; 32]; 48]
-    requires { ⌜ Fielded d × (cyclic (system d) ≡ false) ⌝ }
-    ensures { λ r. ⌜ SheetIs (system d) r ⌝ }
+// Beside a refusal there are none.
+fn unworked(why: Refusal) -> Worked
+    ensures { λ r. ⌜ r .outcome ≡ Refused why 0 ⌝ }
 {
-    let links = matrix::link_matrix(d);
-    let runs = d.runs;
-    let n = d.task_count;
-    rows::load_rows(&links, &runs, n)
-}
-
-// Whether some node's load at priority 1 exceeds 1,000,000,000.
-pub fn too_heavy(t: [[u64; 32]; 48]) -> bool
-    ensures { λ r. ⌜ HeavyIs t r ⌝ }
-{
-    let mut i: usize = 0;
-    while i < 48 {
-        if 1_000_000_000 < t[i][0] {
-            return true;
-        }
-        i += 1;
+    Worked {
+        outcome: Outcome::Refused(why, 0),
+        adds: [0u64; 48],
+        works: [0u64; 32],
     }
-    false
 }
 
-// The sheet as rows of the public answer.
+// After the last field: no task, a loop, too heavy; else the work is done.
+pub fn work_out(d: Description) -> Worked
+    requires { ⌜ Fielded d ⌝ }
+    ensures { λ r. ⌜ WorkedOf d r ⌝ }
+{
+    let n = d.task_count;
+    let m = d.source_count;
+    if n == 0 {
+        return unworked(Refusal::NoTask);
+    }
+    let succ = paths::successors(d);
+    let adds = paths::closed(succ, n, m);
+    if paths::brings_itself(&adds, n) {
+        return unworked(Refusal::Loop);
+    }
+    let runs = d.runs;
+    let works = work::works_of(&adds, &runs, n);
+    if rows::heavy(&adds, &works, n) {
+        return unworked(Refusal::TooHeavy);
+    }
+    Worked {
+        outcome: Outcome::Done,
+        adds,
+        works,
+    }
+}
+
+// A sheet as rows of the public answer.
 pub fn as_rows(t: [[u64; 32]; 48]) -> [Row; 48]
     ensures { λ r. ⌜ RowsAre t r ⌝ }
 {
@@ -67,30 +77,27 @@ pub fn as_rows(t: [[u64; 32]; 48]) -> [Row; 48]
 }
 
 // Beside a refusal every load is 0.
-fn refused(why: Refusal) -> LoadSheet
-    ensures { λ r. ⌜ r ≡ refusedLoads why ⌝ }
+fn refused(why: Refusal, place: usize) -> LoadSheet
+    ensures { λ r. ⌜ r ≡ refusedLoads why place ⌝ }
 {
     LoadSheet {
-        outcome: Outcome::Refused(why, 0),
+        outcome: Outcome::Refused(why, place),
         rows: [Row { loads: [0u64; 32] }; 48],
     }
 }
 
-// After the last field: no task, a loop, too heavy; else the work is done, with its load sheet.
+// The same with the load sheet: a row for each node and a column for each task.
 pub fn last_checks(d: Description) -> LoadSheet
     requires { ⌜ Fielded d ⌝ }
     ensures { λ r. ⌜ r ≡ checkedLoads d ⌝ }
 {
-    if d.task_count == 0 {
-        return refused(Refusal::NoTask);
+    let worked = work_out(d);
+    let judged = worked.outcome;
+    if let Outcome::Refused(why, place) = judged {
+        return refused(why, place);
     }
-    if has_cycle(d) {
-        return refused(Refusal::Loop);
-    }
-    let t = load_sheet(d);
-    if too_heavy(t) {
-        return refused(Refusal::TooHeavy);
-    }
+    let n = d.task_count;
+    let t = rows::load_rows(&worked.adds, &worked.works, n);
     let rows = as_rows(t);
     LoadSheet {
         outcome: Outcome::Done,

@@ -1,44 +1,96 @@
-// The load sheet of a graph, filled row by row.
-use crate::work::added;
-ghost use Rattle.loads.specs.Tables.{Ready, NodeOf, Memo, RowIs, SheetIs, graph};
+// Loads as sums of works: one node's, a row of them, the sheet.
+use crate::sets::has;
+ghost use mathlib.Core.Path.{_≡_};
+ghost use Prim.Native.Nat.{ℕ, _-_, _≤_, _<_};
+ghost use lib.ListN.{getD};
+ghost use Rattle.model.specs.Basics.{given, sumTo};
+ghost use Rattle.loads.specs.Sets.{member};
+ghost use Rattle.loads.specs.Tables.{Scaled, loadBy, RowBy, SheetBy, heavyBy};
 
-// The loads of node i at each task: a running sum from the highest task down.
-fn load_row(
-    links: &[bool; 1536],
-    runs: &[u32; 32],
-    n: usize,
-    i: usize,
-    known: &mut [bool; 1536],
-    value: &mut [u64; 1536],
-) -> [u64; 32]
-    requires { ⌜ Ready (now links) (now runs) n × NodeOf i × Memo (graph (now links) (now runs) n) (now known) (now value) ⌝ }
-    ensures { λ r. ⌜ RowIs (graph (now (links .entry)) (now (runs .entry)) n) i r × Memo (graph (now (links .entry)) (now (runs .entry)) n) (now (known .exit)) (now (value .exit)) ⌝ }
+// What one task's work adds to a node's load.
+pub fn part(row: u64, j: usize, w: u64) -> u64
+    requires { ⌜ j < 64 ⌝ }
+    ensures { λ r. ⌜ r ≡ given (member row j) w ⌝ }
 {
-    let mut row = [0u64; 32];
+    if has(row, j) {
+        return w;
+    }
+    0
+}
+
+// The loads of a node at each task: a running sum from the highest task down.
+fn load_row(row: u64, works: &[u64; 32], n: usize) -> [u64; 32]
+    requires { ⌜ (n ≤ 32) × Scaled (now works) ⌝ }
+    ensures { λ r. ⌜ RowBy row (now (works .entry)) n r ⌝ }
+{
+    let mut loads = [0u64; 32];
     let mut sum: u64 = 0;
     let mut j = n;
     while 0 < j {
-        let a = added(links, runs, n, i, j, &mut *known, &mut *value);
-        sum = sum + a;
-        j = j - 1;
-        row[j] = sum;
+        j -= 1;
+        sum = sum + part(row, j, works[j]);
+        loads[j] = sum;
     }
-    row
+    loads
 }
 
-// All rows; the memo is local.
-pub fn load_rows(links: &[bool; 1536], runs: &[u32; 32], n: usize) -> [[u64; 32]; 48]
-    requires { ⌜ Ready (now links) (now runs) n ⌝ }
-    ensures { λ r. ⌜ SheetIs (graph (now (links .entry)) (now (runs .entry)) n) r ⌝ }
+// The load sheet, row by row.
+pub fn load_rows<'a>(adds: &'a [u64; 48], works: &'a [u64; 32], n: usize) -> [[u64; 32]; 48]
+    requires { ⌜ (n ≤ 32) × Scaled (now works) ⌝ }
+    ensures { λ r. ⌜ SheetBy (now (adds .entry)) (now (works .entry)) n r ⌝ }
 {
-    let mut known = [false; 1536];
-    let mut value = [0u64; 1536];
     let mut t = [[0u64; 32]; 48];
     let mut i: usize = 0;
     while i < 48 {
-        let row = load_row(links, runs, n, i + 1, &mut known, &mut value);
+        let row = load_row(adds[i], works, n);
         t[i] = row;
         i += 1;
     }
     t
+}
+
+// A node's load at task 1.
+fn total(row: u64, works: &[u64; 32], n: usize) -> u64
+    requires { ⌜ (n ≤ 32) × Scaled (now works) ⌝ }
+    ensures { λ r. ⌜ r ≡ loadBy row (now (works .entry)) n 1 ⌝ }
+{
+    let mut sum: u64 = 0;
+    let mut j = n;
+    while 0 < j {
+        j -= 1;
+        sum = sum + part(row, j, works[j]);
+    }
+    sum
+}
+
+// All works together.
+fn sum_of(works: &[u64; 32], n: usize) -> u64
+    requires { ⌜ (n ≤ 32) × Scaled (now works) ⌝ }
+    ensures { λ r. ⌜ r ≡ sumTo (λ k. getD (now (works .entry)) (k - 1) 0) 1 n ⌝ }
+{
+    let mut sum: u64 = 0;
+    let mut j: usize = 0;
+    while j < n {
+        sum = sum + works[j];
+        j += 1;
+    }
+    sum
+}
+
+// Whether some node's load at task 1 exceeds 1,000,000,000; none does if all works together do not.
+pub fn heavy(adds: &[u64; 48], works: &[u64; 32], n: usize) -> bool
+    requires { ⌜ (n ≤ 32) × Scaled (now works) ⌝ }
+    ensures { λ r. ⌜ r ≡ heavyBy (now (adds .entry)) (now (works .entry)) n ⌝ }
+{
+    if sum_of(works, n) <= 1_000_000_000 {
+        return false;
+    }
+    let mut i: usize = 0;
+    while i < 48 {
+        if 1_000_000_000 < total(adds[i], works, n) {
+            return true;
+        }
+        i += 1;
+    }
+    false
 }

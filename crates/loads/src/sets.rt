@@ -1,8 +1,8 @@
 // Sets of numbers below 64, as the bits of a word.
 ghost use mathlib.Core.Path.{_≡_};
-ghost use mathlib.Core.Bool.{_||_};
+ghost use mathlib.Core.Bool.{_||_, _&&_};
 ghost use Prim.Native.Nat.{ℕ, _<_};
-ghost use lib.Dec.{eqb};
+ghost use lib.Dec.{eqb, ltb};
 ghost use Rattle.loads.specs.Sets.{member};
 
 // Whether k is in the set.
@@ -26,4 +26,12 @@ pub fn union(a: u64, b: u64) -> u64
     ensures { λ r. ⌜ ((j : ℕ) → member r j ≡ (member a j || member b j)) ⌝ }
 {
     a | b
+}
+
+// The members below k.
+pub fn below(set: u64, k: usize) -> u64
+    requires { ⌜ k < 64 ⌝ }
+    ensures { λ r. ⌜ ((j : ℕ) → member r j ≡ (member set j && ltb j k)) ⌝ }
+{
+    set & ((1 << k) - 1)
 }

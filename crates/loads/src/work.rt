@@ -1,9 +1,8 @@
-// The load of a task and the added load of a node, each stated through the other. A falling rank along the links ends the calls,
-// and the memo lets each pair of a node and a task be worked out once.
-use crate::matrix::place;
+// The work of a task and the added load of a node, each stated through the other, over the sets of tasks that nodes bring in. A falling
+// rank along these sets ends the calls, and the memo lets each work be worked out once.
+use crate::sets::has;
 ghost use mathlib.Core.Path.{_≡_};
-ghost use Prim.Native.Nat.{max};
-ghost use Rattle.loads.specs.Tables.{Ready, NodeOf, TaskOf, Memo, WorkIs, AddedIs, graph};
+ghost use Rattle.loads.specs.Tables.{Ready, NodeOf, TaskOf, Memo, WorkIs, AddedIs, WorksOf, Scaled, graph};
 
 // A run as a load.
 fn wide(x: u32) -> u64
@@ -12,86 +11,56 @@ fn wide(x: u32) -> u64
     x as u64
 }
 
-fn larger(a: u64, b: u64) -> u64
-    ensures { λ r. ⌜ r ≡ max a b ⌝ }
+// W(j): from the memo, or the run of j and all that j adds above it, noted there.
+fn work(adds: &[u64; 48], runs: &[u32; 32], n: usize, j: usize, known: &mut [u64; 32]) -> u64
+    requires { ⌜ Ready (now adds) (now runs) n × TaskOf n j × Memo (graph (now adds) (now runs) n) (now known) ⌝ }
+    ensures { λ r. ⌜ WorkIs (graph (now (adds .entry)) (now (runs .entry)) n) j r × Memo (graph (now (adds .entry)) (now (runs .entry)) n) (now (known .exit)) ⌝ }
 {
-    if a < b {
-        return b;
+    let noted = known[j - 1];
+    if 0 < noted {
+        return noted;
     }
-    a
-}
-
-// W(j): the run of j and all that j adds above it.
-fn work(
-    links: &[bool; 1536],
-    runs: &[u32; 32],
-    n: usize,
-    j: usize,
-    known: &mut [bool; 1536],
-    value: &mut [u64; 1536],
-) -> u64
-    requires { ⌜ Ready (now links) (now runs) n × TaskOf n j × Memo (graph (now links) (now runs) n) (now known) (now value) ⌝ }
-    ensures { λ r. ⌜ WorkIs (graph (now (links .entry)) (now (runs .entry)) n) j r × Memo (graph (now (links .entry)) (now (runs .entry)) n) (now (known .exit)) (now (value .exit)) ⌝ }
-{
     let mut sum = wide(runs[j - 1]);
     let mut k = j + 1;
     while k <= n {
-        let a = added(links, runs, n, j, k, &mut *known, &mut *value);
+        let a = added(adds, runs, n, j, k, &mut *known);
         sum = sum + a;
         k = k + 1;
     }
+    known[j - 1] = sum;
     sum
 }
 
-// added(i, j): from the memo, or worked out and noted there.
-pub fn added(
-    links: &[bool; 1536],
+// added(i, j): W(j) if i brings j in, by a link or through higher tasks; else 0.
+fn added(
+    adds: &[u64; 48],
     runs: &[u32; 32],
     n: usize,
     i: usize,
     j: usize,
-    known: &mut [bool; 1536],
-    value: &mut [u64; 1536],
+    known: &mut [u64; 32],
 ) -> u64
-    requires { ⌜ Ready (now links) (now runs) n × NodeOf i × TaskOf n j × Memo (graph (now links) (now runs) n) (now known) (now value) ⌝ }
-    ensures { λ r. ⌜ AddedIs (graph (now (links .entry)) (now (runs .entry)) n) i j r × Memo (graph (now (links .entry)) (now (runs .entry)) n) (now (known .exit)) (now (value .exit)) ⌝ }
+    requires { ⌜ Ready (now adds) (now runs) n × NodeOf i × TaskOf n j × Memo (graph (now adds) (now runs) n) (now known) ⌝ }
+    ensures { λ r. ⌜ AddedIs (graph (now (adds .entry)) (now (runs .entry)) n) i j r × Memo (graph (now (adds .entry)) (now (runs .entry)) n) (now (known .exit)) ⌝ }
 {
-    let at = place(i, j);
-    if known[at] {
-        return value[at];
+    if has(adds[i - 1], j - 1) {
+        return work(adds, runs, n, j, &mut *known);
     }
-    let r = fresh(links, runs, n, i, j, &mut *known, &mut *value);
-    value[at] = r;
-    known[at] = true;
-    r
+    0
 }
 
-// added(i, j) worked out: W(j) along a link, else the largest that a successor above j adds.
-fn fresh(
-    links: &[bool; 1536],
-    runs: &[u32; 32],
-    n: usize,
-    i: usize,
-    j: usize,
-    known: &mut [bool; 1536],
-    value: &mut [u64; 1536],
-) -> u64
-    requires { ⌜ Ready (now links) (now runs) n × NodeOf i × TaskOf n j × Memo (graph (now links) (now runs) n) (now known) (now value) ⌝ }
-    ensures { λ r. ⌜ AddedIs (graph (now (links .entry)) (now (runs .entry)) n) i j r × Memo (graph (now (links .entry)) (now (runs .entry)) n) (now (known .exit)) (now (value .exit)) ⌝ }
+// The works of n tasks.
+pub fn works_of(adds: &[u64; 48], runs: &[u32; 32], n: usize) -> [u64; 32]
+    requires { ⌜ Ready (now adds) (now runs) n ⌝ }
+    ensures { λ r. ⌜ WorksOf (graph (now (adds .entry)) (now (runs .entry)) n) r × Scaled r ⌝ }
 {
-    let direct = place(i, j);
-    if links[direct] {
-        return work(links, runs, n, j, &mut *known, &mut *value);
+    let mut known = [0u64; 32];
+    let mut works = [0u64; 32];
+    let mut j = n;
+    while 0 < j {
+        let w = work(adds, runs, n, j, &mut known);
+        j -= 1;
+        works[j] = w;
     }
-    let mut best: u64 = 0;
-    let mut via = j + 1;
-    while via <= n {
-        let at = place(i, via);
-        if links[at] {
-            let a = added(links, runs, n, via, j, &mut *known, &mut *value);
-            best = larger(best, a);
-        }
-        via = via + 1;
-    }
-    best
+    works
 }

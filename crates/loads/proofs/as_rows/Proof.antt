@@ -8,7 +8,6 @@ use lib.ListN.{length, getD, length-set}
 use borrow.Author.Count.{below-none}
 use Rattle.model.specs.Loads.{noRow}
 use Rattle.loads.proofs.Fill.{stored}
-use Rattle.loads.proofs.Sheets.{rows-are}
 use Rattle.loads.proofs.as_rows.Statement.{statement}
 use Rattle.loads.proofs.as_rows.Tie as tie
 
@@ -49,7 +48,7 @@ loop-again c =
 returns : tie.Need-returns Inv-loop μ-loop
 returns c =
     let L = c .before .loop in
-    rows-are (c .before .before .args .t1) (L .rows) (L .inv .1) (λ k p. L .inv .2 k (omega arith))
+    (L .inv .1, λ k p. L .inv .2 k (omega arith))
 
 pub as-rows-spec : {M : Type 1} → statement M
 as-rows-spec =

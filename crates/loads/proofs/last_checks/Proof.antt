@@ -1,74 +1,61 @@
--- `loads::last_checks` meets its contract: a return for each end of the checks. Assumes nothing.
+-- `loads::last_checks` meets its contract. Assumes nothing.
 use borrow.Author.Needs.{needs}
-use mathlib.Core.Path.{sym, ap, _∙_}
+use mathlib.Core.Path.{refl, sym, ap, _∙_}
 use mathlib.Core.List.{List}
 use Rattle.model.specs.declared.Row.{Row}
 use Rattle.model.specs.declared.LoadSheet.{LoadSheet}
 use Rattle.model.specs.declared.Outcome.the-variants.{Done}
-use Rattle.model.specs.Graph.{system}
-use Rattle.loads.proofs.Checks.{ends-empty, ends-loop, ends-heavy, ends-done}
+use Rattle.loads.proofs.Checks.{sheet-refused, sheet-done, rows-are}
 use Rattle.loads.proofs.last_checks.Statement.{statement}
 use Rattle.loads.proofs.last_checks.Tie as tie
 
 done : List Row → LoadSheet
 done rows = record { outcome = Done; rows = rows }
 
+work-out-requires : tie.Need-work-out-requires
+work-out-requires c κs = search needs
+
+enum-known-judged : tie.Need-enum-known-judged
+enum-known-judged c = search needs
+
 refused-requires : tie.Need-refused-requires
 refused-requires c κs = search needs
 
 returns : tie.Need-returns
-returns c = c .refused .ensures ∙ sym (ends-empty (c .before .before .before .args .d) (c .before .if1 .taken))
+returns c =
+    let S = c .before .before .before .before .before in
+    let w = c .before .before .before .before .work-out in
+    c .refused .ensures ∙ sym (sheet-refused (S .args .d) _ _ (sym (w .ensures .judged) ∙ c .before .before .judged .given .1))
 
-has-cycle-requires : tie.Need-has-cycle-requires
-has-cycle-requires c κs = search needs
+enum-told : tie.Need-enum-told
+enum-told c = search needs
 
-refused-requires-2 : tie.Need-refused-requires-2
-refused-requires-2 c κs = search needs
-
-returns-2 : tie.Need-returns-2
-returns-2 c =
-    let d = c .before .before .before .before .before .args .d in
-    c .refused2 .ensures ∙ sym (ends-loop d (c .before .before .before .if1 .left) (sym (c .before .before .has-cycle .ensures) ∙ c .before .if2 .taken))
-
-load-sheet-requires : tie.Need-load-sheet-requires
-load-sheet-requires c κs = (c .before .before .before .before .pre, sym (c .before .has-cycle .ensures) ∙ c .if2 .left)
-
-too-heavy-requires : tie.Need-too-heavy-requires
-too-heavy-requires c κs = search needs
-
-refused-requires-3 : tie.Need-refused-requires-3
-refused-requires-3 c κs = search needs
-
-returns-3 : tie.Need-returns-3
-returns-3 c =
-    let d = c .before .before .before .before .before .before .before .before .args .d in
-    let acyclic = sym (c .before .before .before .before .before .has-cycle .ensures) ∙ c .before .before .before .before .if2 .left in
-    let heavy = sym (c .before .before .too-heavy .ensures (system d) (c .before .before .before .load-sheet .ensures)) ∙ c .before .if3 .taken in
-    c .refused3 .ensures ∙ sym (ends-heavy d (c .before .before .before .before .before .before .if1 .left) acyclic heavy)
+load-rows-requires : tie.Need-load-rows-requires
+load-rows-requires c κs =
+    let S = c .before .before .before .before .before .before in
+    let w = c .before .before .before .before .before .work-out in
+    (S .pre .few-tasks, w .ensures .worked (sym (w .ensures .judged) ∙ c .before .before .before .enum-told .given .1) .scaled)
 
 as-rows-requires : tie.Need-as-rows-requires
 as-rows-requires c κs = search needs
 
-returns-4 : tie.Need-returns-4
+returns-2 : tie.Need-returns-2
 unfolding done
-returns-4 c =
-    let d = c .before .before .before .before .before .before .before .before .args .d in
-    let acyclic = sym (c .before .before .before .before .before .has-cycle .ensures) ∙ c .before .before .before .before .if2 .left in
-    let light = sym (c .before .before .too-heavy .ensures (system d) (c .before .before .before .load-sheet .ensures)) ∙ c .before .if3 .left in
-    ap done (c .as-rows .ensures (system d) (c .before .before .before .load-sheet .ensures)) ∙ sym (ends-done d (c .before .before .before .before .before .before .if1 .left) acyclic light)
+returns-2 c =
+    let S = c .before .before .before .before .before .before .before .before in
+    let w = c .before .before .before .before .before .before .before .work-out in
+    let e = sym (w .ensures .judged) ∙ c .before .before .before .before .before .enum-told .given .1 in
+    ap done (rows-are (S .args .d) (w .result .adds) (w .result .works) (c .before .load-rows .result) (c .as-rows .result) (w .ensures .worked e) (c .before .load-rows .ensures) (c .as-rows .ensures)) ∙ sym (sheet-done (S .args .d) e)
 
 pub last-checks-spec : {M : Type 1} → statement M
 last-checks-spec =
     tie.close
     (tie.spec
+    work-out-requires
+    enum-known-judged
     refused-requires
     returns
-    has-cycle-requires
-    refused-requires-2
-    returns-2
-    load-sheet-requires
-    too-heavy-requires
-    refused-requires-3
-    returns-3
+    enum-told
+    load-rows-requires
     as-rows-requires
-    returns-4)
+    returns-2)

@@ -1,70 +1,67 @@
--- `loads::rows::load_row` meets its contract: the entries from the highest task down hold their loads. Assumes nothing.
+-- `loads::rows::load_row` meets its contract: the row is filled from the highest task down. Assumes nothing.
 use borrow.Author.Needs.{needs}
 use native.Mathlib.Omega.{arith}
-use Prim.Native.Nat.{ℕ, suc, _≤_, _-_, _+_}
-use mathlib.Core.Path.{_≡_, sym}
-use Rattle.model.specs.Loads.{load}
-use Rattle.loads.specs.Tables.{graph, Memo}
-use Rattle.loads.proofs.Tabled.{graph-load}
-use Rattle.loads.proofs.Working.{RowFrom, load-none, load-step, row-none, row-put}
+use Prim.Native.Nat.{ℕ, suc, _+_, _≤_, _<_, _-_}
+use mathlib.Core.Path.{_≡_, refl, sym, ap, _∙_}
+use lib.ListN.{getD}
+use Rattle.loads.specs.Tables.{loadBy}
+use Rattle.loads.proofs.Working.{loadBy-none, loadBy-step, loadBy-most, RowFrom, row-none, row-put}
 use Rattle.loads.proofs.rows.load_row.Statement.{statement}
 use Rattle.loads.proofs.rows.load_row.Tie as tie
 
 abbrev Inv-loop : tie.InvT-loop
-Inv-loop links runs n i known₀ value₀ row₀ sum₀ j₀ known value row sum j =
-    (j ≤ n) × (sum ≡ load (graph links runs n) i (suc j)) × RowFrom (graph links runs n) i j row × Memo (graph links runs n) known value
+Inv-loop row works n loads₀ sum₀ j₀ loads sum j = (j ≤ n) × (sum ≡ loadBy row works n (suc j)) × RowFrom row works n j loads
 
 abbrev μ-loop : tie.MeasureT-loop
-μ-loop links runs n i known₀ value₀ row₀ sum₀ j₀ known value row sum j = j
+μ-loop row works n loads₀ sum₀ j₀ loads sum j = j
 
 loop-holds : tie.Need-loop-holds Inv-loop μ-loop
-unfolding graph
-loop-holds c =
-    let s = graph (c .args .links .now) (c .args .runs .now) (c .args .n) in
-    (omega arith, sym (load-none s (c .args .i) (suc (c .args .n)) (omega arith)), row-none s (c .args .i), c .pre .2)
-
-added-requires : tie.Need-added-requires Inv-loop μ-loop
-added-requires c κs =
-    let S = c .before .before .before .before in
-    let L = c .before .before .before .loop in
-    (S .pre .0, S .pre .1, omega arith, L .inv .3)
-
-add-sum : tie.Need-add-sum Inv-loop μ-loop
-unfolding graph
-add-sum c =
-    let S = c .before .before .before .before .before in
-    let L = c .before .before .before .before .loop in
-    let s = graph (S .args .links .now) (S .args .runs .now) (S .args .n) in
-    let j : ℕ = L .j in
-    omega (arith, load-step s (S .args .i) (L .j) (L .inv .0), graph-load (S .args .links .now) (S .args .runs .now) (S .args .n) (S .pre .0) (S .args .i) (L .j) (omega arith), c .added .ensures .0, L .inv .1)
+loop-holds c = (omega arith, sym (loadBy-none (c .args .row) (c .args .works .now) (c .args .n) (suc (c .args .n)) (omega arith)), row-none (c .args .row) (c .args .works .now) (c .args .n))
 
 sub-j : tie.Need-sub-j Inv-loop μ-loop
 sub-j c = search needs
 
-mul-row : tie.Need-mul-row Inv-loop μ-loop
-mul-row c = search needs
+mul-part : tie.Need-mul-part Inv-loop μ-loop
+mul-part c = search needs
 
-array-write-row : tie.Need-array-write-row Inv-loop μ-loop
-array-write-row c = search needs
+element-copy-out-part : tie.Need-element-copy-out-part Inv-loop μ-loop
+element-copy-out-part c = search needs
+
+part-requires : tie.Need-part-requires Inv-loop μ-loop
+part-requires c κs = search needs
+
+add-sum : tie.Need-add-sum Inv-loop μ-loop
+add-sum c =
+    let S = c .before .before .before .before in
+    let L = c .before .before .before .loop in
+    let b = L .j - 1 in
+    let e : L .j ≡ suc b = omega arith in
+    omega (arith, L .inv .1, rw e at (L .inv .1), c .part .ensures, loadBy-step (S .args .row) (S .args .works .now) (S .args .n) b (omega arith), loadBy-most (S .args .row) (S .args .works .now) (S .args .n) (suc b) (S .pre .0) (S .pre .1) (omega arith))
+
+mul-loads : tie.Need-mul-loads Inv-loop μ-loop
+mul-loads c = search needs
+
+array-write-loads : tie.Need-array-write-loads Inv-loop μ-loop
+array-write-loads c = search needs
 
 loop-less : tie.Need-loop-less Inv-loop μ-loop
 loop-less c = search needs
 
 loop-again : tie.Need-loop-again Inv-loop μ-loop
-unfolding graph
 loop-again c =
-    let S = c .before .before .before .before .before in
-    let L = c .before .before .before .before .loop in
-    let s = graph (S .args .links .now) (S .args .runs .now) (S .args .n) in
-    let e : suc (L .j - 1) ≡ L .j = omega arith in
-    let sum : L .sum + c .added .result ≡ load s (S .args .i) (L .j) = omega (arith, load-step s (S .args .i) (L .j) (L .inv .0), c .added .ensures .0, L .inv .1) in
-    let sum′ : L .sum + c .added .result ≡ load s (S .args .i) (suc (L .j - 1)) = rw e sum in
-    (omega arith, sum′, row-put s (S .args .i) (L .j - 1) (L .row) (L .sum + c .added .result) (omega (arith, S .pre .0 .few)) sum′ (rw e (L .inv .2)), c .added .ensures .1)
+    let S = c .before .before .before .before in
+    let L = c .before .before .before .loop in
+    let b = L .j - 1 in
+    let e : L .j ≡ suc b = omega arith in
+    let s : L .sum + c .part .result ≡ loadBy (S .args .row) (S .args .works .now) (S .args .n) (suc b) = omega (arith, rw e at (L .inv .1), c .part .ensures, loadBy-step (S .args .row) (S .args .works .now) (S .args .n) b (omega arith)) in
+    (omega arith, s, row-put (S .args .row) (S .args .works .now) (S .args .n) b (L .loads) (L .sum + c .part .result) (omega arith) s (rw e at (L .inv .2)))
 
 returns : tie.Need-returns Inv-loop μ-loop
 returns c =
     let L = c .before .loop in
-    ((L .inv .2 .0, λ k p. L .inv .2 .1 k (omega arith) p), L .inv .3)
+    let e : L .j ≡ 0 = omega arith in
+    let r = L .inv .2 in
+    (r .0, λ k p. r .1 k (omega arith) p)
 
 pub load-row-spec : {M : Type 1} → statement M
 load-row-spec =
@@ -73,11 +70,13 @@ load-row-spec =
     Inv-loop
     μ-loop
     loop-holds
-    added-requires
-    add-sum
     sub-j
-    mul-row
-    array-write-row
+    mul-part
+    element-copy-out-part
+    part-requires
+    add-sum
+    mul-loads
+    array-write-loads
     loop-less
     loop-again
     returns)

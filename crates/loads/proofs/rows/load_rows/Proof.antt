@@ -1,36 +1,32 @@
--- `loads::rows::load_rows` meets its contract: the rows passed so far hold their loads, and the memo is right. Assumes nothing.
+-- `loads::rows::load_rows` meets its contract: the rows below i are filled. Assumes nothing.
 use borrow.Author.Needs.{needs}
 use native.Mathlib.Omega.{arith}
-use Prim.Native.Nat.{ℕ, suc, _≤_, _<_, _-_, _+_}
-use mathlib.Core.Path.{_≡_, refl}
+use Prim.Native.Nat.{ℕ, suc, _+_, _≤_, _<_, _-_}
+use mathlib.Core.Path.{_≡_, refl, sym, ap, _∙_}
 use mathlib.Core.List.{[]}
 use lib.ListN.{length, getD, length-set}
-use Rattle.loads.specs.Tables.{graph, Memo, RowIs}
+use Rattle.loads.specs.Tables.{RowBy}
 use Rattle.loads.proofs.Fill.{stored}
-use Rattle.loads.proofs.Working.{memo-none}
 use Rattle.loads.proofs.rows.load_rows.Statement.{statement}
 use Rattle.loads.proofs.rows.load_rows.Tie as tie
 
 abbrev Inv-loop : tie.InvT-loop
-Inv-loop links runs n known₀ value₀ t₀ i₀ known value t i =
-    (i ≤ 48) × (length t ≡ 48) × ((r : ℕ) → r < i → RowIs (graph links runs n) (suc r) (getD t r [])) × Memo (graph links runs n) known value
+Inv-loop adds works n t₀ i₀ t i = (i ≤ 48) × (length t ≡ 48) × ((r : ℕ) → r < i → RowBy (getD adds r 0) works n (getD t r []))
 
 abbrev μ-loop : tie.MeasureT-loop
-μ-loop links runs n known₀ value₀ t₀ i₀ known value t i = 48 - i
+μ-loop adds works n t₀ i₀ t i = 48 - i
 
 loop-holds : tie.Need-loop-holds Inv-loop μ-loop
-loop-holds c =
-    let s = graph (c .args .links .now) (c .args .runs .now) (c .args .n) in
-    (omega arith, refl, (λ r p. absurd (omega arith)), memo-none s)
+loop-holds c = (omega arith, refl, λ r p. absurd (omega arith))
 
-add-load-row : tie.Need-add-load-row Inv-loop μ-loop
-add-load-row c = search needs
+mul-load-row : tie.Need-mul-load-row Inv-loop μ-loop
+mul-load-row c = search needs
+
+element-copy-out-load-row : tie.Need-element-copy-out-load-row Inv-loop μ-loop
+element-copy-out-load-row c = search needs
 
 load-row-requires : tie.Need-load-row-requires Inv-loop μ-loop
-load-row-requires c κs =
-    let S = c .before .before .before .before in
-    let L = c .before .before .before .loop in
-    (S .pre, omega arith, L .inv .3)
+load-row-requires c κs = search needs
 
 mul-t : tie.Need-mul-t Inv-loop μ-loop
 mul-t c = search needs
@@ -46,17 +42,12 @@ loop-less c = search needs
 
 loop-again : tie.Need-loop-again Inv-loop μ-loop
 loop-again c =
-    let S = c .before .before .before .before .before in
-    let L = c .before .before .before .before .loop in
-    let s = graph (S .args .links .now) (S .args .runs .now) (S .args .n) in
-    let e : L .i + 1 ≡ suc (L .i) = omega arith in
-    let h : L .i < length (L .t) = omega arith in
-    (omega arith, simp length-set (L .inv .1), stored (λ r row. RowIs s (suc r) row) [] (L .t) (L .i) (c .load-row .result) h (L .inv .2) (rw e at (c .load-row .ensures .0)), c .load-row .ensures .1)
+    let S = c .before .before .before .before in
+    let L = c .before .before .before .loop in
+    (omega arith, simp length-set (L .inv .1), stored (λ r x. RowBy (getD (S .args .adds .now) r 0) (S .args .works .now) (S .args .n) x) [] (L .t) (L .i) (c .load-row .result) (omega (arith, L .inv .1)) (L .inv .2) (c .load-row .ensures))
 
 returns : tie.Need-returns Inv-loop μ-loop
-returns c =
-    let L = c .before .loop in
-    (L .inv .1, λ r p. L .inv .2 r (omega arith))
+returns c = let L = c .before .loop in (L .inv .1, λ r p. L .inv .2 r (omega arith))
 
 pub load-rows-spec : {M : Type 1} → statement M
 load-rows-spec =
@@ -65,7 +56,8 @@ load-rows-spec =
     Inv-loop
     μ-loop
     loop-holds
-    add-load-row
+    mul-load-row
+    element-copy-out-load-row
     load-row-requires
     mul-t
     array-set-from-t

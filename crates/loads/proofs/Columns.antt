@@ -1,0 +1,107 @@
+-- Columns of loads, filled from the highest task down, and totals. Assumes nothing.
+use Prim.Native.Nat.{ℕ, zero, suc, _+_, _-_, _≤_, _<_, max}
+use mathlib.Core.Path.{_≡_, refl, sym, ap, _∙_}
+use mathlib.Core.Bool.{Bool, true, false}
+use mathlib.Core.List.{List, []}
+use native.Mathlib.Omega.{arith}
+use native.Mathlib.Numerals.{add-one}
+use lib.ListN.{length, getD, set, length-set, replicate, getD-replicate}
+use lib.Seq.{getD-set-same, getD-set-other}
+use lib.Dec.{ltb}
+use borrow.Author.Tests.{lt-ltb, le-ltb}
+use Rattle.model.specs.Basics.{sumN, sumTo, topN, given}
+use Rattle.theory.proofs.Tests.{Cmp, less, same, more, cmp}
+use Rattle.theory.proofs.Range.{sumTo-le, given-le, any-at, any-none, top-more}
+use Rattle.loads.specs.Sets.{member}
+use Rattle.loads.specs.Tables.{Column, loadBy, heavyBy}
+use Rattle.loads.proofs.Working.{loadBy-step}
+
+-- one more entry of a column is worked out
+pub column-none : (base : ℕ) (adds : List ℕ) (j w : ℕ) (l : List ℕ) → Column base adds j w 0 l l
+column-none base adds j w l = (refl, λ k p. absurd (omega arith), λ k p. refl)
+
+pub column-more : (base : ℕ) (adds : List ℕ) (j w u : ℕ) (l₀ l : List ℕ) (x : ℕ) → u < length l₀ → x ≡ getD l u 0 + given (member (getD adds (base + u) 0) j) w → Column base adds j w u l₀ l → Column base adds j w (u + 1) l₀ (set l u x)
+column-more base adds j w u l₀ l x p e C =
+    (simp length-set (C .0), λ k q. low k q (cmp k u), λ k q. getD-set-other l u k x 0 (λ z. omega arith) ∙ C .2 k (omega arith))
+  where
+    here : getD (set l u x) u 0 ≡ getD l₀ u 0 + given (member (getD adds (base + u) 0) j) w
+    here = getD-set-same l u x 0 (omega (arith, C .0)) ∙ e ∙ ap (λ y. y + given (member (getD adds (base + u) 0) j) w) (C .2 u (omega arith))
+
+    low : (k : ℕ) → k < u + 1 → Cmp k u → getD (set l u x) k 0 ≡ getD l₀ k 0 + given (member (getD adds (base + k) 0) j) w
+    low k q (less r) = getD-set-other l u k x 0 (λ z. omega arith) ∙ C .1 k r
+    low k q (same r) = rw r here
+    low k q (more r) = absurd (omega arith)
+
+-- a column is one further down
+pub column-load : (base : ℕ) (adds works : List ℕ) (n c m : ℕ) (l l′ : List ℕ) → c < n → Column base adds c (getD works c 0) m l l′ → (k : ℕ) → k < m → getD l k 0 ≡ loadBy (getD adds (base + k) 0) works n (suc (suc c)) → getD l′ k 0 ≡ loadBy (getD adds (base + k) 0) works n (suc c)
+column-load base adds works n c m l l′ p C k q e =
+    omega (arith, C .1 k q, loadBy-step (getD adds (base + k) 0) works n c p)
+
+pub column-tasks : (adds works : List ℕ) (n c m : ℕ) (l l′ : List ℕ) → c < n → Column 0 adds c (getD works c 0) m l l′ → (k : ℕ) → k < m → getD l k 0 ≡ loadBy (getD adds k 0) works n (suc (suc c)) → getD l′ k 0 ≡ loadBy (getD adds k 0) works n (suc c)
+column-tasks adds works n c m l l′ p C k q e =
+    let z : 0 + k ≡ k = omega arith in
+    rw z at (column-load 0 adds works n c m l l′ p C k q (rw z e))
+
+pub top-cong : (f g : ℕ → ℕ) (n : ℕ) → ((k : ℕ) → k < n → f k ≡ g k) → topN f 0 n ≡ topN g 0 n
+unfolding topN
+top-cong f g zero h = refl
+top-cong f g (suc n) h = let e : 0 + n ≡ n = omega arith in rw (top-cong f g n (λ k p. h k (omega arith)), e, h n (omega arith)) refl
+
+pub top-set : (l : List ℕ) (k x : ℕ) → k < length l → topN (λ i. getD (set l k x) i 0) 0 (k + 1) ≡ max (topN (λ i. getD l i 0) 0 k) x
+top-set l k x p =
+    top-more (λ i. getD (set l k x) i 0) k
+    ∙ ap (λ y. max y (getD (set l k x) k 0)) (top-cong _ _ k (λ i q. getD-set-other l k i x 0 (λ z. omega arith)))
+    ∙ ap (max (topN (λ i. getD l i 0) 0 k)) (getD-set-same l k x 0 p)
+
+-- all works together are no less than a node's load
+pub load-under : (row : ℕ) (works : List ℕ) (n : ℕ) → loadBy row works n 1 ≤ sumTo (λ k. getD works (k - 1) 0) 1 n
+unfolding loadBy
+load-under row works n =
+    sumTo-le (λ k. given (member row (k - 1)) (getD works (k - 1) 0)) (λ k. getD works (k - 1) 0) 1 n
+    (λ k p q. given-le (member row (k - 1)) (getD works (k - 1) 0) (getD works (k - 1) 0) (λ e. omega arith))
+
+pub heavy-found : (adds works : List ℕ) (n r : ℕ) → r < 48 → 1000000000 < loadBy (getD adds r 0) works n 1 → heavyBy adds works n ≡ true
+unfolding heavyBy
+heavy-found adds works n r p h = any-at (λ r. ltb 1000000000 (loadBy (getD adds r 0) works n 1)) 0 48 r (omega arith) (omega arith) (lt-ltb _ _ h)
+
+pub heavy-none : (adds works : List ℕ) (n : ℕ) → ((r : ℕ) → r < 48 → loadBy (getD adds r 0) works n 1 ≤ 1000000000) → heavyBy adds works n ≡ false
+unfolding heavyBy
+heavy-none adds works n h = any-none (λ r. ltb 1000000000 (loadBy (getD adds r 0) works n 1)) 0 48 (λ k p q. le-ltb _ _ (h k (omega arith)))
+
+pub zero-entry : (n k : ℕ) → k < n → getD {A = ℕ} (replicate n 0) k 0 ≡ 0
+zero-entry n k p = getD-replicate n k 0 0 p
+
+-- levels and starts from task j + 1 on, filled from the highest down
+abbrev pub LevelsFrom : List ℕ → List ℕ → ℕ → ℕ → ℕ → List (List ℕ) → Type 0
+LevelsFrom adds works n m j levels = (length levels ≡ 32) × ((k u : ℕ) → j ≤ k → k < n → u < m → getD (getD levels k []) u 0 ≡ loadBy (getD adds (32 + u) 0) works n (suc k))
+
+pub levels-put : (adds works : List ℕ) (n m j : ℕ) (levels : List (List ℕ)) (row : List ℕ) → j < 32 → ((u : ℕ) → u < m → getD row u 0 ≡ loadBy (getD adds (32 + u) 0) works n (suc j)) → LevelsFrom adds works n m (suc j) levels → LevelsFrom adds works n m j (set levels j row)
+levels-put adds works n m j levels row p h F = (simp length-set (F .0), λ k u q r t. go k u r t q (cmp j k))
+  where
+    go : (k u : ℕ) → k < n → u < m → j ≤ k → Cmp j k → getD (getD (set levels j row) k []) u 0 ≡ loadBy (getD adds (32 + u) 0) works n (suc k)
+    go k u r t q (less x) = ap (λ l. getD l u 0) (getD-set-other levels j k row [] (λ z. omega arith)) ∙ F .1 k u x r t
+    go k u r t q (same x) = rw (← x) (ap (λ l. getD l u 0) (getD-set-same levels j row [] (omega (arith, F .0))) ∙ h u t)
+    go k u r t q (more x) = absurd (omega arith)
+
+abbrev pub StartsFrom : List ℕ → List ℕ → ℕ → ℕ → List ℕ → Type 0
+StartsFrom adds works n j starts = (length starts ≡ 32) × ((c : ℕ) → j ≤ c → c < n → getD starts c 0 ≡ topN (λ k. loadBy (getD adds k 0) works n (suc c)) 0 c)
+
+pub starts-put : (adds works : List ℕ) (n j : ℕ) (starts : List ℕ) (x : ℕ) → j < 32 → x ≡ topN (λ k. loadBy (getD adds k 0) works n (suc j)) 0 j → StartsFrom adds works n (suc j) starts → StartsFrom adds works n j (set starts j x)
+starts-put adds works n j starts x p e F = (simp length-set (F .0), λ c q r. go c r q (cmp j c))
+  where
+    go : (c : ℕ) → c < n → j ≤ c → Cmp j c → getD (set starts j x) c 0 ≡ topN (λ k. loadBy (getD adds k 0) works n (suc c)) 0 c
+    go c r q (less y) = getD-set-other starts j c x 0 (λ z. omega arith) ∙ F .1 c y r
+    go c r q (same y) = rw (← y) (getD-set-same starts j x 0 (omega (arith, F .0)) ∙ e)
+    go c r q (more y) = absurd (omega arith)
+
+pub levels-step : (adds works : List ℕ) (n m b : ℕ) (levels : List (List ℕ)) (l l′ : List ℕ) → b < n → n ≤ 32 → length l ≡ 16 → ((u : ℕ) → u < m → getD l u 0 ≡ loadBy (getD adds (32 + u) 0) works n (suc (suc b))) → Column 32 adds b (getD works b 0) m l l′ → LevelsFrom adds works n m (suc b) levels → (length l′ ≡ 16) × ((u : ℕ) → u < m → getD l′ u 0 ≡ loadBy (getD adds (32 + u) 0) works n (suc b)) × LevelsFrom adds works n m b (set levels b l′)
+levels-step adds works n m b levels l l′ p few long h C F = (C .0 ∙ long, now, levels-put adds works n m b levels l′ (omega arith) now F)
+  where
+    now : (u : ℕ) → u < m → getD l′ u 0 ≡ loadBy (getD adds (32 + u) 0) works n (suc b)
+    now u q = column-load 32 adds works n b m l l′ p C u q (h u q)
+
+pub starts-step : (adds works : List ℕ) (n b : ℕ) (starts : List ℕ) (l l′ : List ℕ) (x : ℕ) → b < n → n ≤ 32 → length l ≡ 32 → ((k : ℕ) → k < suc b → getD l k 0 ≡ loadBy (getD adds k 0) works n (suc (suc b))) → Column 0 adds b (getD works b 0) b l l′ → x ≡ topN (λ k. getD l′ k 0) 0 b → StartsFrom adds works n (suc b) starts → (length l′ ≡ 32) × ((k : ℕ) → k < b → getD l′ k 0 ≡ loadBy (getD adds k 0) works n (suc b)) × StartsFrom adds works n b (set starts b x)
+starts-step adds works n b starts l l′ x p few long h C e F = (C .0 ∙ long, now, starts-put adds works n b starts x (omega arith) (e ∙ top-cong _ _ b now) F)
+  where
+    now : (k : ℕ) → k < b → getD l′ k 0 ≡ loadBy (getD adds k 0) works n (suc b)
+    now k q = column-tasks adds works n b b l l′ p C k q (h k (omega arith))

@@ -1,0 +1,76 @@
+-- `loads::levels::levels_of` meets its contract: the levels from task j + 1 on are there. Assumes nothing.
+use borrow.Author.Needs.{needs}
+use native.Mathlib.Omega.{arith}
+use Prim.Native.Nat.{ℕ, suc, _+_, _≤_, _<_, _-_}
+use mathlib.Core.Path.{_≡_, refl, sym, ap, _∙_}
+use mathlib.Core.List.{[]}
+use lib.ListN.{length, getD, length-set}
+use Rattle.loads.specs.Tables.{loadBy}
+use Rattle.loads.proofs.Working.{loadBy-none, loadBy-most}
+use Rattle.loads.proofs.Columns.{LevelsFrom, levels-step, zero-entry}
+use Rattle.loads.proofs.levels.levels_of.Statement.{statement}
+use Rattle.loads.proofs.levels.levels_of.Tie as tie
+
+abbrev Inv-loop : tie.InvT-loop
+Inv-loop adds works n m levels₀ loads₀ j₀ levels loads j = (j ≤ n) × (length loads ≡ 16) × ((u : ℕ) → u < m → getD loads u 0 ≡ loadBy (getD adds (32 + u) 0) works n (suc j)) × LevelsFrom adds works n m j levels
+
+abbrev μ-loop : tie.MeasureT-loop
+μ-loop adds works n m levels₀ loads₀ j₀ levels loads j = j
+
+loop-holds : tie.Need-loop-holds Inv-loop μ-loop
+loop-holds c = (omega arith, refl, λ u p. zero-entry 16 u (omega (arith, c .pre .1)) ∙ sym (loadBy-none (getD (c .args .adds .now) (32 + u) 0) (c .args .works .now) (c .args .n) (suc (c .args .n)) (omega arith)), (refl, λ k u p q. absurd (omega arith)))
+
+sub-j : tie.Need-sub-j Inv-loop μ-loop
+sub-j c = search needs
+
+mul-source-column : tie.Need-mul-source-column Inv-loop μ-loop
+mul-source-column c = search needs
+
+element-copy-out-source-column : tie.Need-element-copy-out-source-column Inv-loop μ-loop
+element-copy-out-source-column c = search needs
+
+source-column-requires : tie.Need-source-column-requires Inv-loop μ-loop
+source-column-requires c κs =
+    let S = c .before .before .before .before in
+    let L = c .before .before .before .loop in
+    (S .pre .1, omega (arith, S .pre .0), L .inv .1, S .pre .2 (L .j - 1), λ u p. omega (arith, L .inv .2 u p, loadBy-most (getD (S .args .adds .now) (32 + u) 0) (S .args .works .now) (S .args .n) (suc (L .j)) (S .pre .0) (S .pre .2) (omega arith)))
+
+mul-levels : tie.Need-mul-levels Inv-loop μ-loop
+mul-levels c = search needs
+
+array-set-from-levels : tie.Need-array-set-from-levels Inv-loop μ-loop
+array-set-from-levels c = search needs
+
+loop-less : tie.Need-loop-less Inv-loop μ-loop
+loop-less c = search needs
+
+loop-again : tie.Need-loop-again Inv-loop μ-loop
+loop-again c =
+    let S = c .before .before .before .before .before in
+    let L = c .before .before .before .before .loop in
+    let b = L .j - 1 in
+    let e : L .j ≡ suc b = omega arith in
+    let r = levels-step (S .args .adds .now) (S .args .works .now) (S .args .n) (S .args .m) b (L .levels) (L .loads) _ (omega arith) (S .pre .0) (L .inv .1) (rw e at (L .inv .2)) (c .source-column .ensures) (rw e at (L .inv .3)) in
+    (omega arith, r .0, r .1, r .2)
+
+returns : tie.Need-returns Inv-loop μ-loop
+returns c =
+    let L = c .before .loop in
+    λ k u p q. L .inv .3 .1 k u (omega arith) p q
+
+pub levels-of-spec : {M : Type 1} → statement M
+levels-of-spec =
+    tie.close
+    (tie.spec
+    Inv-loop
+    μ-loop
+    loop-holds
+    sub-j
+    mul-source-column
+    element-copy-out-source-column
+    source-column-requires
+    mul-levels
+    array-set-from-levels
+    loop-less
+    loop-again
+    returns)

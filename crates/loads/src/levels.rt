@@ -1,0 +1,79 @@
+// The columns of the load sheet that verdicts go by: the loads of sources at each task, and the largest of a lower task.
+use crate::rows::part;
+ghost use mathlib.Core.Path.{_≡_};
+ghost use mathlib.Core.List.{[]};
+ghost use Prim.Native.Nat.{ℕ, suc, _+_, _≤_, _<_, max};
+ghost use lib.ListN.{getD, length};
+ghost use Rattle.model.specs.Basics.{topN};
+ghost use Rattle.loads.specs.Tables.{Scaled, loadBy, Column};
+
+// The loads of m sources one task further down, where the work of task j + 1 comes in.
+fn source_column(adds: &[u64; 48], m: usize, j: usize, w: u64, loads: &mut [u64; 16])
+    requires { ⌜ (m ≤ 16) × (j < 64) × (length (now loads) ≡ 16) × (w ≤ 42949672960000000) × ((u : ℕ) → u < m → getD (now loads) u 0 ≤ 1374389534720000000) ⌝ }
+    ensures { λ _. ⌜ Column 32 (now (adds .entry)) j w m (now (loads .entry)) (now (loads .exit)) ⌝ }
+{
+    let mut u: usize = 0;
+    while u < m {
+        loads[u] = loads[u] + part(adds[32 + u], j, w);
+        u += 1;
+    }
+}
+
+// The loads of m sources at each of n tasks.
+pub fn levels_of<'a>(
+    adds: &'a [u64; 48],
+    works: &'a [u64; 32],
+    n: usize,
+    m: usize,
+) -> [[u64; 16]; 32]
+    requires { ⌜ (n ≤ 32) × (m ≤ 16) × Scaled (now works) ⌝ }
+    ensures { λ r. ⌜ ((j u : ℕ) → j < n → u < m → getD (getD r j []) u 0 ≡ loadBy (getD (now (adds .entry)) (32 + u) 0) (now (works .entry)) n (suc j)) ⌝ }
+{
+    let mut levels = [[0u64; 16]; 32];
+    let mut loads = [0u64; 16];
+    let mut j = n;
+    while 0 < j {
+        j -= 1;
+        source_column(adds, m, j, works[j], &mut loads);
+        levels[j] = loads;
+    }
+    levels
+}
+
+// The larger of two numbers.
+fn larger(a: u64, b: u64) -> u64
+    ensures { λ r. ⌜ r ≡ max a b ⌝ }
+{
+    if a < b { b } else { a }
+}
+
+// The same for the tasks below j + 1, and the largest of their loads.
+fn task_column(adds: &[u64; 48], j: usize, w: u64, loads: &mut [u64; 32]) -> u64
+    requires { ⌜ (j < 32) × (length (now loads) ≡ 32) × (w ≤ 42949672960000000) × ((k : ℕ) → k < j → getD (now loads) k 0 ≤ 1374389534720000000) ⌝ }
+    ensures { λ r. ⌜ Column 0 (now (adds .entry)) j w j (now (loads .entry)) (now (loads .exit)) × (r ≡ topN (λ k. getD (now (loads .exit)) k 0) 0 j) ⌝ }
+{
+    let mut best: u64 = 0;
+    let mut k: usize = 0;
+    while k < j {
+        let load = loads[k] + part(adds[k], j, w);
+        loads[k] = load;
+        best = larger(best, load);
+        k += 1;
+    }
+    best
+}
+
+// For each of n tasks the largest load that a lower task puts on it.
+pub fn starts_of<'a>(adds: &'a [u64; 48], works: &'a [u64; 32], n: usize) -> [u64; 32]
+    requires { ⌜ (n ≤ 32) × Scaled (now works) ⌝ }
+    ensures { λ r. ⌜ ((j : ℕ) → j < n → getD r j 0 ≡ topN (λ k. loadBy (getD (now (adds .entry)) k 0) (now (works .entry)) n (suc j)) 0 j) ⌝ }
+{
+    let mut starts = [0u64; 32];
+    let mut loads = [0u64; 32];
+    let mut j = n;
+    while 0 < j {
+        j -= 1;
+        starts[j] = task_column(adds, j, works[j], &mut loads);
+    }
+    starts
+}

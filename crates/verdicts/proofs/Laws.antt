@@ -5,7 +5,7 @@ use mathlib.Core.Bool.{Bool, true, false, _&&_}
 use mathlib.Core.List.{List}
 use native.Mathlib.Omega.{arith}
 use native.Mathlib.Numerals.{add-one}
-use native.Mathlib.Nat.{div-mul-le-self, mul-le-mul-left, mul-le-mul, mul-pos, zero-add, div-le-self}
+use native.Mathlib.Nat.{div-mul-le-self, mul-le-mul-left, mul-le-mul, mul-pos, zero-add, div-lt-iff-lt-mul, le-div-iff-mul-le}
 use lib.ListN.{getD, length}
 use lib.Dec.{leb}
 use borrow.Author.Tests.{leb-true}
@@ -45,6 +45,15 @@ unfolding spacings
 spacings-most d m p h =
     let q : ℕ = (d + (m - 1)) / m in
     omega (arith, less-quotient q d m p (div-mul-le-self (d + (m - 1)) m))
+
+-- a stretch no longer than the spacing holds one, any other the rounded quotient
+pub spacings-near : (d m : ℕ) → 1 ≤ m → d ≤ m → 1 ≡ spacings d m
+unfolding spacings
+spacings-near d m p h = omega (arith, div-lt-iff-lt-mul {k = m} {x = d + (m - 1)} {y = 2} p .1 (omega arith))
+
+pub spacings-far : (d m : ℕ) → 1 ≤ m → m < d → (d + (m - 1)) / m ≡ spacings d m
+unfolding spacings
+spacings-far d m p h = omega (arith, le-div-iff-mul-le {k = m} {x = 1} {y = d + (m - 1)} p .1 (omega arith))
 
 -- the loop of a round
 module _ (start : ℕ) (loads gaps : List ℕ) (n d : ℕ) where

@@ -26,8 +26,11 @@ pub fn spacings_in(d: u64, m: u64) -> u64
     requires { ⌜ (1 ≤ m) × (m ≤ 1000000000) × (d ≤ 1000000000) ⌝ }
     ensures { λ r. ⌜ r ≡ spacings d m ⌝ }
 {
-    let q = (d + (m - 1)) / m;
-    if 1 < q { q } else { 1 }
+    if d <= m {
+        return 1;
+    }
+    let q = (d + (m - 1)) as u32 / m as u32;
+    q as u64
 }
 
 // One round: what the level may bring in a stretch of d ticks.

@@ -64,21 +64,34 @@ pub fn saturated(loads: &[u64; 16], gaps: &[u64; 16], n: usize) -> bool
     false
 }
 
+// The same, asked after 32 rounds and never again: most levels settle in fewer.
+fn hopeless(loads: &[u64; 16], gaps: &[u64; 16], n: usize, rounds: u64) -> bool
+    requires { ⌜ Level 0 (now loads) (now gaps) n ⌝ }
+    ensures { λ r. ⌜ (r ≡ true → 8589934592 < shareIn 8589934592 (now (loads .entry)) (now (gaps .entry)) n) ⌝ }
+{
+    if rounds == 32 {
+        return saturated(loads, gaps, n);
+    }
+    false
+}
+
 // Where the rounds come to below a limit: the d that one leaves unchanged, or else the limit.
 pub fn level_reach(start: u64, loads: &[u64; 16], gaps: &[u64; 16], n: usize, limit: u64) -> u64
     requires { ⌜ Level start (now loads) (now gaps) n × (limit ≤ 1000000000) ⌝ }
     ensures { λ r. ⌜ r ≡ reachIn start (now (loads .entry)) (now (gaps .entry)) n limit ⌝ }
 {
-    if saturated(loads, gaps, n) {
-        return limit;
-    }
     let mut d = start;
+    let mut rounds: u64 = 0;
     while d < limit {
+        if hopeless(loads, gaps, n, rounds) {
+            return limit;
+        }
         let next = next_reach(start, loads, gaps, n, d);
         if next == d {
             return d;
         }
         d = next;
+        rounds += 1;
     }
     limit
 }

@@ -1,5 +1,5 @@
 -- Laws of the sets of nodes with a link to a task. Assumes nothing.
-use Prim.Native.Nat.{ℕ, zero, suc, _+_, _-_, _*_, _/_, _%_, _^_, _≤_, _<_}
+use Prim.Native.Nat.{ℕ, zero, suc, _+_, _-_, _/_, _%_, _^_, _≤_, _<_}
 use mathlib.Core.Path.{_≡_, refl, sym, ap, _∙_}
 use mathlib.Core.Bool.{Bool, true, false, _||_, _&&_}
 use mathlib.Core.List.{List}
@@ -8,17 +8,16 @@ use native.Mathlib.Nat.{div-eq-of-lt, div-one, pow-suc}
 use lib.ListN.{getD, set, length}
 use lib.Seq.{getD-set-same, getD-set-other}
 use lib.Dec.{eqb}
-use lib.Pow.{pow-pos, pow-mono, shr-shr, field, mod-mod-pow}
+use lib.Pow.{pow-mono, shr-shr, field, mod-mod-pow}
 use lib.Count.{trailingZeros, under}
 use borrow.Author.Tests.{eq-eqb, ne-eqb, eqb-true}
 use Rattle.model.specs.declared.Description.{Description}
-use Rattle.model.specs.Basics.{anyN}
 use Rattle.model.specs.Graph.{linkAt}
 use Rattle.theory.proofs.Tests.{Cmp, less, same, more, cmp, at-or-not, not-both, and-left, and-false-right, both, same-test}
 use Rattle.theory.proofs.Range.{any-more}
 use Rattle.loads.specs.Sets.{member}
 use Rattle.loads.specs.Tables.{InMatrix, linkedTo}
-use Rattle.verdicts.specs.Into.{linkInto, FirstIn}
+use Rattle.verdicts.specs.Into.{linkInto}
 
 -- bits of a word that is shifted, of its low half of 48 bits, and past its end
 pub member-shift : (s r k : ℕ) → member (s / 2 ^ r) k ≡ member s (r + k)

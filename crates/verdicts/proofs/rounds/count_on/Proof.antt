@@ -3,10 +3,10 @@ use Prim.Native.Nat.{_+_, _-_, _*_, _≤_}
 use mathlib.Core.Path.{_≡_, refl}
 use native.Mathlib.Omega.{arith}
 use native.Mathlib.Nat.{mul-le-mul, mul-zero, zero-mul, div-le-self, div-mul-le-self}
-use lib.ListN.{length, getD, length-set}
+use lib.ListN.{getD, length-set}
 use lib.Seq.{getD-set-same, getD-set-other}
 use borrow.Author.Needs.{needs}
-use Rattle.verdicts.specs.Level.{moreBy, CountsOn}
+use Rattle.verdicts.specs.Level.{moreBy}
 use Rattle.verdicts.proofs.Laws.{more-none, more-most}
 use Rattle.verdicts.proofs.rounds.count_on.Statement.{statement}
 use Rattle.verdicts.proofs.rounds.count_on.Tie as tie

@@ -1,10 +1,10 @@
 -- `first_reach` meets its contract: the sum of the first u sources' parts, which 64 bits hold, and their ends. Assumes nothing.
 use Prim.Native.Nat.{_≤_, _<_, _+_, _-_, _*_}
-use mathlib.Core.Path.{_≡_, sym, ap, _∙_}
+use mathlib.Core.Path.{_≡_, ap, _∙_}
 use native.Mathlib.Omega.{arith}
 use lib.ListN.{getD, length-set}
 use Rattle.theory.proofs.Table.{stored}
-use Rattle.verdicts.specs.Level.{Level, roundIn, endOf, Counted}
+use Rattle.verdicts.specs.Level.{roundIn, endOf, Counted}
 use Rattle.verdicts.proofs.Laws.{round-none, round-more, term-most, spacings-most}
 use Rattle.verdicts.proofs.rounds.first_reach.Statement.{statement}
 use Rattle.verdicts.proofs.rounds.first_reach.Tie as tie

@@ -1,8 +1,8 @@
 -- `level_reach` meets its contract: what is left to work out from d on is what was to be worked out from the start. Assumes nothing.
-use Prim.Native.Nat.{ℕ, _≤_, _+_, _-_, _<_}
-use mathlib.Core.Path.{_≡_, refl, sym, ap, _∙_}
+use Prim.Native.Nat.{ℕ, _≤_, _-_, _<_}
+use mathlib.Core.Path.{_≡_, refl, sym, _∙_}
 use native.Mathlib.Omega.{arith}
-use Rattle.verdicts.specs.Level.{Level, roundIn, reachIn, Counted}
+use Rattle.verdicts.specs.Level.{roundIn, Counted}
 use Rattle.verdicts.proofs.Laws.{ReachFrom, reach-full, reach-same, reach-next, reach-over, reach-done, round-in-mono, round-in-start, saturated-reach, level-any}
 use Rattle.verdicts.proofs.rounds.level_reach.Statement.{statement}
 use Rattle.verdicts.proofs.rounds.level_reach.Tie as tie

@@ -4,7 +4,7 @@ use mathlib.Core.Path.{_≡_}
 use native.Mathlib.Omega.{arith}
 use native.Mathlib.Nat.{mul-le-mul}
 use lib.ListN.{getD}
-use Rattle.verdicts.specs.Level.{Level, Counted, moreBy}
+use Rattle.verdicts.specs.Level.{Counted}
 use Rattle.verdicts.proofs.Laws.{Halfway, halfway-none, halfway-more, halfway-done, more-most}
 use Rattle.verdicts.proofs.rounds.next_reach.Statement.{statement}
 use Rattle.verdicts.proofs.rounds.next_reach.Tie as tie

@@ -8,11 +8,10 @@ use lib.Pow.{shr-shr}
 use borrow.Author.Needs.{needs}
 use borrow.Fn.Kinds.{In}
 use borrow.Fn.PlainCycle.{Measures, is, falls, and}
-use Rattle.model.specs.declared.Walk.{Walk}
 use Rattle.model.specs.Basics.{upTo}
 use Rattle.model.specs.Order.{meet}
 use Rattle.theory.proofs.Walk.{stepTo}
-use Rattle.verdicts.specs.Into.{intoSystem, FirstIn, unmet, VisitIs}
+use Rattle.verdicts.specs.Into.{intoSystem, FirstIn, unmet}
 use Rattle.verdicts.proofs.IntoLaws.{rest-node}
 use Rattle.verdicts.proofs.WalkLaws.{unmet-le, unmet-falls, visit-is-far, visit-is-again, visit-is-low, visit-is-high, turn-on, turn-none, turn-failed}
 use Rattle.verdicts.proofs.walk.visit.Reads as visit

@@ -8,6 +8,7 @@ use model::Refusal;
 use model::Row;
 use model::VerdictSlot;
 use verdicts::held_at;
+use verdicts::into::predecessors;
 use verdicts::plan::levels_of;
 use verdicts::plan::orders_of;
 use verdicts::plan::starts_of;
@@ -61,8 +62,8 @@ pub fn quote_from(d: Description, rows: [Row; 48]) -> Quoted
     let table = table_of(rows);
     let levels = levels_of(&table);
     let starts = starts_of(&table);
-    let links = loads::matrix::link_matrix(d);
-    let orders = orders_of(d, &links);
+    let into = predecessors(d);
+    let orders = orders_of(d, &into);
     if held_at(d, &levels, &starts, &orders, 200) {
         let q = highest(d, &levels, &starts, &orders);
         let slots = slots_at(d, &levels, &starts, &orders, q);

@@ -1,4 +1,5 @@
 pub mod Laws
+pub mod IntoLaws
 pub mod WalkLaws
 pub mod PlanLaws
 pub mod DecideLaws

@@ -20,7 +20,7 @@ use Rattle.theory.proofs.Tests.{Cmp, less, same, more, cmp, at-or-not}
 use Rattle.theory.proofs.Table.{stored}
 use Rattle.theory.proofs.Spacing.{gap-most}
 use Rattle.theory.proofs.WellFormed.{WellFormed, IsTask, IsSource}
-use Rattle.verdicts.specs.Matrix.{matrixSystem}
+use Rattle.verdicts.specs.Into.{intoSystem}
 use Rattle.verdicts.specs.Plan.{LimitsOf, limitBy, orderBy}
 
 -- the spacing of a source by its place
@@ -103,20 +103,20 @@ module _ (gaps : List ℕ) (k : Link) where
       go false = omega arith
 
 -- the order of a critical link between tasks, and false of any other link
-module _ (links : List Bool) (k : Link) where
-  pub order-own : (w : Walk) → k .critical ≡ 1 → k .from < 33 → w ≡ walk (matrixSystem links) (k .from) (k .to) → eqb (w .failed) 0 ≡ orderBy links k
+module _ (into : List ℕ) (k : Link) where
+  pub order-own : (w : Walk) → k .critical ≡ 1 → k .from < 33 → w ≡ walk (intoSystem into) (k .from) (k .to) → eqb (w .failed) 0 ≡ orderBy into k
   unfolding orderBy inOrder
   order-own w e h q = rw (eq-eqb (k .critical) 1 e, lt-ltb (k .from) 33 h) (ap (λ (v : Walk). eqb (v .failed) 0) q)
 
-  pub order-free : (k .critical ≡ 1 → ⊥) → false ≡ orderBy links k
+  pub order-free : (k .critical ≡ 1 → ⊥) → false ≡ orderBy into k
   unfolding orderBy
   order-free n = rw (ne-eqb (k .critical) 1 n)
 
-  pub order-source : 33 ≤ k .from → false ≡ orderBy links k
+  pub order-source : 33 ≤ k .from → false ≡ orderBy into k
   unfolding orderBy
   order-source h = rw (le-ltb (k .from) 33 h) (go (eqb (k .critical) 1))
     where
-      go : (b : Bool) → false ≡ cond (b && false) (inOrder (matrixSystem links) (k .from) (k .to)) false
+      go : (b : Bool) → false ≡ cond (b && false) (inOrder (intoSystem into) (k .from) (k .to)) false
       go true = refl
       go false = refl
 

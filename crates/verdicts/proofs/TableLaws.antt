@@ -31,9 +31,8 @@ use Rattle.theory.proofs.Spacing.{gap-some, gap-most}
 use Rattle.theory.proofs.Quotes.{spaced}
 use Rattle.theory.proofs.Levels.{sum-shift, reachOf, levelReach, level-verdict}
 use Rattle.theory.proofs.Walk.{in-order-alike}
-use Rattle.loads.specs.Tables.{MatrixIs}
 use Rattle.verdicts.specs.Level.{Level, roundIn, reachIn}
-use Rattle.verdicts.specs.Matrix.{linkIn, matrixSystem, LinksOf}
+use Rattle.verdicts.specs.Into.{intoSystem, IntoOf}
 use Rattle.verdicts.specs.Plan.{entry, noLoads, SheetOf, LevelsOf, StartsOf, OrdersOf, GapsOf, LimitsOf, ReachesOf, orderBy, Tables}
 use Rattle.verdicts.specs.Decide.{verdictBy, gapBy, byTables, slotBy}
 use Rattle.verdicts.proofs.PlanLaws.{from-some, to-most}
@@ -89,12 +88,12 @@ module _ (d : Description) (g : WellFormed d) where
   unfolding startOf
   start-light j = topTo-le (λ k. load (system d) k (suc j)) 1 (suc j - 1) 1000000000 (λ k p q. light k (suc j) (omega arith))
 
-  -- orders over the matrix of links
-  pub orders-of : (links : List Bool) (orders : List Bool) → LinksOf d links → ((l : ℕ) → l < d .«link_count» → getD orders l false ≡ orderBy links (linkAt d l)) → OrdersOf d orders
+  -- orders over the sets of links
+  pub orders-of : (into : List ℕ) (orders : List Bool) → IntoOf d into → ((l : ℕ) → l < d .«link_count» → getD orders l false ≡ orderBy into (linkAt d l)) → OrdersOf d orders
   unfolding orderBy system
-  orders-of links orders m h l p q e =
+  orders-of into orders m h l p q e =
       h l p ∙ rw (eq-eqb (linkAt d l .critical) 1 e, lt-ltb (linkAt d l .from) 33 q)
-      (in-order-alike (matrixSystem links) (system d) m (linkAt d l .from) (linkAt d l .to) (from-some d g l p))
+      (in-order-alike (intoSystem into) (system d) m (linkAt d l .from) (linkAt d l .to) (from-some d g l p))
 
   module _ (t : ℕ) (low : 200 ≤ t) (high : t ≤ 3000) (gaps : List ℕ) (z : GapsOf d t gaps) where
     sp : (u : ℕ) → u < d .«source_count» → 1 ≤ getD gaps u 0
@@ -194,18 +193,18 @@ module _ (d : Description) (g : WellFormed d) (levels : List (List ℕ)) (starts
   pub slots-by : tab 256 (slotBy d orders gaps reaches) ≡ tab 256 (slotAt d t)
   slots-by = slots-by-tables d g t low high gaps z orders (tables .by-order) limits m reaches reaches-are
 
--- the tables as they are made: from the rows of the load sheet and the matrix of links
-pub tables-made : (d : Description) (rows : List Row) (table levels : List (List ℕ)) (starts : List ℕ) (links orders : List Bool) → WellFormed d → rows ≡ sheet (system d)
+-- the tables as they are made: from the rows of the load sheet and the sets of links
+pub tables-made : (d : Description) (rows : List Row) (table levels : List (List ℕ)) (starts into : List ℕ) (orders : List Bool) → WellFormed d → rows ≡ sheet (system d)
     → ((i j : ℕ) → i < 48 → entry table i j ≡ getD (getD rows i noLoads .loads) j 0)
     → ((j u : ℕ) → j < 32 → u < 16 → entry levels j u ≡ entry table (32 + u) j)
     → ((j : ℕ) → j < 32 → getD starts j 0 ≡ topN (λ k. entry table k j) 0 j)
-    → MatrixIs d links
-    → ((l : ℕ) → l < d .«link_count» → getD orders l false ≡ orderBy links (linkAt d l))
+    → IntoOf d into
+    → ((l : ℕ) → l < d .«link_count» → getD orders l false ≡ orderBy into (linkAt d l))
     → Tables d levels starts orders
-tables-made d rows table levels starts links orders g e a b s m o =
+tables-made d rows table levels starts into orders g e a b s m o =
     let t : SheetOf d table = sheet-of d rows table e a in
     record {
       by-level = levels-of d table levels t b;
       by-start = starts-of d table starts t s;
-      by-order = orders-of d g links orders (λ i j p q r x. m i j (p, q, r, x)) o;
+      by-order = orders-of d g into orders m o;
     }

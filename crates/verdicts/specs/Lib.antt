@@ -1,4 +1,4 @@
 pub mod Level
-pub mod Matrix
+pub mod Into
 pub mod Plan
 pub mod Decide

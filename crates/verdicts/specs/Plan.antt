@@ -13,7 +13,7 @@ use Rattle.model.specs.Loads.{load}
 use Rattle.model.specs.Delays.{startOf, spacingOf}
 use Rattle.model.specs.Order.{inOrder}
 use Rattle.theory.proofs.Levels.{levelReach}
-use Rattle.verdicts.specs.Matrix.{matrixSystem}
+use Rattle.verdicts.specs.Into.{intoSystem}
 
 -- an entry of a table of rows
 abbrev pub entry : List (List ℕ) → ℕ → ℕ → ℕ
@@ -57,9 +57,9 @@ pub record LimitsOf (d : Description) (gaps limits : List ℕ) : Type 0 where
 abbrev pub ReachesOf : Description → ℕ → List ℕ → List ℕ → Type 0
 ReachesOf d t limits reaches = (j : ℕ) → j < d .«task_count» → getD reaches j 0 ≡ levelReach (system d) (spacingOf d t) (suc j) (getD limits j 0)
 
--- whether a critical link between tasks is in order over a matrix of links; false for any other link
-unfoldable pub orderBy : List Bool → Link → Bool
-orderBy links l = cond (eqb (l .critical) 1 && ltb (l .from) 33) (inOrder (matrixSystem links) (l .from) (l .to)) false
+-- whether a critical link between tasks is in order over the sets of links; false for any other link
+unfoldable pub orderBy : List ℕ → Link → Bool
+orderBy into l = cond (eqb (l .critical) 1 && ltb (l .from) 33) (inOrder (intoSystem into) (l .from) (l .to)) false
 
 -- the tables that do not depend on the tempo
 pub record Tables (d : Description) (levels : List (List ℕ)) (starts : List ℕ) (orders : List Bool) : Type 0 where

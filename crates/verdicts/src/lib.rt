@@ -2,6 +2,7 @@
 
 use decide::decide_all;
 use decide::none_doubtful;
+use into::predecessors;
 use model::Description;
 use model::Outcome;
 use model::Refusal;
@@ -17,6 +18,7 @@ use plan::reaches_at;
 use plan::starts_of;
 
 pub mod decide;
+pub mod into;
 pub mod plan;
 pub mod rounds;
 pub mod walk;
@@ -115,8 +117,8 @@ pub fn verdicts(d: Description, t: u32) -> Verdicts
     let table = table_of(rows);
     let levels = levels_of(&table);
     let starts = starts_of(&table);
-    let links = loads::matrix::link_matrix(d);
-    let orders = orders_of(d, &links);
+    let into = predecessors(d);
+    let orders = orders_of(d, &into);
     let slots = slots_at(d, &levels, &starts, &orders, t);
     Verdicts {
         outcome: Outcome::Done,

@@ -165,15 +165,15 @@ pub fn reaches_at(
 }
 
 // Whether a critical link between tasks is in order; false for any other link.
-fn order_by(link: Link, links: &[bool; 1536]) -> bool
+fn order_by(link: Link, into: &[u64; 32]) -> bool
     requires { ⌜ 1 ≤ link .from ⌝ }
-    ensures { λ r. ⌜ r ≡ orderBy (now (links .entry)) link ⌝ }
+    ensures { λ r. ⌜ r ≡ orderBy (now (into .entry)) link ⌝ }
 {
     let from = number(link.from);
     let to = number(link.to);
     if link.critical == 1 {
         if from < 33 {
-            let w = walk_back(links, from, to);
+            let w = walk_back(into, from, to);
             return w.failed == 0;
         }
     }
@@ -181,15 +181,15 @@ fn order_by(link: Link, links: &[bool; 1536]) -> bool
 }
 
 // Which links between tasks are in order.
-pub fn orders_of(d: Description, links: &[bool; 1536]) -> [bool; 256]
+pub fn orders_of(d: Description, into: &[u64; 32]) -> [bool; 256]
     requires { ⌜ WellFormed d ⌝ }
-    ensures { λ r. ⌜ ((l : ℕ) → l < d .«link_count» → getD r l false ≡ orderBy (now (links .entry)) (linkAt d l)) ⌝ }
+    ensures { λ r. ⌜ ((l : ℕ) → l < d .«link_count» → getD r l false ≡ orderBy (now (into .entry)) (linkAt d l)) ⌝ }
 {
     let mut orders = [false; 256];
     let mut l: usize = 0;
     while l < d.link_count {
         let link = d.links[l];
-        let ok = order_by(link, links);
+        let ok = order_by(link, into);
         orders[l] = ok;
         l += 1;
     }

@@ -11,7 +11,7 @@ use Rattle.verdicts.proofs.verdicts.Tie as tie
 use Rattle.verdicts.proofs.verdicts.Reads as reads
 use Rattle.verdicts.proofs.verdicts.Lts as lts
 use Rattle.files.proofs.load_sheet.Reads as load-sheet-reads
-use Rattle.loads.proofs.matrix.link_matrix.Reads as link-matrix-reads
+use Rattle.verdicts.proofs.into.predecessors.Reads as predecessors-reads
 use Rattle.verdicts.proofs.plan.levels_of.Reads as levels-of-reads
 use Rattle.verdicts.proofs.plan.orders_of.Reads as orders-of-reads
 use Rattle.verdicts.proofs.plan.starts_of.Reads as starts-of-reads
@@ -55,8 +55,8 @@ levels-of-requires c κs = search needs
 starts-of-requires : tie.Need-starts-of-requires
 starts-of-requires c κs = search needs
 
-link-matrix-requires : tie.Need-link-matrix-requires
-link-matrix-requires c κs = let S = c .before .before .before .before .before .before .before .before .before .before .before in fields-of (judge-well-formed (S .args .d) (typed-widths (S .args .d) _ (S .good .0)) (judged-by (S .args .d) (c .before .before .before .before .before .before .before .before .before .before .load-sheet .result) _ (c .before .before .before .before .before .before .before .before .before .before .load-sheet .ensures) (c .before .before .before .before .before .before .before .before .enum-told .given .1)))
+predecessors-requires : tie.Need-predecessors-requires
+predecessors-requires c κs = let S = c .before .before .before .before .before .before .before .before .before .before .before in fields-of (judge-well-formed (S .args .d) (typed-widths (S .args .d) _ (S .good .0)) (judged-by (S .args .d) (c .before .before .before .before .before .before .before .before .before .before .load-sheet .result) _ (c .before .before .before .before .before .before .before .before .before .before .load-sheet .ensures) (c .before .before .before .before .before .before .before .before .enum-told .given .1)))
 
 orders-of-requires : tie.Need-orders-of-requires
 orders-of-requires c κs = let S = c .before .before .before .before .before .before .before .before .before .before .before .before .before in judge-well-formed (S .args .d) (typed-widths (S .args .d) _ (S .good .0)) (judged-by (S .args .d) (c .before .before .before .before .before .before .before .before .before .before .before .before .load-sheet .result) _ (c .before .before .before .before .before .before .before .before .before .before .before .before .load-sheet .ensures) (c .before .before .before .before .before .before .before .before .before .before .enum-told .given .1))
@@ -69,8 +69,8 @@ slots-at-requires c κs =
     let judged = judged-by d (sheet .result) _ (sheet .ensures) (c .before .before .before .before .before .before .before .before .before .before .before .before .before .before .enum-told .given .1) in
     let good = judge-well-formed d (typed-widths d _ (S .good .0)) judged in (
       good,
-      tables-made d (sheet .result .rows) (c .before .before .before .before .before .before .before .before .before .before .table-of .result) (c .before .before .before .before .before .before .before .before .levels-of .result) (c .before .before .before .before .before .before .starts-of .result) (c .before .before .before .before .before .link-matrix .result) (c .before .before .before .orders-of .result)
-          good (rows-by d (sheet .result) (sheet .ensures) judged) (c .before .before .before .before .before .before .before .before .before .before .table-of .ensures) (c .before .before .before .before .before .before .before .before .levels-of .ensures) (c .before .before .before .before .before .before .starts-of .ensures) (c .before .before .before .before .before .link-matrix .ensures) (c .before .before .before .orders-of .ensures),
+      tables-made d (sheet .result .rows) (c .before .before .before .before .before .before .before .before .before .before .table-of .result) (c .before .before .before .before .before .before .before .before .levels-of .result) (c .before .before .before .before .before .before .starts-of .result) (c .before .before .before .before .before .predecessors .result) (c .before .before .before .orders-of .result)
+          good (rows-by d (sheet .result) (sheet .ensures) judged) (c .before .before .before .before .before .before .before .before .before .before .table-of .ensures) (c .before .before .before .before .before .before .before .before .levels-of .ensures) (c .before .before .before .before .before .before .starts-of .ensures) (c .before .before .before .before .before .predecessors .ensures) (c .before .before .before .orders-of .ensures),
       c .before .before .before .before .before .before .before .before .before .before .before .before .before .if1 .left,
       c .before .before .before .before .before .before .before .before .before .before .before .before .if2 .left,
     )
@@ -94,7 +94,7 @@ verdicts-spec =
     table-of-requires
     levels-of-requires
     starts-of-requires
-    link-matrix-requires
+    predecessors-requires
     orders-of-requires
     slots-at-requires
     returns-4)

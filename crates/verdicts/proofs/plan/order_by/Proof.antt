@@ -2,7 +2,7 @@
 use mathlib.Core.Path.{_≡_, sym, ap, ap₂, _∙_}
 use native.Mathlib.Omega.{arith}
 use Rattle.model.specs.Order.{walk}
-use Rattle.verdicts.specs.Matrix.{matrixSystem}
+use Rattle.verdicts.specs.Into.{intoSystem}
 use Rattle.verdicts.proofs.PlanLaws.{order-own, order-free, order-source}
 use borrow.Author.Needs.{needs}
 use Rattle.verdicts.proofs.plan.order_by.Statement.{statement}
@@ -22,13 +22,13 @@ walk-back-requires : tie.Need-walk-back-requires
 walk-back-requires c κs = search needs
 
 returns : tie.Need-returns
-returns c = let a = c .before .before .before .before .before .before .before .args in let i = c .before .before .before .before .before .before .number .ensures in let j = c .before .before .before .before .before .number2 .ensures in order-own (a .links .now) (a .link) (c .before .walk-back .result) (c .before .before .before .if1 .taken) (omega (arith, i, c .before .before .if2 .taken)) (c .before .walk-back .ensures ∙ ap₂ (walk (matrixSystem (a .links .now))) i j)
+returns c = let a = c .before .before .before .before .before .before .before .args in let i = c .before .before .before .before .before .before .number .ensures in let j = c .before .before .before .before .before .number2 .ensures in order-own (a .into .now) (a .link) (c .before .walk-back .result) (c .before .before .before .if1 .taken) (omega (arith, i, c .before .before .if2 .taken)) (c .before .walk-back .ensures ∙ ap₂ (walk (intoSystem (a .into .now))) i j)
 
 returns-2 : tie.Need-returns-2
-returns-2 c = let a = c .before .before .before .before .before .args in order-source (a .links .now) (a .link) (omega (arith, c .before .before .before .before .number .ensures, c .if2 .left))
+returns-2 c = let a = c .before .before .before .before .before .args in order-source (a .into .now) (a .link) (omega (arith, c .before .before .before .before .number .ensures, c .if2 .left))
 
 returns-3 : tie.Need-returns-3
-returns-3 c = let a = c .before .before .before .before .args in order-free (a .links .now) (a .link) (c .if1 .left)
+returns-3 c = let a = c .before .before .before .before .args in order-free (a .into .now) (a .link) (c .if1 .left)
 
 pub order-by-spec : {M : Type 1} → statement M
 order-by-spec =

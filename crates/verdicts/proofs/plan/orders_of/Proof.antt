@@ -16,10 +16,10 @@ use Rattle.verdicts.proofs.plan.orders_of.Lts as lts
 use Rattle.verdicts.proofs.plan.order_by.Reads as order-by-reads
 
 abbrev Inv-loop : tie.InvT-loop
-Inv-loop links d orders₀ l₀ orders l = (l ≤ d .«link_count») × (length orders ≡ 256) × ((k : ℕ) → k < l → getD orders k false ≡ orderBy links (linkAt d k))
+Inv-loop into d orders₀ l₀ orders l = (l ≤ d .«link_count») × (length orders ≡ 256) × ((k : ℕ) → k < l → getD orders k false ≡ orderBy into (linkAt d k))
 
 abbrev μ-loop : tie.MeasureT-loop
-μ-loop links d orders₀ l₀ orders l = d .«link_count» - l
+μ-loop into d orders₀ l₀ orders l = d .«link_count» - l
 
 loop-holds : tie.Need-loop-holds Inv-loop μ-loop
 loop-holds c = (omega arith, refl, λ k p. absurd (omega arith))
@@ -43,7 +43,7 @@ loop-less : tie.Need-loop-less Inv-loop μ-loop
 loop-less c = omega arith
 
 loop-again : tie.Need-loop-again Inv-loop μ-loop
-loop-again c = let L = c .before .before .before .loop in let S = c .before .before .before .before in let d = S .args .t1 in (omega arith, length-set (L .orders) (L .l) (c .order-by .result) ∙ L .inv .1, stored (λ k x. x ≡ orderBy (S .args .links .now) (linkAt d k)) false (L .orders) (L .l) (c .order-by .result) (omega (arith, L .inv .1, S .pre .few-links)) (L .inv .2) (c .order-by .ensures))
+loop-again c = let L = c .before .before .before .loop in let S = c .before .before .before .before in let d = S .args .t1 in (omega arith, length-set (L .orders) (L .l) (c .order-by .result) ∙ L .inv .1, stored (λ k x. x ≡ orderBy (S .args .into .now) (linkAt d k)) false (L .orders) (L .l) (c .order-by .result) (omega (arith, L .inv .1, S .pre .few-links)) (L .inv .2) (c .order-by .ensures))
 
 returns : tie.Need-returns Inv-loop μ-loop
 returns c = λ l p. c .before .loop .inv .2 l (omega (arith, c .loop-test .left))

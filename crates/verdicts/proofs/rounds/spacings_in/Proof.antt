@@ -1,11 +1,16 @@
--- `spacings_in` meets its contract. Assumes nothing.
+-- `spacings_in` meets its contract: one spacing where d is no longer, else the rounded quotient. Assumes nothing.
+use Prim.Native.Nat.{_+_, _-_}
 use native.Mathlib.Omega.{arith}
-use Rattle.model.specs.Delays.{spacings}
+use native.Mathlib.Nat.{div-le-self}
+use Rattle.verdicts.proofs.Laws.{spacings-near, spacings-far}
 use borrow.Author.Needs.{needs}
 use Rattle.verdicts.proofs.rounds.spacings_in.Statement.{statement}
 use Rattle.verdicts.proofs.rounds.spacings_in.Tie as tie
 use Rattle.verdicts.proofs.rounds.spacings_in.Reads as reads
 use Rattle.verdicts.proofs.rounds.spacings_in.Lts as lts
+
+returns : tie.Need-returns
+returns c = spacings-near (c .before .args .d) (c .before .args .m) (c .before .pre .0) (c .if1 .taken)
 
 sub-q : tie.Need-sub-q
 sub-q c = search needs
@@ -13,16 +18,21 @@ sub-q c = search needs
 add-q : tie.Need-add-q
 add-q c = search needs
 
+cast-q : tie.Need-cast-q
+cast-q c = search needs
+
+cast-q-2 : tie.Need-cast-q-2
+cast-q-2 c = search needs
+
 div-q : tie.Need-div-q
 div-q c = search needs
 
-returns : tie.Need-returns
-unfolding spacings
-returns c = omega arith
+cast-result : tie.Need-cast-result
+cast-result c = let a = c .before .args in omega (arith, div-le-self (a .d + (a .m - 1)) (a .m))
 
 returns-2 : tie.Need-returns-2
-unfolding spacings
-returns-2 c = omega arith
+returns-2 c = let S = c .before in spacings-far (S .args .d) (S .args .m) (S .pre .0) (c .if1 .left)
 
 pub spacings-in-spec : {M : Type 1} → statement M
-spacings-in-spec = tie.close (tie.spec sub-q add-q div-q returns returns-2)
+spacings-in-spec =
+    tie.close (tie.spec returns sub-q add-q cast-q cast-q-2 div-q cast-result returns-2)

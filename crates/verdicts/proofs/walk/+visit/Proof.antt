@@ -1,31 +1,25 @@
--- `visit` meets its contract: the walk over the matrix, which ends since the number of unmet tasks falls. Assumes nothing.
-use Prim.Native.Nat.{_≤_, _+_, _-_, _*_}
+-- `visit` meets its contract: the walk over the sets of links, which ends since the number of unmet tasks falls. Assumes nothing.
+use Prim.Native.Nat.{ℕ, _≤_, _<_, _+_, _-_, _/_, _%_, _^_}
 use mathlib.Core.Path.{_≡_, refl, ap, sym, _∙_}
-use mathlib.Core.Bool.{true, false}
 use native.Mathlib.Omega.{arith}
+use native.Mathlib.Nat.{div-one}
 use lib.ListN.{length, getD}
+use lib.Pow.{shr-shr}
 use borrow.Author.Needs.{needs}
-use mathlib.Core.Logic.{_⊎_, ⊎-elim}
-use Rattle.model.specs.declared.Walk.{Walk}
-use Rattle.model.specs.Basics.{upTo}
-use Rattle.model.specs.Order.{meet}
-use Rattle.theory.proofs.Range.{upTo-more}
-use Rattle.theory.proofs.Walk.{stepTo}
-use Rattle.verdicts.specs.Matrix.{matrixSystem, unmet, VisitIs}
-use Rattle.verdicts.proofs.WalkLaws.{unmet-le, unmet-falls, visit-is-far, visit-is-again, visit-is-low, visit-is-high, turn-on, turn-off}
-use Prim.Native.Nat.{ℕ, _<_}
 use borrow.Fn.Kinds.{In}
 use borrow.Fn.PlainCycle.{Measures, is, falls, and}
+use Rattle.model.specs.Basics.{upTo}
+use Rattle.model.specs.Order.{meet}
+use Rattle.theory.proofs.Walk.{stepTo}
+use Rattle.verdicts.specs.Into.{intoSystem, FirstIn, unmet}
+use Rattle.verdicts.proofs.IntoLaws.{rest-node}
+use Rattle.verdicts.proofs.WalkLaws.{unmet-le, unmet-falls, visit-is-far, visit-is-again, visit-is-low, visit-is-high, turn-on, turn-none, turn-failed}
 use Rattle.verdicts.proofs.walk.visit.Reads as visit
 use Rattle.verdicts.proofs.walk.visit.Kinds as visit-kinds
 use Rattle.verdicts.proofs.walk.+visit.Lts-visit as visit-lts
-use Rattle.verdicts.proofs.walk.goes_on.Reads as goes-on-reads
+use Rattle.verdicts.proofs.into.first.Reads as first-reads
 use Rattle.verdicts.proofs.walk.+visit.{statement}
 use Rattle.verdicts.proofs.walk.+visit.Tie.{close}
-
--- a sum taken apart, the sum first
-cases : {A B C : Type 0} → A ⊎ B → (A → C) → (B → C) → C
-cases s f g = ⊎-elim f g s
 
 abbrev μ-visit : Measures 1 visit-kinds.ps ℕ
 μ-visit κs a = unmet (a .1 .1 .1 .0 .met)
@@ -37,160 +31,258 @@ abbrev visit-below : ℕ → In 1 visit-kinds.ps
 visit-below t = and 1 visit-kinds.ps (falls 1 visit-kinds.ps _<_ μ-visit t) visit.Pre
 
 abbrev visit-Inv-loop : visit-lts.InvT-loop
-visit-Inv-loop links j x next₀ r₀ next r = (r ≤ 48) × ((f : ℕ) → unmet (next₀ .met) < f → next ≡ upTo r (stepTo (matrixSystem links) j f x) next₀) × (unmet (next .met) ≤ unmet (next₀ .met))
+visit-Inv-loop into j x next₀ rest₀ r₀ next rest r =
+    (r ≤ 48) × (rest ≡ getD into (x - 1) 0 % 281474976710656 / 2 ^ r) × (next .failed ≡ 0) × ((f : ℕ) → unmet (next₀ .met) < f → next ≡ upTo r (stepTo (intoSystem into) j f x) next₀) × (unmet (next .met) ≤ unmet (next₀ .met))
 
 abbrev visit-μ-loop : visit-lts.MeasureT-loop
-visit-μ-loop links j x next₀ r₀ next r = 48 - r
+visit-μ-loop into j x next₀ rest₀ r₀ next rest r = 48 - r
 
-visit-cast-t10 : (t : ℕ) → visit-lts.Need-cast-t10 (
-  goes-on-reads.Asked,
-  goes-on-reads.Learnt,
+visit-cast-t11 : (t : ℕ) → visit-lts.Need-cast-t11 (
+  first-reads.Asked,
+  first-reads.Learnt,
   visit-below t,
   visit.Post,
 ) (visit-at t) visit.Post visit-Inv-loop visit-μ-loop
-visit-cast-t10 t c = search needs
+visit-cast-t11 t c = search needs
 
 visit-returns : (t : ℕ) → visit-lts.Need-returns (
-  goes-on-reads.Asked,
-  goes-on-reads.Learnt,
+  first-reads.Asked,
+  first-reads.Learnt,
   visit-below t,
   visit.Post,
 ) (visit-at t) visit.Post visit-Inv-loop visit-μ-loop
-visit-returns t c = let S = c .before .before in (visit-is-far (S .args .links .now) (S .args .j) (S .args .x) (S .args .w) (c .if1 .taken), omega arith)
+visit-returns t c = let S = c .before .before in (visit-is-far (S .args .into .now) (S .args .j) (S .args .x) (S .args .w) (c .if1 .taken), omega arith)
 
 visit-sub-if2 : (t : ℕ) → visit-lts.Need-sub-if2 (
-  goes-on-reads.Asked,
-  goes-on-reads.Learnt,
+  first-reads.Asked,
+  first-reads.Learnt,
   visit-below t,
   visit.Post,
 ) (visit-at t) visit.Post visit-Inv-loop visit-μ-loop
 visit-sub-if2 t c = search needs
 
 visit-array-read-if2 : (t : ℕ) → visit-lts.Need-array-read-if2 (
-  goes-on-reads.Asked,
-  goes-on-reads.Learnt,
+  first-reads.Asked,
+  first-reads.Learnt,
   visit-below t,
   visit.Post,
 ) (visit-at t) visit.Post visit-Inv-loop visit-μ-loop
 visit-array-read-if2 t c = search needs
 
-visit-cast-t16 : (t : ℕ) → visit-lts.Need-cast-t16 (
-  goes-on-reads.Asked,
-  goes-on-reads.Learnt,
+visit-cast-t17 : (t : ℕ) → visit-lts.Need-cast-t17 (
+  first-reads.Asked,
+  first-reads.Learnt,
   visit-below t,
   visit.Post,
 ) (visit-at t) visit.Post visit-Inv-loop visit-μ-loop
-visit-cast-t16 t c = search needs
+visit-cast-t17 t c = search needs
 
 visit-returns-2 : (t : ℕ) → visit-lts.Need-returns-2 (
-  goes-on-reads.Asked,
-  goes-on-reads.Learnt,
+  first-reads.Asked,
+  first-reads.Learnt,
   visit-below t,
   visit.Post,
 ) (visit-at t) visit.Post visit-Inv-loop visit-μ-loop
-visit-returns-2 t c = let S = c .before .before .before in (visit-is-again (S .args .links .now) (S .args .j) (S .args .x) (S .args .w) (c .before .if1 .left) (c .if2 .taken), omega arith)
+visit-returns-2 t c = let S = c .before .before .before in (visit-is-again (S .args .into .now) (S .args .j) (S .args .x) (S .args .w) (c .before .if1 .left) (c .if2 .taken), omega arith)
 
 visit-sub-next : (t : ℕ) → visit-lts.Need-sub-next (
-  goes-on-reads.Asked,
-  goes-on-reads.Learnt,
+  first-reads.Asked,
+  first-reads.Learnt,
   visit-below t,
   visit.Post,
 ) (visit-at t) visit.Post visit-Inv-loop visit-μ-loop
 visit-sub-next t c = search needs
 
 visit-element-write-next : (t : ℕ) → visit-lts.Need-element-write-next (
-  goes-on-reads.Asked,
-  goes-on-reads.Learnt,
+  first-reads.Asked,
+  first-reads.Learnt,
   visit-below t,
   visit.Post,
 ) (visit-at t) visit.Post visit-Inv-loop visit-μ-loop
 visit-element-write-next t c = search needs
 
 visit-returns-3 : (t : ℕ) → visit-lts.Need-returns-3 (
-  goes-on-reads.Asked,
-  goes-on-reads.Learnt,
+  first-reads.Asked,
+  first-reads.Learnt,
   visit-below t,
   visit.Post,
 ) (visit-at t) visit.Post visit-Inv-loop visit-μ-loop
-visit-returns-3 t c = let S = c .before .before .before .before in (visit-is-low (S .args .links .now) (S .args .j) (S .args .x) (S .args .w) (c .before .before .if1 .left) (c .before .if2 .left) (c .if3 .taken), unmet-le (S .args .w .met) (S .args .x - 1))
+visit-returns-3 t c = let S = c .before .before .before .before in (visit-is-low (S .args .into .now) (S .args .j) (S .args .x) (S .args .w) (c .before .before .if1 .left) (c .before .if2 .left) (c .if3 .taken), unmet-le (S .args .w .met) (S .args .x - 1))
+
+visit-sub-rest : (t : ℕ) → visit-lts.Need-sub-rest (
+  first-reads.Asked,
+  first-reads.Learnt,
+  visit-below t,
+  visit.Post,
+) (visit-at t) visit.Post visit-Inv-loop visit-μ-loop
+visit-sub-rest t c = search needs
+
+visit-mul-rest : (t : ℕ) → visit-lts.Need-mul-rest (
+  first-reads.Asked,
+  first-reads.Learnt,
+  visit-below t,
+  visit.Post,
+) (visit-at t) visit.Post visit-Inv-loop visit-μ-loop
+visit-mul-rest t c = search needs
+
+visit-element-copy-out-rest : (t : ℕ) → visit-lts.Need-element-copy-out-rest (
+  first-reads.Asked,
+  first-reads.Learnt,
+  visit-below t,
+  visit.Post,
+) (visit-at t) visit.Post visit-Inv-loop visit-μ-loop
+visit-element-copy-out-rest t c = search needs
 
 visit-loop-holds : (t : ℕ) → visit-lts.Need-loop-holds (
-  goes-on-reads.Asked,
-  goes-on-reads.Learnt,
+  first-reads.Asked,
+  first-reads.Learnt,
   visit-below t,
   visit.Post,
 ) (visit-at t) visit.Post visit-Inv-loop visit-μ-loop
 unfolding upTo
-visit-loop-holds t c = (omega arith, (λ f b. refl), omega arith)
+visit-loop-holds t c = let S = c .before .before .before .before .before in (omega arith, sym (div-one (getD (S .args .into .now) (S .args .x - 1) 0 % 281474976710656)), S .pre .1 .2, (λ f b. refl), omega arith)
 
-visit-add-goes-on : (t : ℕ) → visit-lts.Need-add-goes-on (
-  goes-on-reads.Asked,
-  goes-on-reads.Learnt,
+visit-first-requires : (t : ℕ) → visit-lts.Need-first-requires (
+  first-reads.Asked,
+  first-reads.Learnt,
   visit-below t,
   visit.Post,
 ) (visit-at t) visit.Post visit-Inv-loop visit-μ-loop
-visit-add-goes-on t c = search needs
+visit-first-requires t c κs = search needs
 
-visit-goes-on-requires : (t : ℕ) → visit-lts.Need-goes-on-requires (
-  goes-on-reads.Asked,
-  goes-on-reads.Learnt,
+-- the set is that of x, shifted by the nodes that are passed
+found : (t : ℕ) (c : visit-lts.After-first (
+  first-reads.Asked,
+  first-reads.Learnt,
   visit-below t,
   visit.Post,
-) (visit-at t) visit.Post visit-Inv-loop visit-μ-loop
-visit-goes-on-requires t c κs = let S = c .before .before .before .before .before .before in (omega arith, omega arith, S .pre .1 .0, c .before .before .before .before .if1 .left)
+) (visit-at t) visit.Post visit-Inv-loop visit-μ-loop) → FirstIn (getD (c .before .before .before .before .before .before .before .before .args .into .now) (c .before .before .before .before .before .before .before .before .args .x - 1) 0 % 281474976710656 / 2 ^ (c .before .before .loop .r)) (c .first .result)
+found t c = rw (c .before .before .loop .inv .1) at (c .first .ensures)
 
-visit-add-visit : (t : ℕ) → visit-lts.Need-add-visit (
-  goes-on-reads.Asked,
-  goes-on-reads.Learnt,
+inside : (t : ℕ) (c : visit-lts.After-first (
+  first-reads.Asked,
+  first-reads.Learnt,
   visit-below t,
   visit.Post,
-) (visit-at t) visit.Post visit-Inv-loop visit-μ-loop
-visit-add-visit t c = search needs
+) (visit-at t) visit.Post visit-Inv-loop visit-μ-loop) → c .before .before .loop .r + c .first .result < 48
+inside t c = rest-node (getD (c .before .before .before .before .before .before .before .before .args .into .now) (c .before .before .before .before .before .before .before .before .args .x - 1) 0) (c .before .before .loop .r) (c .first .result) (found t c .in-set)
 
-visit-visit-requires : (t : ℕ) → visit-lts.Need-visit-requires (
-  goes-on-reads.Asked,
-  goes-on-reads.Learnt,
+-- x itself is met
+falls-at-x : (t : ℕ) (c : visit-lts.Else2 (
+  first-reads.Asked,
+  first-reads.Learnt,
   visit-below t,
   visit.Post,
-) (visit-at t) visit.Post visit-Inv-loop visit-μ-loop
-visit-visit-requires t c κs = let S = c .before .before .before .before .before .before .before .before in let L = c .before .before .before .loop in let e = S .pre .0 in let z : length (S .args .w .met) ≡ 32 = search needs in let n : S .args .x - 1 < length (S .args .w .met) = omega arith in let h = unmet-falls (S .args .w .met) (S .args .x - 1) n (c .before .before .before .before .before .if2 .left) in (omega (arith, L .inv .2), (omega arith, omega arith))
+) (visit-at t) visit.Post visit-Inv-loop visit-μ-loop) → unmet (meet (c .before .before .before .args .x) (c .before .before .before .args .w) .met) < unmet (c .before .before .before .args .w .met)
+falls-at-x t c =
+    let S = c .before .before .before in
+    let z : length (S .args .w .met) ≡ 32 = search needs in
+    unmet-falls (S .args .w .met) (S .args .x - 1) (omega (arith, z, c .before .if1 .left, S .pre .1 .0)) (c .if2 .left)
 
 visit-add-r : (t : ℕ) → visit-lts.Need-add-r (
-  goes-on-reads.Asked,
-  goes-on-reads.Learnt,
+  first-reads.Asked,
+  first-reads.Learnt,
   visit-below t,
   visit.Post,
 ) (visit-at t) visit.Post visit-Inv-loop visit-μ-loop
-visit-add-r t c = search needs
+visit-add-r t c = omega (arith, c .before .before .loop .inv .0, c .first .ensures .below)
 
-visit-loop-less : (t : ℕ) → visit-lts.Need-loop-less (
-  goes-on-reads.Asked,
-  goes-on-reads.Learnt,
+visit-add-r-2 : (t : ℕ) → visit-lts.Need-add-r-2 (
+  first-reads.Asked,
+  first-reads.Learnt,
   visit-below t,
   visit.Post,
 ) (visit-at t) visit.Post visit-Inv-loop visit-μ-loop
-visit-loop-less t c = search needs
+visit-add-r-2 t c = omega (arith, c .before .before .loop .inv .0, c .first .ensures .below)
 
-visit-loop-again : (t : ℕ) → visit-lts.Need-loop-again (
-  goes-on-reads.Asked,
-  goes-on-reads.Learnt,
+visit-visit-requires : (t : ℕ) → visit-lts.Need-visit-requires (
+  first-reads.Asked,
+  first-reads.Learnt,
   visit-below t,
   visit.Post,
 ) (visit-at t) visit.Post visit-Inv-loop visit-μ-loop
-visit-loop-again t c = cases (c .if4 .came) (λ w. (omega arith, (λ f b. w .2 ∙ w .1 .ensures .0 f (omega (arith, c .before .before .before .loop .inv .2)) ∙ sym (turn-on (c .before .before .before .before .before .before .before .before .args .links .now) (c .before .before .before .before .before .before .before .before .args .j) (c .before .before .before .before .before .before .before .before .args .x) f (c .before .before .before .loop .r) (c .before .before .before .loop .next) (sym (c .before .goes-on .ensures) ∙ w .0 .taken)) ∙ ap (λ v. stepTo (matrixSystem (c .before .before .before .before .before .before .before .before .args .links .now)) (c .before .before .before .before .before .before .before .before .args .j) f (c .before .before .before .before .before .before .before .before .args .x) (c .before .before .before .loop .r) v) (c .before .before .before .loop .inv .1 f b) ∙ sym (upTo-more (c .before .before .before .loop .r) (stepTo (matrixSystem (c .before .before .before .before .before .before .before .before .args .links .now)) (c .before .before .before .before .before .before .before .before .args .j) f (c .before .before .before .before .before .before .before .before .args .x)) (meet (c .before .before .before .before .before .before .before .before .args .x) (c .before .before .before .before .before .before .before .before .args .w)))), rw (w .2) (omega (arith, w .1 .ensures .1, c .before .before .before .loop .inv .2)))) (λ w. (omega arith, (λ f b. w .1 ∙ sym (turn-off (c .before .before .before .before .before .before .before .before .args .links .now) (c .before .before .before .before .before .before .before .before .args .j) (c .before .before .before .before .before .before .before .before .args .x) f (c .before .before .before .loop .r) (c .before .before .before .loop .next) (sym (c .before .goes-on .ensures) ∙ w .0 .left)) ∙ ap (λ v. stepTo (matrixSystem (c .before .before .before .before .before .before .before .before .args .links .now)) (c .before .before .before .before .before .before .before .before .args .j) f (c .before .before .before .before .before .before .before .before .args .x) (c .before .before .before .loop .r) v) (c .before .before .before .loop .inv .1 f b) ∙ sym (upTo-more (c .before .before .before .loop .r) (stepTo (matrixSystem (c .before .before .before .before .before .before .before .before .args .links .now)) (c .before .before .before .before .before .before .before .before .args .j) f (c .before .before .before .before .before .before .before .before .args .x)) (meet (c .before .before .before .before .before .before .before .before .args .x) (c .before .before .before .before .before .before .before .before .args .w)))), rw (w .1) (c .before .before .before .loop .inv .2)))
+visit-visit-requires t c κs = let L = c .before .before .loop in (omega (arith, c .before .before .before .before .before .before .before .before .pre .0, L .inv .4, falls-at-x t (c .before .before .before .before .before)), (omega arith, omega (arith, inside t c), L .inv .2))
+
+-- the visit of the next node is one turn
+turn : (t : ℕ) (c : visit-lts.After-visit (
+  first-reads.Asked,
+  first-reads.Learnt,
+  visit-below t,
+  visit.Post,
+) (visit-at t) visit.Post visit-Inv-loop visit-μ-loop) (f : ℕ) → unmet (meet (c .before .before .before .before .before .before .before .before .before .args .x) (c .before .before .before .before .before .before .before .before .before .args .w) .met) < f → c .visit .result ≡ upTo (c .before .before .before .loop .r + c .before .first .result + 1) (stepTo (intoSystem (c .before .before .before .before .before .before .before .before .before .args .into .now)) (c .before .before .before .before .before .before .before .before .before .args .j) f (c .before .before .before .before .before .before .before .before .before .args .x)) (meet (c .before .before .before .before .before .before .before .before .before .args .x) (c .before .before .before .before .before .before .before .before .before .args .w))
+turn t c f b =
+    let a = c .before .before .before .before .before .before .before .before .before .args in
+    let L = c .before .before .before .loop in
+    c .visit .ensures .0 f (omega (arith, b, L .inv .4)) ∙ turn-on (a .into .now) (a .j) (a .x) f (L .r) (meet (a .x) (a .w)) (L .next) (L .inv .3 f b) (c .before .first .result) (L .inv .2) (found t (c .before))
 
 visit-returns-4 : (t : ℕ) → visit-lts.Need-returns-4 (
-  goes-on-reads.Asked,
-  goes-on-reads.Learnt,
+  first-reads.Asked,
+  first-reads.Learnt,
   visit-below t,
   visit.Post,
 ) (visit-at t) visit.Post visit-Inv-loop visit-μ-loop
-visit-returns-4 t c = let S = c .before .before .before .before .before .before in let L = c .before .loop in let z : length (S .args .w .met) ≡ 32 = search needs in let n : S .args .x - 1 < length (S .args .w .met) = omega arith in let h = unmet-falls (S .args .w .met) (S .args .x - 1) n (c .before .before .before .if2 .left) in let e : L .r ≡ 48 = omega (arith, L .inv .0, c .loop-test .left) in (visit-is-high (S .args .links .now) (S .args .j) (S .args .x) (S .args .w) (L .next) (c .before .before .before .before .if1 .left) (c .before .before .before .if2 .left) (c .before .before .if3 .left) (λ f b. L .inv .1 f (omega arith) ∙ ap (λ k. upTo k (stepTo (matrixSystem (S .args .links .now)) (S .args .j) f (S .args .x)) (meet (S .args .x) (S .args .w))) e), omega (arith, L .inv .2))
+visit-returns-4 t c =
+    let a = c .before .before .before .before .before .before .before .before .before .before .args in
+    let L = c .before .before .before .before .loop in
+    let r = L .r + c .before .before .first .result + 1 in
+    let v = c .before .visit .result in
+    let h = falls-at-x t (c .before .before .before .before .before .before .before) in (
+      visit-is-high (a .into .now) (a .j) (a .x) (a .w) v (c .before .before .before .before .before .before .before .before .if1 .left) (c .before .before .before .before .before .before .before .if2 .left) (c .before .before .before .before .before .before .if3 .left) (λ f b. turn-failed (a .into .now) (a .j) (a .x) f r (meet (a .x) (a .w)) v (turn t (c .before) f (omega (arith, h, b))) (omega (arith, inside t (c .before .before))) (c .if4 .taken)),
+      omega (arith, h, L .inv .4, c .before .visit .ensures .1),
+    )
+
+visit-shr-rest : (t : ℕ) → visit-lts.Need-shr-rest (
+  first-reads.Asked,
+  first-reads.Learnt,
+  visit-below t,
+  visit.Post,
+) (visit-at t) visit.Post visit-Inv-loop visit-μ-loop
+visit-shr-rest t c = omega (arith, c .before .before .first .ensures .below)
+
+visit-loop-less : (t : ℕ) → visit-lts.Need-loop-less (
+  first-reads.Asked,
+  first-reads.Learnt,
+  visit-below t,
+  visit.Post,
+) (visit-at t) visit.Post visit-Inv-loop visit-μ-loop
+visit-loop-less t c = omega (arith, inside t (c .before .before))
+
+visit-loop-again : (t : ℕ) → visit-lts.Need-loop-again (
+  first-reads.Asked,
+  first-reads.Learnt,
+  visit-below t,
+  visit.Post,
+) (visit-at t) visit.Post visit-Inv-loop visit-μ-loop
+visit-loop-again t c =
+    let a = c .before .before .before .before .before .before .before .before .before .before .args in
+    let L = c .before .before .before .before .loop in
+    let k = c .before .before .first .result in
+    let s = getD (a .into .now) (a .x - 1) 0 % 281474976710656 in (
+      omega (arith, inside t (c .before .before)),
+      ap (λ z. z / 2 ^ k / 2) (L .inv .1) ∙ ap (λ z. z / 2) (shr-shr s (L .r) k) ∙ shr-shr s (L .r + k) 1,
+      c .if4 .left,
+      turn t (c .before),
+      omega (arith, L .inv .4, c .before .visit .ensures .1),
+    )
+
+visit-returns-5 : (t : ℕ) → visit-lts.Need-returns-5 (
+  first-reads.Asked,
+  first-reads.Learnt,
+  visit-below t,
+  visit.Post,
+) (visit-at t) visit.Post visit-Inv-loop visit-μ-loop
+visit-returns-5 t c =
+    let a = c .before .before .before .before .before .before .before .args in
+    let L = c .before .loop in
+    let h = falls-at-x t (c .before .before .before .before) in (
+      visit-is-high (a .into .now) (a .j) (a .x) (a .w) (L .next) (c .before .before .before .before .before .if1 .left) (c .before .before .before .before .if2 .left) (c .before .before .before .if3 .left) (λ f b. turn-none (a .into .now) (a .j) (a .x) f (L .r) (meet (a .x) (a .w)) (L .next) (L .inv .3 f (omega (arith, h, b))) (L .inv .0) (sym (L .inv .1) ∙ c .loop-test .left)),
+      omega (arith, h, L .inv .4),
+    )
 
 pub +visit-spec : {M : Type 1} → statement M
 +visit-spec = close μ-visit λ t. visit-lts.spec (
-  goes-on-reads.Asked,
-  goes-on-reads.Learnt,
+  first-reads.Asked,
+  first-reads.Learnt,
   visit-below t,
   visit.Post,
 )
@@ -198,21 +290,25 @@ pub +visit-spec : {M : Type 1} → statement M
     visit.Post
     visit-Inv-loop
     visit-μ-loop
-    (visit-cast-t10 t)
+    (visit-cast-t11 t)
     (visit-returns t)
     (visit-sub-if2 t)
     (visit-array-read-if2 t)
-    (visit-cast-t16 t)
+    (visit-cast-t17 t)
     (visit-returns-2 t)
     (visit-sub-next t)
     (visit-element-write-next t)
     (visit-returns-3 t)
+    (visit-sub-rest t)
+    (visit-mul-rest t)
+    (visit-element-copy-out-rest t)
     (visit-loop-holds t)
-    (visit-add-goes-on t)
-    (visit-goes-on-requires t)
-    (visit-add-visit t)
-    (visit-visit-requires t)
+    (visit-first-requires t)
     (visit-add-r t)
+    (visit-add-r-2 t)
+    (visit-visit-requires t)
+    (visit-returns-4 t)
+    (visit-shr-rest t)
     (visit-loop-less t)
     (visit-loop-again t)
-    (visit-returns-4 t)
+    (visit-returns-5 t)

@@ -1,7 +1,7 @@
 -- `walk_back` meets its contract: a bound of 34 is above the 32 unmet tasks. Assumes nothing.
 use native.Mathlib.Omega.{arith}
 use Rattle.model.specs.Order.{walk}
-use Rattle.verdicts.specs.Matrix.{unmet}
+use Rattle.verdicts.specs.Into.{unmet}
 use borrow.Author.Needs.{needs}
 use Rattle.verdicts.proofs.walk.walk_back.Statement.{statement}
 use Rattle.verdicts.proofs.walk.walk_back.Tie as tie

@@ -1,0 +1,20 @@
+-- `first` meets its contract: as many zeros stand below the lowest bit. Assumes nothing.
+use native.Mathlib.Omega.{arith}
+use lib.Count.{trailing-le}
+use borrow.Author.Needs.{needs}
+use Rattle.verdicts.proofs.IntoLaws.{first-none, first-some}
+use Rattle.verdicts.proofs.into.first.Statement.{statement}
+use Rattle.verdicts.proofs.into.first.Tie as tie
+use Rattle.verdicts.proofs.into.first.Reads as reads
+use Rattle.verdicts.proofs.into.first.Lts as lts
+
+cast-result : tie.Need-cast-result
+cast-result c = omega (arith, trailing-le 64 (c .args .set))
+
+returns : tie.Need-returns
+returns c =
+    let x = first-some 64 (c .args .set) (c .pre) (search needs) in
+    record { below = x .0; in-set = x .1; none-before = first-none 64 (c .args .set) }
+
+pub first-spec : {M : Type 1} → statement M
+first-spec = tie.close (tie.spec cast-result returns)

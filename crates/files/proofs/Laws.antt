@@ -53,13 +53,12 @@ sheet-outcome d = go (judge d)
     go Done = refl
     go (Refused r place) = refl
 
-checked-outcome : (d : Description) → checkedLoads d .outcome ≡ lastChecks d
-unfolding checkedLoads
-checked-outcome d = go (lastChecks d)
-  where
-    go : (o : Outcome) → (onDone o (let x : LoadSheet = record { outcome = Done; rows = sheet (system d) } in x) (λ r place. record { outcome = Refused r place; rows = replicate 48 noRow })) .outcome ≡ o
-    go Done = refl
-    go (Refused r place) = refl
+-- a record whose fields are refused is judged so, and one whose fields are accepted is judged by the last checks
+pub judge-refused : (d : Description) (r : Refusal) (p : ℕ) → Widths d → recordChecks d ≡ Refused r p → judge d ≡ Refused r p
+judge-refused d r p w e = judge-is d w ∙ ap (λ o. onDone o (lastChecks d) Refused) e
+
+pub judge-checked : (d : Description) → Widths d → recordChecks d ≡ Done → judge d ≡ lastChecks d
+judge-checked d w e = judge-is d w ∙ ap (λ o. onDone o (lastChecks d) Refused) e
 
 -- a reading whose fields are refused
 pub read-refused : (s : List ℕ) (at : ℕ) (r : Refusal) (p : ℕ) → parseAt s at .outcome ≡ Refused r p → refusedReading r p ≡ readFrom s at
@@ -71,14 +70,11 @@ read-last : (s : List ℕ) (at : ℕ) → parseAt s at .outcome ≡ Done → fin
 unfolding readFrom
 read-last s at e = rw e
 
-pub read-unchecked : (s : List ℕ) (at : ℕ) (r : Refusal) (p : ℕ) → parseAt s at .outcome ≡ Done → checkedLoads (parseAt s at .description) .outcome ≡ Refused r p → refusedReading r p ≡ readFrom s at
-read-unchecked s at r p e q =
-    let f : lastChecks (parseAt s at .description) ≡ Refused r p = sym (checked-outcome (parseAt s at .description)) ∙ q in
-    (rw f) ∙ read-last s at e
+pub read-unchecked : (s : List ℕ) (at : ℕ) (r : Refusal) (p : ℕ) → parseAt s at .outcome ≡ Done → lastChecks (parseAt s at .description) ≡ Refused r p → refusedReading r p ≡ readFrom s at
+read-unchecked s at r p e f = (rw f) ∙ read-last s at e
 
-pub read-checked : (s : List ℕ) (at : ℕ) → parseAt s at .outcome ≡ Done → checkedLoads (parseAt s at .description) .outcome ≡ Done → parseAt s at ≡ readFrom s at
-read-checked s at e q =
-    let f : lastChecks (parseAt s at .description) ≡ Done = sym (checked-outcome (parseAt s at .description)) ∙ q in
+pub read-checked : (s : List ℕ) (at : ℕ) → parseAt s at .outcome ≡ Done → lastChecks (parseAt s at .description) ≡ Done → parseAt s at ≡ readFrom s at
+read-checked s at e f =
     same-reading (parseAt s at) e ∙ (rw f) ∙ read-last s at e
   where
     same-reading : (x : Reading) → x .outcome ≡ Done → x ≡ record { outcome = Done; description = x .description }
@@ -97,8 +93,8 @@ parse-start s = rw (sub-zero (length s))
 pub file-refused : (s : List ℕ) (r : Refusal) (p : ℕ) → parseFile s .outcome ≡ Refused r p → refusedReading r p ≡ readFile s
 file-refused s r p e = read-refused s 0 r p (rw (parse-start s) e) ∙ read-start s
 
-pub file-unchecked : (s : List ℕ) (r : Refusal) (p : ℕ) → parseFile s .outcome ≡ Done → checkedLoads (parseFile s .description) .outcome ≡ Refused r p → refusedReading r p ≡ readFile s
+pub file-unchecked : (s : List ℕ) (r : Refusal) (p : ℕ) → parseFile s .outcome ≡ Done → lastChecks (parseFile s .description) ≡ Refused r p → refusedReading r p ≡ readFile s
 file-unchecked s r p e q = read-unchecked s 0 r p (rw (parse-start s) e) (rw (parse-start s) q) ∙ read-start s
 
-pub file-checked : (s : List ℕ) → parseFile s .outcome ≡ Done → checkedLoads (parseFile s .description) .outcome ≡ Done → parseFile s ≡ readFile s
+pub file-checked : (s : List ℕ) → parseFile s .outcome ≡ Done → lastChecks (parseFile s .description) ≡ Done → parseFile s ≡ readFile s
 file-checked s e q = sym (parse-start s) ∙ read-checked s 0 (rw (parse-start s) e) (rw (parse-start s) q) ∙ read-start s

@@ -1,5 +1,6 @@
 // Descriptions: reading a file, judging a record, and its load sheet, with all of the refusals 1 to 10.
 
+use loads::Worked;
 use model::Description;
 use model::Filled;
 use model::LoadSheet;
@@ -10,7 +11,7 @@ use model::Row;
 ghost use mathlib.Core.Path.{_≡_};
 ghost use Rattle.model.specs.File.{readFile, judge, loadSheet, refusedReading, written, pageAfter};
 ghost use Rattle.model.specs.Loads.{noRow};
-ghost use Rattle.files.specs.Answers.{refusedSheet, readFrom};
+ghost use Rattle.files.specs.Answers.{refusedSheet, readFrom, JudgedOf};
 
 pub mod reader;
 
@@ -35,12 +36,23 @@ pub fn load_sheet(d: Description) -> LoadSheet
     loads::last_checks(d)
 }
 
+// A record judged as its file would be, with what its loads are sums of if it passes.
+pub fn work_out(d: Description) -> Worked
+    ensures { λ r. ⌜ JudgedOf d r ⌝ }
+{
+    let fields = fields::check_record(d);
+    if let Outcome::Refused(why, place) = fields {
+        return loads::unworked(why, place);
+    }
+    loads::work_out(d)
+}
+
 // A record judged as its file would be.
 pub fn judge(d: Description) -> Outcome
     ensures { λ r. ⌜ r ≡ judge d ⌝ }
 {
-    let sheet = load_sheet(d);
-    sheet.outcome
+    let worked = work_out(d);
+    worked.outcome
 }
 
 // Beside a refusal the description is all zeros.
@@ -64,8 +76,8 @@ fn read_at(s: &[u8], at: usize) -> Reading
         return refused_reading(why, place);
     }
     let d = parsed.description;
-    let sheet = loads::last_checks(d);
-    let last = sheet.outcome;
+    let worked = loads::work_out(d);
+    let last = worked.outcome;
     if let Outcome::Refused(why, place) = last {
         return refused_reading(why, place);
     }

@@ -49,7 +49,7 @@ isDone : Outcome → Bool
 isDone Done = true
 isDone (Refused r place) = false
 
-not-done : (r : Refusal) (place : ℕ) → Refused r place ≡ Done → ⊥
+pub not-done : (r : Refusal) (place : ℕ) → Refused r place ≡ Done → ⊥
 unfolding isDone
 not-done r place e = not-both {b = isDone Done} refl (sym (ap isDone e))
 

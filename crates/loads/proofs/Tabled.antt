@@ -23,8 +23,7 @@ use Rattle.theory.proofs.LoadLaws.{loaded-ends}
 use Rattle.theory.proofs.LoadBounds.{work-most}
 use Rattle.theory.proofs.Alike.{SameLinks, same-cyclic, same-load}
 use Rattle.loads.specs.Sets.{member}
-use Rattle.loads.specs.Tables.{placeOf, InMatrix, SuccessorsOf, linkedTo, linkBy, rowOf, graph, NodeOf, TaskOf, Ready, Absent}
-use Rattle.loads.proofs.Fill.{put}
+use Rattle.loads.specs.Tables.{Linkable, SuccessorsOf, linkedTo, linkBy, rowOf, graph, NodeOf, TaskOf, Ready, Absent}
 
 or-off : (a b : Bool) → b ≡ false → (a || b) ≡ a
 or-off true b e = refl
@@ -111,8 +110,8 @@ unfolding graph system
 sets-load d succ F M i j =
     same-load (graph succ (d .runs) (d .«task_count»)) (system d) (sets-links d succ (d .runs) F M) (λ k. refl) i j
 
--- the ends of a link stand in the matrix
-pub ends-inside : (d : Description) → Fielded d → (l : ℕ) → l < d .«link_count» → InMatrix (linkAt d l .from) (linkAt d l .to)
+-- the ends of a link are a node and a task
+pub ends-inside : (d : Description) → Fielded d → (l : ℕ) → l < d .«link_count» → Linkable (linkAt d l .from) (linkAt d l .to)
 unfolding system
 ends-inside d F l p =
     let t = F .link-to l p in
@@ -121,33 +120,8 @@ ends-inside d F l p =
     in
     (u .0, u .1, t .0, omega (arith, t .1, F .few-tasks))
 
--- one more link of the description is put into the matrix
-pub matrix-more : (d : Description) (links : List Bool) (l : ℕ) → length links ≡ 1536 → InMatrix (linkAt d l .from) (linkAt d l .to) → ((i j : ℕ) → InMatrix i j → getD links (placeOf i j) false ≡ linkedTo d l i j) → (i j : ℕ) → InMatrix i j → getD (set links (placeOf (linkAt d l .from) (linkAt d l .to)) true) (placeOf i j) false ≡ linkedTo d (l + 1) i j
-unfolding linkedTo
-matrix-more d links l len p all =
-    put (λ u w v. v ≡ linkedTo d (l + 1) u w) false links (linkAt d l .from) (linkAt d l .to) true len p
-    (sym (any-more (here (linkAt d l .from) (linkAt d l .to)) l ∙ or-right (anyN (here (linkAt d l .from) (linkAt d l .to)) 0 l) _ itself))
-    (λ u w q ne. all u w q ∙ sym (any-more (here u w) l ∙ or-off _ _ (false-of _ (λ e. ne (same u w e)))))
-  where
-    here : ℕ → ℕ → ℕ → Bool
-    here i j k = eqb (linkAt d k .from) i && eqb (linkAt d k .to) j
-
-    itself : here (linkAt d l .from) (linkAt d l .to) l ≡ true
-    itself =
-        both
-        (eqb (linkAt d l .from) (linkAt d l .from))
-        (eqb (linkAt d l .to) (linkAt d l .to))
-        (eq-eqb (linkAt d l .from) (linkAt d l .from) refl)
-        (eq-eqb (linkAt d l .to) (linkAt d l .to) refl)
-
-    same : (u w : ℕ) → here u w l ≡ true → placeOf u w ≡ placeOf (linkAt d l .from) (linkAt d l .to)
-    same u w e =
-        let a = eqb-true (linkAt d l .from) u (and-left (eqb (linkAt d l .from) u) (eqb (linkAt d l .to) w) e) in
-        let b = eqb-true (linkAt d l .to) w (and-right (eqb (linkAt d l .from) u) (eqb (linkAt d l .to) w) e) in
-        omega arith
-
 -- one more link of the description is put into the sets
-pub sets-more : (d : Description) (succ : List ℕ) (l r : ℕ) → length succ ≡ 48 → InMatrix (linkAt d l .from) (linkAt d l .to) → ((k : ℕ) → member r k ≡ (member (rowOf succ (linkAt d l .from)) k || eqb k (linkAt d l .to - 1))) → ((i j : ℕ) → InMatrix i j → member (rowOf succ i) (j - 1) ≡ linkedTo d l i j) → (i j : ℕ) → InMatrix i j → member (rowOf (set succ (linkAt d l .from - 1) r) i) (j - 1) ≡ linkedTo d (l + 1) i j
+pub sets-more : (d : Description) (succ : List ℕ) (l r : ℕ) → length succ ≡ 48 → Linkable (linkAt d l .from) (linkAt d l .to) → ((k : ℕ) → member r k ≡ (member (rowOf succ (linkAt d l .from)) k || eqb k (linkAt d l .to - 1))) → ((i j : ℕ) → Linkable i j → member (rowOf succ i) (j - 1) ≡ linkedTo d l i j) → (i j : ℕ) → Linkable i j → member (rowOf (set succ (linkAt d l .from - 1) r) i) (j - 1) ≡ linkedTo d (l + 1) i j
 unfolding linkedTo
 sets-more d succ l r len p new all i j q = go (ℕ-discrete i (linkAt d l .from))
   where

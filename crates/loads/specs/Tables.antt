@@ -20,16 +20,9 @@ use Rattle.loads.specs.declared.Worked.{Worked}
 use Rattle.loads.specs.Sets.{member}
 use Rattle.loads.specs.Paths.{Through}
 
--- where the entry of node i and task j stands in a matrix of 48 rows of 32
-abbrev pub placeOf : ℕ → ℕ → ℕ
-placeOf i j = i * 32 + j - 33
-
-abbrev pub InMatrix : ℕ → ℕ → Type 0
-InMatrix i j = (1 ≤ i) × (i ≤ 48) × (1 ≤ j) × (j ≤ 32)
-
--- the links of a description as a matrix
-abbrev pub MatrixIs : Description → List Bool → Type 0
-MatrixIs d links = (i j : ℕ) → InMatrix i j → getD links (placeOf i j) false ≡ linked d i j
+-- a node and a task that sets of links have room for
+abbrev pub Linkable : ℕ → ℕ → Type 0
+Linkable i j = (1 ≤ i) × (i ≤ 48) × (1 ≤ j) × (j ≤ 32)
 
 -- whether one of the first n links goes from i to j
 unfoldable pub linkedTo : Description → ℕ → ℕ → ℕ → Bool
@@ -48,7 +41,7 @@ rowOf rows i = getD rows (i - 1) 0
 
 -- the links of a description as a set of tasks for each node
 abbrev pub SuccessorsOf : Description → List ℕ → Type 0
-SuccessorsOf d succ = (i j : ℕ) → InMatrix i j → member (rowOf succ i) (j - 1) ≡ linked d i j
+SuccessorsOf d succ = (i j : ℕ) → Linkable i j → member (rowOf succ i) (j - 1) ≡ linked d i j
 
 -- the links that such sets stand for
 unfoldable pub linkBy : List ℕ → ℕ → ℕ → ℕ → Bool

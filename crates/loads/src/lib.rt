@@ -6,7 +6,6 @@ use model::Refusal;
 use model::Row;
 
 pub mod levels;
-pub mod matrix;
 mod paths;
 mod rows;
 pub mod sets;
@@ -25,11 +24,11 @@ pub struct Worked {
 }
 
 // Beside a refusal there are none.
-fn unworked(why: Refusal) -> Worked
-    ensures { λ r. ⌜ r .outcome ≡ Refused why 0 ⌝ }
+pub fn unworked(why: Refusal, place: usize) -> Worked
+    ensures { λ r. ⌜ r .outcome ≡ Refused why place ⌝ }
 {
     Worked {
-        outcome: Outcome::Refused(why, 0),
+        outcome: Outcome::Refused(why, place),
         adds: [0u64; 48],
         works: [0u64; 32],
     }
@@ -43,17 +42,17 @@ pub fn work_out(d: Description) -> Worked
     let n = d.task_count;
     let m = d.source_count;
     if n == 0 {
-        return unworked(Refusal::NoTask);
+        return unworked(Refusal::NoTask, 0);
     }
     let succ = paths::successors(d);
     let adds = paths::closed(succ, n, m);
     if paths::brings_itself(&adds, n) {
-        return unworked(Refusal::Loop);
+        return unworked(Refusal::Loop, 0);
     }
     let runs = d.runs;
     let works = work::works_of(&adds, &runs, n);
     if rows::heavy(&adds, &works, n) {
-        return unworked(Refusal::TooHeavy);
+        return unworked(Refusal::TooHeavy, 0);
     }
     Worked {
         outcome: Outcome::Done,

@@ -16,7 +16,7 @@ use Rattle.model.specs.Graph.{linkAt}
 use Rattle.theory.proofs.Tests.{Cmp, less, same, more, cmp, at-or-not, not-both, and-left, and-false-right, both, same-test}
 use Rattle.theory.proofs.Range.{any-more}
 use Rattle.loads.specs.Sets.{member}
-use Rattle.loads.specs.Tables.{InMatrix, linkedTo}
+use Rattle.loads.specs.Tables.{Linkable, linkedTo}
 use Rattle.verdicts.specs.Into.{linkInto}
 
 -- bits of a word that is shifted, of its low half of 48 bits, and past its end
@@ -92,12 +92,12 @@ or-none true b e = refl
 or-none false b e = e
 
 -- one more link of the description is put into the sets
-pub into-more : (d : Description) (into : List ℕ) (l w : ℕ) → length into ≡ 32 → InMatrix (linkAt d l .from) (linkAt d l .to)
+pub into-more : (d : Description) (into : List ℕ) (l w : ℕ) → length into ≡ 32 → Linkable (linkAt d l .from) (linkAt d l .to)
     → ((k : ℕ) → member w k ≡ (member (getD into (linkAt d l .to - 1) 0) k || eqb k (linkAt d l .from - 1)))
-    → ((i j : ℕ) → InMatrix i j → linkInto into i j ≡ linkedTo d l i j)
-    → (i j : ℕ) → InMatrix i j → linkInto (set into (linkAt d l .to - 1) w) i j ≡ linkedTo d (l + 1) i j
+    → ((i j : ℕ) → Linkable i j → linkInto into i j ≡ linkedTo d l i j)
+    → (i j : ℕ) → Linkable i j → linkInto (set into (linkAt d l .to - 1) w) i j ≡ linkedTo d (l + 1) i j
 unfolding linkedTo
-into-more d into l w len p h all i j q = at-or-not (λ j. InMatrix i j → linkInto (set into (to - 1) w) i j ≡ linkedTo d (l + 1) i j) to j there (λ ne q. elsewhere j q ne) q
+into-more d into l w len p h all i j q = at-or-not (λ j. Linkable i j → linkInto (set into (to - 1) w) i j ≡ linkedTo d (l + 1) i j) to j there (λ ne q. elsewhere j q ne) q
   where
     from : ℕ
     from = linkAt d l .from
@@ -108,13 +108,13 @@ into-more d into l w len p h all i j q = at-or-not (λ j. InMatrix i j → linkI
     here : ℕ → ℕ → Bool
     here j k = eqb (linkAt d k .from) i && eqb (linkAt d k .to) j
 
-    alike : InMatrix i to → eqb (i - 1) (from - 1) ≡ (eqb from i && eqb to to)
+    alike : Linkable i to → eqb (i - 1) (from - 1) ≡ (eqb from i && eqb to to)
     alike q =
         same-test (eqb (i - 1) (from - 1)) (eqb from i && eqb to to)
         (λ e. both (eqb from i) (eqb to to) (eq-eqb from i (omega (arith, eqb-true (i - 1) (from - 1) e, p .0, q .0))) (eq-eqb to to refl))
         (λ e. eq-eqb (i - 1) (from - 1) (omega (arith, eqb-true from i (and-left (eqb from i) (eqb to to) e))))
 
-    there : InMatrix i to → linkInto (set into (to - 1) w) i to ≡ linkedTo d (l + 1) i to
+    there : Linkable i to → linkInto (set into (to - 1) w) i to ≡ linkedTo d (l + 1) i to
     there q =
         ap (λ s. member s (i - 1)) (getD-set-same into (to - 1) w 0 (omega (arith, len, p .2, p .3)))
         ∙ h (i - 1)
@@ -122,7 +122,7 @@ into-more d into l w len p h all i j q = at-or-not (λ j. InMatrix i j → linkI
         ∙ ap (λ b. linkedTo d l i to || b) (alike q)
         ∙ sym (any-more (here to) l)
 
-    elsewhere : (j : ℕ) → InMatrix i j → (j ≡ to → ⊥) → linkInto (set into (to - 1) w) i j ≡ linkedTo d (l + 1) i j
+    elsewhere : (j : ℕ) → Linkable i j → (j ≡ to → ⊥) → linkInto (set into (to - 1) w) i j ≡ linkedTo d (l + 1) i j
     elsewhere j q ne =
         ap (λ s. member s (i - 1)) (getD-set-other into (to - 1) (j - 1) w 0 (λ e. ne (omega (arith, e, p .2, q .2))))
         ∙ all i j q

@@ -7,7 +7,7 @@ use lib.ListN.{length, getD, length-set, getD-replicate, replicate}
 use Rattle.model.specs.Basics.{anyN}
 use Rattle.model.specs.Graph.{linked, linkAt}
 use Rattle.loads.specs.Sets.{member}
-use Rattle.loads.specs.Tables.{InMatrix, linkedTo, rowOf}
+use Rattle.loads.specs.Tables.{Linkable, linkedTo, rowOf}
 use Rattle.loads.proofs.SetLaws.{member-none}
 use Rattle.loads.proofs.Tabled.{sets-more, ends-inside}
 use Rattle.loads.proofs.paths.successors.Statement.{statement}
@@ -15,7 +15,7 @@ use Rattle.loads.proofs.paths.successors.Tie as tie
 
 abbrev Inv-loop : tie.InvT-loop
 Inv-loop d succ₀ l₀ succ l =
-    (l ≤ d .«link_count») × (length succ ≡ 48) × ((i j : ℕ) → InMatrix i j → member (rowOf succ i) (j - 1) ≡ linkedTo d l i j)
+    (l ≤ d .«link_count») × (length succ ≡ 48) × ((i j : ℕ) → Linkable i j → member (rowOf succ i) (j - 1) ≡ linkedTo d l i j)
 
 abbrev μ-loop : tie.MeasureT-loop
 μ-loop d succ₀ l₀ succ l = d .«link_count» - l

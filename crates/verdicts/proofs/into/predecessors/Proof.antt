@@ -7,7 +7,7 @@ use borrow.Author.Needs.{needs}
 use Rattle.model.specs.Basics.{anyN}
 use Rattle.model.specs.Graph.{linked, linkAt}
 use Rattle.loads.specs.Sets.{member}
-use Rattle.loads.specs.Tables.{InMatrix, linkedTo}
+use Rattle.loads.specs.Tables.{Linkable, linkedTo}
 use Rattle.loads.proofs.Tabled.{ends-inside}
 use Rattle.verdicts.specs.Into.{linkInto}
 use Rattle.verdicts.proofs.IntoLaws.{member-none, into-more}
@@ -19,7 +19,7 @@ use Rattle.loads.proofs.sets.with.Reads as with-reads
 use Rattle.verdicts.proofs.into.number.Reads as number-reads
 
 abbrev Inv-loop : tie.InvT-loop
-Inv-loop d into₀ l₀ into l = (l ≤ d .«link_count») × (length into ≡ 32) × ((i j : ℕ) → InMatrix i j → linkInto into i j ≡ linkedTo d l i j)
+Inv-loop d into₀ l₀ into l = (l ≤ d .«link_count») × (length into ≡ 32) × ((i j : ℕ) → Linkable i j → linkInto into i j ≡ linkedTo d l i j)
 
 abbrev μ-loop : tie.MeasureT-loop
 μ-loop d into₀ l₀ into l = d .«link_count» - l

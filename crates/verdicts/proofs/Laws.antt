@@ -73,6 +73,15 @@ pub more-none : (d end m : ℕ) → 1 ≤ m → d ≤ end → moreBy d end m ≡
 unfolding moreBy
 more-none d end m p h = div-eq-of-lt (omega arith)
 
+pub more-some : (d end m : ℕ) → 1 ≤ m → end < d → spacings (d - end) m ≡ moreBy d end m
+unfolding moreBy spacings
+more-some d end m p h = omega (arith, le-div-iff-mul-le {k = m} {x = 1} {y = d - end + (m - 1)} p .1 (omega arith))
+
+-- they reach less than a spacing beyond d
+pub more-reach : (d end m : ℕ) → 1 ≤ m → end < d → end + moreBy d end m * m ≤ d + m
+unfolding moreBy
+more-reach d end m p h = omega (arith, div-mul-le-self (d - end + (m - 1)) m)
+
 pub more-most : (d end m : ℕ) → 1 ≤ m → d ≤ 1000000000 → moreBy d end m ≤ 1000000000
 unfolding moreBy spacings
 more-most d end m p h = omega (arith, spacings-most (d - end) m p (omega arith))

@@ -77,8 +77,7 @@ fn count_on(load: u64, gap: u64, d: u64, ends: &mut [u64; 16], u: usize, sum: u6
     if d <= end {
         return sum;
     }
-    let more = (d - end + (gap - 1)) as u32 / gap as u32;
-    let count = more as u64;
+    let count = spacings_in(d - end, gap);
     ends[u] = end + count * gap;
     sum + load * count
 }

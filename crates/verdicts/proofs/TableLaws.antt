@@ -101,15 +101,18 @@ module _ (d : Description) (g : WellFormed d) where
     sp u p = rw (z .at u p) (gap-some d g (33 + u) (omega arith) (omega arith) t (omega arith) high)
 
     -- every level is on the scale that the rounds ask for
-    pub level-is : (levels : List (List ℕ)) (starts : List ℕ) → LevelsOf d levels → StartsOf d starts → (j : ℕ) → j < d .«task_count» → Level (getD starts j 0) (getD levels j []) gaps (d .«source_count»)
-    level-is levels starts a b j p =
+    pub level-on : (levels : List (List ℕ)) (starts : List ℕ) → LevelsOf d levels → StartsOf d starts → (j : ℕ) → j < 32 → Level (getD starts j 0) (getD levels j []) gaps (d .«source_count»)
+    level-on levels starts a b j p =
         record {
           few = g .few-sources;
-          start-most = rw (b j (omega (arith, g .few-tasks))) (start-light j);
-          load-most = λ u q. rw (a j u (omega (arith, g .few-tasks)) (omega (arith, g .few-sources))) (light (33 + u) (suc j) (omega arith));
+          start-most = rw (b j p) (start-light j);
+          load-most = λ u q. rw (a j u p (omega (arith, g .few-sources))) (light (33 + u) (suc j) (omega arith));
           gap-some = sp;
           gap-most = λ u q. z .most u;
         }
+
+    pub level-is : (levels : List (List ℕ)) (starts : List ℕ) → LevelsOf d levels → StartsOf d starts → (j : ℕ) → j < d .«task_count» → Level (getD starts j 0) (getD levels j []) gaps (d .«source_count»)
+    level-is levels starts a b j p = level-on levels starts a b j (omega (arith, g .few-tasks))
 
     -- a round over the tables is a round
     round-is : (levels : List (List ℕ)) (starts : List ℕ) → LevelsOf d levels → StartsOf d starts → (j : ℕ) → j < d .«task_count» → (D : ℕ) → roundIn (getD starts j 0) (getD levels j []) gaps (d .«source_count») D ≡ roundOf (system d) (spacingOf d t) (suc j) D

@@ -17,6 +17,7 @@ use plan::reaches_at;
 use plan::starts_of;
 
 pub mod decide;
+pub mod level;
 pub mod plan;
 pub mod rounds;
 pub mod walk;

@@ -35,8 +35,6 @@ use Rattle.theory.proofs.ReadBack.{read-judged}
 use Rattle.loads.specs.Tables.{checkedLoads}
 use Rattle.fields.specs.Steps.{parseAt}
 use Rattle.files.proofs.Laws.{parse-start, file-refused, file-unchecked, file-checked}
-use Rattle.quotes.specs.declared.Quoted.{Quoted}
-use Rattle.quotes.specs.Quoted.{quotedOf}
 use Rattle.quotes.proofs.Laws.{quote-judged}
 use Rattle.machine.proofs.RunLaws.{store-turn}
 use Rattle.library.specs.Replies.{bit, byteIn, quotedFile, recordByte, recordBytes}
@@ -153,13 +151,13 @@ module _ (s : List ℕ) (x : Reading) (from-start : x ≡ parseAt s 0) where
     unfolding quotedFile
     quoted-unchecked r p e = rw (← file-unchecked s r p (sym outcome-is ∙ done) (sym last-is ∙ e))
 
-    pub quoted-done : AllBytes s → y .outcome ≡ Done → (q : Quoted) → q ≡ quotedOf (x .description) → q .quote ≡ quotedFile s
+    pub quoted-done : AllBytes s → y .outcome ≡ Done → (q : Quote) → q ≡ largestBelow (allHeld (x .description)) 2801 → q ≡ quotedFile s
     unfolding quotedFile
     quoted-done b e q f =
         let whole : x ≡ readFile s = parsed ∙ file-checked s (sym outcome-is ∙ done) (sym last-is ∙ e) in
         let accepted : readFile s .outcome ≡ Done = sym (ap (λ (r : Reading). r .outcome) whole) ∙ done in
-        ap (λ (k : Quoted). k .quote) f
-        ∙ ap (λ (r : Reading). quotedOf (r .description) .quote) whole
+        f
+        ∙ ap (λ (r : Reading). largestBelow (allHeld (r .description)) 2801) whole
         ∙ quote-judged (readFile s .description) (read-judged s b accepted)
         ∙ sym (rw accepted refl)
 

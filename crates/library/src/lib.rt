@@ -8,6 +8,10 @@ use model::Quote;
 use model::Refusal;
 use report::lines::number_of;
 use ticks::gaps_of;
+use verdicts::plan::levels_of;
+use verdicts::plan::orders_of;
+use verdicts::plan::starts_of;
+use verdicts::table_of;
 ghost use mathlib.Core.Path.{_≡_};
 ghost use Prim.Native.Nat.{ℕ, _<_, _≤_};
 ghost use mathlib.Core.List.{_++_};
@@ -57,8 +61,12 @@ fn quote_file(file: &[u8]) -> Quote
         return Quote::Unquoted(why, place);
     }
     let rows = sheet.rows;
-    let quoted = quotes::quote_from(d, rows);
-    quoted.quote
+    let table = table_of(rows);
+    let levels = levels_of(&table);
+    let starts = starts_of(&table);
+    let links = loads::matrix::link_matrix(d);
+    let orders = orders_of(d, &links);
+    quotes::quote_by(d, &levels, &starts, &orders)
 }
 
 // Byte k of a number's four, high byte first.

@@ -6,8 +6,14 @@ use lines::tempo_line;
 use model::Description;
 use model::Filled;
 use model::Outcome;
+use model::Quote;
 use model::VerdictSlot;
 use text::copy_out;
+use verdicts::plan::levels_of;
+use verdicts::plan::orders_of;
+use verdicts::plan::starts_of;
+use verdicts::slots_at;
+use verdicts::table_of;
 
 pub mod lines;
 pub mod text;
@@ -15,7 +21,7 @@ pub mod text;
 ghost use mathlib.Core.Path.{_≡_};
 ghost use Prim.Native.Nat.{_+_, _≤_};
 ghost use lib.ListN.{length, take};
-ghost use Rattle.model.specs.Report.{reportOf, reported, pageReported};
+ghost use Rattle.model.specs.Report.{shownTempo, reportOf, reported, pageReported};
 ghost use Rattle.report.specs.Listing.{listing};
 ghost use Rattle.report.specs.Page.{Put};
 
@@ -40,6 +46,16 @@ fn link_lines(page: &mut [u8], at: usize, d: Description, slots: [VerdictSlot; 2
     end
 }
 
+// The tempo that verdicts are shown at: the quoted one, or 20.0 where there is none.
+fn shown_tempo(q: Quote) -> u32
+    ensures { λ r. ⌜ r ≡ shownTempo q ⌝ }
+{
+    match q {
+        Quote::Tempo(t) => t,
+        Quote::Unquoted(_, _) => 200,
+    }
+}
+
 // The report of a file on a page that takes the longest one.
 fn put_report(file: &[u8], page: &mut [u8]) -> usize
     requires { ⌜ 11168 ≤ length (now page) ⌝ }
@@ -57,9 +73,13 @@ fn put_report(file: &[u8], page: &mut [u8]) -> usize
         return refused_line(&mut *page, 0, why, place);
     }
     let rows = sheet.rows;
-    let quoted = quotes::quote_from(d, rows);
-    let quote = quoted.quote;
-    let slots = quoted.slots;
+    let table = table_of(rows);
+    let levels = levels_of(&table);
+    let starts = starts_of(&table);
+    let links = loads::matrix::link_matrix(d);
+    let orders = orders_of(d, &links);
+    let quote = quotes::quote_by(d, &levels, &starts, &orders);
+    let slots = slots_at(d, &levels, &starts, &orders, shown_tempo(quote));
     let at = tempo_line(&mut *page, 0, quote);
     link_lines(&mut *page, at, d, slots)
 }

@@ -1,15 +1,13 @@
 -- All critical links are held exactly if the orders are and every level is; a level held at one tempo is held at every lower one. Assumes nothing.
-use Prim.Native.Nat.{ℕ, zero, suc, _+_, _-_, _≤_, _<_}
-use mathlib.Core.Path.{_≡_, refl, sym, ap, _∙_}
+use Prim.Native.Nat.{ℕ, _-_, _≤_, _<_}
+use mathlib.Core.Path.{_≡_, refl, sym, _∙_}
 use mathlib.Core.Bool.{Bool, true, false, cond, not, _&&_}
 use native.Mathlib.Omega.{arith}
 use lib.Dec.{leb, ltb, eqb}
 use borrow.Author.Tests.{eq-eqb, ne-eqb, eqb-true, lt-ltb, le-ltb, ltb-true, le-leb, leb-true, not-true}
 use Rattle.model.specs.declared.Link.{Link}
 use Rattle.model.specs.declared.Description.{Description}
-use Rattle.model.specs.declared.Verdict.{Verdict}
 use Rattle.model.specs.declared.Verdict.the-variants.{HeldOrder, DoubtOrder}
-use Rattle.model.specs.Basics.{allN}
 use Rattle.model.specs.Graph.{system, linkAt}
 use Rattle.model.specs.Delays.{spacingOf}
 use Rattle.model.specs.Order.{inOrder}

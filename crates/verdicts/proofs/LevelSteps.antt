@@ -1,12 +1,12 @@
 -- Steps of the functions that tell whether a level is held. Assumes nothing.
-use Prim.Native.Nat.{ℕ, zero, suc, _+_, _-_, _≤_, _<_}
+use Prim.Native.Nat.{ℕ, suc, _+_, _-_, _≤_, _<_}
 use mathlib.Core.Path.{_≡_, refl, sym, ap, _∙_}
 use mathlib.Core.Bool.{Bool, true, false, cond, _&&_, _||_}
 use mathlib.Core.List.{List}
 use native.Mathlib.Omega.{arith}
 use lib.ListN.{length, getD, set, replicate, length-set, getD-replicate}
 use lib.Seq.{getD-set-same, getD-set-other}
-use lib.Dec.{leb, ltb, eqb}
+use lib.Dec.{ltb, eqb}
 use borrow.Author.Tests.{eq-eqb, ne-eqb, lt-ltb, le-ltb, ltb-true, ltb-false}
 use Rattle.model.specs.declared.Source.{Source}
 use Rattle.model.specs.declared.Source.the-variants.{Fixed, Paced}
@@ -23,7 +23,6 @@ use Rattle.theory.proofs.Tests.{Cmp, less, same, more, cmp, at-or-not, not-both
 use Rattle.theory.proofs.Range.{any-more}
 use Rattle.theory.proofs.Table.{stored}
 use Rattle.theory.proofs.Spacing.{spacing-most}
-use Rattle.theory.proofs.WellFormed.{WellFormed}
 use Rattle.loads.specs.Sets.{member}
 use Rattle.verdicts.specs.Plan.{OrdersOf}
 use Rattle.verdicts.specs.ByLevel.{betweenTasks, orderHeld, criticalLink, criticalTo, sourceBy, figureOf, pacedOf, sourceIn, SpacingsBy, narrowerOf, NarrowestIn}

@@ -1,5 +1,5 @@
 -- A level is held exactly if its delay is below the narrowest spacing of the sources with a critical link to it. Assumes nothing.
-use Prim.Native.Nat.{ℕ, zero, suc, _+_, _-_, _≤_, _<_}
+use Prim.Native.Nat.{ℕ, suc, _+_, _-_, _≤_, _<_}
 use mathlib.Core.Path.{_≡_, refl, sym, ap, _∙_}
 use mathlib.Core.Bool.{Bool, true, false, cond, not, _&&_}
 use mathlib.Core.List.{List, []}
@@ -7,15 +7,14 @@ use mathlib.Core.Logic.{_⊎_, inl, inr}
 use native.Mathlib.Omega.{arith}
 use native.Mathlib.Nat.{zero-div}
 use lib.ListN.{getD}
-use lib.Dec.{leb, ltb, eqb}
-use borrow.Author.Tests.{eq-eqb, eqb-true, lt-ltb, ltb-true, not-true}
+use lib.Dec.{ltb, eqb}
+use borrow.Author.Tests.{eq-eqb, eqb-true, lt-ltb, ltb-true}
 use Rattle.model.specs.declared.Source.{Source}
 use Rattle.model.specs.declared.Link.{Link}
 use Rattle.model.specs.declared.Description.{Description}
 use Rattle.model.specs.declared.Verdict.{Verdict}
 use Rattle.model.specs.declared.Verdict.the-variants.{Held, Doubt}
 use Rattle.model.specs.declared.Field.the-variants.{OfSource}
-use Rattle.model.specs.Basics.{anyN}
 use Rattle.model.specs.Refusals.{noSource}
 use Rattle.model.specs.Field.{onScale}
 use Rattle.model.specs.Graph.{System, system, linkAt}
@@ -30,7 +29,7 @@ use Rattle.theory.proofs.Levels.{levelReach, level-verdict}
 use Rattle.loads.specs.Sets.{member}
 use Rattle.verdicts.specs.Level.{Level, reachIn}
 use Rattle.verdicts.specs.Plan.{GapsOf}
-use Rattle.verdicts.specs.ByLevel.{fromSource, levelHeld, criticalLink, criticalTo, sourceIn, SourcesOf, Scaled, SpacingsBy, NarrowestIn, LevelTables, SearchTables}
+use Rattle.verdicts.specs.ByLevel.{fromSource, levelHeld, criticalLink, criticalTo, SourcesOf, Scaled, SpacingsBy, NarrowestIn, LevelTables}
 use Rattle.verdicts.proofs.PlanLaws.{gap-place}
 use Rattle.verdicts.proofs.TableLaws.{level-on, reach-is}
 use Rattle.verdicts.proofs.LevelLaws.{from-is, is-from, source-is, level-of, level-at}

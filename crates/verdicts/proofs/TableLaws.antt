@@ -1,7 +1,7 @@
 -- The tables stand for the definitions: the verdict on a link from them is the link's verdict. Assumes nothing.
 use Prim.Native.Nat.{ℕ, zero, suc, _+_, _-_, _*_, _≤_, _<_}
 use mathlib.Core.Path.{_≡_, refl, sym, ap, fun-ext, _∙_}
-use mathlib.Core.Bool.{Bool, true, false, cond, not, _&&_}
+use mathlib.Core.Bool.{Bool, true, false, cond, _&&_}
 use mathlib.Core.List.{List, []}
 use mathlib.Core.Logic.{_⊎_, inl, inr}
 use native.Mathlib.Omega.{arith}
@@ -14,14 +14,14 @@ use Rattle.model.specs.declared.Description.{Description}
 use Rattle.model.specs.declared.Verdict.{Verdict}
 use Rattle.model.specs.declared.Verdict.the-variants.{Free, HeldOrder, DoubtOrder, Held, Doubt}
 use Rattle.model.specs.declared.VerdictSlot.{VerdictSlot}
-use Rattle.model.specs.Basics.{sumN, topN, tab, allN}
+use Rattle.model.specs.Basics.{sumN, topN, tab}
 use Rattle.model.specs.Graph.{System, system, linkAt, linked}
 use Rattle.model.specs.Loads.{load, sheet}
 use Rattle.model.specs.Delays.{startOf, roundOf, spacings, spacingOf, settle}
 use Rattle.model.specs.Order.{inOrder}
-use Rattle.model.specs.Verdicts.{sourceVerdict, orderVerdict, verdictOf, verdictAt, doubtful, allHeld, slotAt, freeSlot}
+use Rattle.model.specs.Verdicts.{sourceVerdict, orderVerdict, verdictOf, verdictAt, slotAt, freeSlot}
 use Rattle.theory.proofs.Tests.{Cmp, less, same, more, cmp}
-use Rattle.theory.proofs.Range.{sumN-cong, topTo-le, all-cong}
+use Rattle.theory.proofs.Range.{sumN-cong, topTo-le}
 use Rattle.theory.proofs.Table.{tab-cong, getD-tab}
 use Rattle.theory.proofs.WellFormed.{WellFormed, Shaped, Loaded, IsTask, IsSource}
 use Rattle.theory.proofs.Fielded.{shaped}
@@ -172,10 +172,6 @@ module _ (d : Description) (g : WellFormed d) where
           go false e true f = ap (λ (x : Bool). cond x HeldOrder DoubtOrder) (o l p (ltb-true (k .from) 33 f) (one e))
           go false e false f = source-by l p (ltb-false (k .from) 33 f) (one e)
 
-      pub all-by-tables : allN (λ l. not (doubtful (byTables (getD orders l false) gaps reaches (linkAt d l)))) 0 (d .«link_count») ≡ allHeld d t
-      unfolding allHeld
-      all-by-tables = all-cong _ _ 0 (d .«link_count») (λ l p q. ap (λ (v : Verdict). not (doubtful v)) (by-tables l (omega arith)))
-
       pub slots-by-tables : tab 256 (slotBy d orders gaps reaches) ≡ tab 256 (slotAt d t)
       unfolding slotBy
       slots-by-tables = tab-cong 256 (slotBy d orders gaps reaches) (slotAt d t) (λ l p. go l (ltb l (d .«link_count»)) refl)
@@ -190,9 +186,6 @@ module _ (d : Description) (g : WellFormed d) (levels : List (List ℕ)) (starts
     (r : (j : ℕ) → j < d .«task_count» → getD reaches j 0 ≡ reachIn (getD starts j 0) (getD levels j []) gaps (d .«source_count») (getD limits j 0)) where
   reaches-are : ReachesOf d t limits reaches
   reaches-are j p = r j p ∙ reach-is d g t low high gaps z levels starts (tables .by-level) (tables .by-start) j (getD limits j 0) p
-
-  pub held-by : allN (λ l. not (doubtful (byTables (getD orders l false) gaps reaches (linkAt d l)))) 0 (d .«link_count») ≡ allHeld d t
-  held-by = all-by-tables d g t low high gaps z orders (tables .by-order) limits m reaches reaches-are
 
   pub slots-by : tab 256 (slotBy d orders gaps reaches) ≡ tab 256 (slotAt d t)
   slots-by = slots-by-tables d g t low high gaps z orders (tables .by-order) limits m reaches reaches-are

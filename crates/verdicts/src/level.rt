@@ -7,7 +7,7 @@ use model::Description;
 use model::Link;
 use model::Source;
 ghost use mathlib.Core.Path.{_≡_};
-ghost use mathlib.Core.Bool.{Bool, true, false, _||_, _&&_};
+ghost use mathlib.Core.Bool.{true, false, _||_, _&&_};
 ghost use mathlib.Core.List.{[]};
 ghost use Prim.Native.Nat.{ℕ, suc, _+_, _≤_, _<_};
 ghost use lib.ListN.{getD};
@@ -203,8 +203,7 @@ pub fn level_held(
     if 1000000000 < narrow {
         return true;
     }
-    let loads = levels[j];
-    level_reach(starts[j], &loads, gaps, m, narrow) < narrow
+    level_reach(starts[j], &levels[j], gaps, m, narrow) < narrow
 }
 
 // The same at tempo t, by the sources.

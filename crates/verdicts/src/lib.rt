@@ -1,7 +1,6 @@
 // Verdicts on the links of a description: spacings, rounds, the backward walk, and the verdict call.
 
 use decide::decide_all;
-use decide::none_doubtful;
 use model::Description;
 use model::Outcome;
 use model::Refusal;
@@ -27,7 +26,7 @@ ghost use mathlib.Core.List.{[]};
 ghost use Prim.Native.Nat.{ℕ, _≤_, _<_};
 ghost use lib.ListN.{getD};
 ghost use Rattle.model.specs.Basics.{tab};
-ghost use Rattle.model.specs.Verdicts.{allHeld, slotAt, verdicts};
+ghost use Rattle.model.specs.Verdicts.{slotAt, verdicts};
 ghost use Rattle.theory.proofs.WellFormed.{WellFormed};
 ghost use Rattle.verdicts.specs.Plan.{entry, noLoads, Tables};
 ghost use Rattle.verdicts.specs.Decide.{refusedVerdicts};
@@ -45,25 +44,6 @@ pub fn table_of(rows: [Row; 48]) -> [[u64; 32]; 48]
         i += 1;
     }
     table
-}
-
-// Whether every critical link is held at tempo t.
-pub fn held_at(
-    d: Description,
-    levels: &[[u64; 16]; 32],
-    starts: &[u64; 32],
-    orders: &[bool; 256],
-    t: u32,
-) -> bool
-    requires { ⌜ WellFormed d × Tables d (now levels) (now starts) (now orders) × (200 ≤ t) × (t ≤ 3000) ⌝ }
-    ensures { λ r. ⌜ r ≡ allHeld d t ⌝ }
-{
-    let gaps = gaps_at(d, t);
-    let limits = limits_at(d, &gaps);
-    let n = d.task_count;
-    let m = d.source_count;
-    let reaches = reaches_at(levels, starts, &gaps, &limits, n, m);
-    none_doubtful(d, orders, &gaps, &reaches)
 }
 
 // The verdicts on all links at tempo t.

@@ -1,6 +1,6 @@
 -- `critical_of` meets its contract: the sets by the first l links. Assumes nothing.
-use Prim.Native.Nat.{ℕ, _≤_, _<_, _+_, _-_}
-use mathlib.Core.Path.{_≡_, refl, sym, ap, _∙_}
+use Prim.Native.Nat.{_≤_, _-_}
+use mathlib.Core.Path.{_≡_}
 use native.Mathlib.Omega.{arith}
 use Rattle.model.specs.Graph.{linkAt}
 use Rattle.verdicts.proofs.PlanLaws.{from-most, to-most}

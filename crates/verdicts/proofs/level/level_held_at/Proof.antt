@@ -1,5 +1,4 @@
 -- `level_held_at` meets its contract: the spacings of the tempo are those of every description that the sources are of. Assumes nothing.
-use mathlib.Core.Path.{_≡_, sym, ap, _∙_}
 use native.Mathlib.Omega.{arith}
 use Rattle.verdicts.proofs.NarrowLaws.{gaps-by, scaled-by, level-in}
 use Rattle.verdicts.proofs.level.level_held_at.Statement.{statement}

@@ -1,6 +1,6 @@
 -- `narrowest` meets its contract: the narrowest of the first u. Assumes nothing.
-use Prim.Native.Nat.{ℕ, _≤_, _<_, _+_, _-_}
-use mathlib.Core.Path.{_≡_, sym, ap, _∙_}
+use Prim.Native.Nat.{_≤_, _-_}
+use mathlib.Core.Path.{_≡_}
 use native.Mathlib.Omega.{arith}
 use Rattle.verdicts.specs.ByLevel.{NarrowestIn}
 use Rattle.verdicts.proofs.LevelSteps.{narrowest-none, narrowest-more}

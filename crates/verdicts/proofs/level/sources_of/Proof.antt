@@ -1,6 +1,6 @@
 -- `sources_of` meets its contract: the first u sources. Assumes nothing.
-use Prim.Native.Nat.{ℕ, _≤_, _<_, _+_, _-_}
-use mathlib.Core.Path.{_≡_, refl, sym, ap, _∙_}
+use Prim.Native.Nat.{_≤_, _-_}
+use mathlib.Core.Path.{refl}
 use native.Mathlib.Omega.{arith}
 use Rattle.verdicts.proofs.LevelSteps.{SourcesTo, sources-more}
 use borrow.Author.Needs.{needs}

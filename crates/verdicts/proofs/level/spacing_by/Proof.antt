@@ -1,8 +1,7 @@
 -- `spacing_by` meets its contract: the spacing by kind of source. Assumes nothing.
-use mathlib.Core.Path.{_≡_, ap}
+use mathlib.Core.Path.{ap}
 use native.Mathlib.Omega.{arith}
 use native.Mathlib.Nat.{div-le-self}
-use Rattle.model.specs.declared.Source.the-variants.{Paced}
 use Prim.Native.Nat.{_*_, _≤_, _<_}
 use Rattle.model.specs.Delays.{spacing}
 use Rattle.verdicts.specs.ByLevel.{sourceBy}

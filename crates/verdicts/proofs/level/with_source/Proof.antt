@@ -1,6 +1,6 @@
 -- `with_source` meets its contract. Assumes nothing.
-use Prim.Native.Nat.{ℕ, _-_}
-use mathlib.Core.Path.{_≡_, sym, ap, _∙_}
+use Prim.Native.Nat.{_-_}
+use mathlib.Core.Path.{ap, _∙_}
 use mathlib.Core.Bool.{_||_}
 use lib.Dec.{eqb}
 use native.Mathlib.Omega.{arith}

@@ -156,9 +156,7 @@ pub fn reaches_at(
     let mut reaches = [0u64; 32];
     let mut j: usize = 0;
     while j < n {
-        let loads = levels[j];
-        let reach = level_reach(starts[j], &loads, gaps, m, limits[j]);
-        reaches[j] = reach;
+        reaches[j] = level_reach(starts[j], &levels[j], gaps, m, limits[j]);
         j += 1;
     }
     reaches

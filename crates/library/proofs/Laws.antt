@@ -15,7 +15,6 @@ use borrow.Author.Tests.{lt-ltb, le-ltb, eq-eqb, ne-eqb}
 use Rattle.model.specs.declared.Description.{Description}
 use Rattle.model.specs.declared.Machine.{Machine}
 use Rattle.model.specs.declared.Reading.{Reading}
-use Rattle.model.specs.declared.LoadSheet.{LoadSheet}
 use Rattle.model.specs.declared.Filled.{Filled}
 use Rattle.model.specs.declared.Filled.the-variants.{Bytes, Unfilled}
 use Rattle.model.specs.declared.Quote.{Quote}
@@ -25,18 +24,17 @@ use Rattle.model.specs.declared.Refusal.the-variants.{CutShort, StrangeTag, Wro
 use Rattle.model.specs.declared.Outcome.{Outcome}
 use Rattle.model.specs.declared.Outcome.the-variants.{Done, Refused}
 use Rattle.model.specs.Refusals.{numberOf, onDone}
-use Rattle.model.specs.File.{parseFile, readFile, fillWith, judge}
+use Rattle.model.specs.File.{parseFile, readFile, fillWith, judge, lastChecks}
 use Rattle.model.specs.Report.{reportOf, reported}
 use Rattle.model.specs.Verdicts.{quoteOf, largestBelow, allHeld}
 use Rattle.theory.proofs.Table.{length-tab, getD-tab}
 use Rattle.theory.proofs.NumberBytes.{Bytes as AllBytes}
 use Rattle.theory.proofs.FileLength.{placeIn, read-place}
 use Rattle.theory.proofs.ReadBack.{read-judged}
-use Rattle.loads.specs.Tables.{checkedLoads}
+use Rattle.loads.specs.declared.Worked.{Worked}
+use Rattle.loads.specs.Tables.{WorkedOf}
 use Rattle.fields.specs.Steps.{parseAt}
 use Rattle.files.proofs.Laws.{parse-start, file-refused, file-unchecked, file-checked}
-use Rattle.quotes.specs.declared.Quoted.{Quoted}
-use Rattle.quotes.specs.Quoted.{quotedOf}
 use Rattle.quotes.proofs.Laws.{quote-judged}
 use Rattle.machine.proofs.RunLaws.{store-turn}
 use Rattle.library.specs.Replies.{bit, byteIn, quotedFile, recordByte, recordBytes}
@@ -145,21 +143,21 @@ module _ (s : List ℕ) (x : Reading) (from-start : x ≡ parseAt s 0) where
   unfolding quotedFile
   quoted-unparsed r p e = rw (← file-refused s r p (sym outcome-is ∙ e))
 
-  module _ (y : LoadSheet) (checked : y ≡ checkedLoads (x .description)) (done : x .outcome ≡ Done) where
-    last-is : y .outcome ≡ checkedLoads (parseFile s .description) .outcome
-    last-is = ap (λ (l : LoadSheet). l .outcome) checked ∙ ap (λ (r : Reading). checkedLoads (r .description) .outcome) parsed
+  module _ (y : Worked) (checked : WorkedOf (x .description) y) (done : x .outcome ≡ Done) where
+    last-is : y .outcome ≡ lastChecks (parseFile s .description)
+    last-is = checked .judged ∙ ap (λ (r : Reading). lastChecks (r .description)) parsed
 
     pub quoted-unchecked : (r : Refusal) (p : ℕ) → y .outcome ≡ Refused r p → Unquoted r p ≡ quotedFile s
     unfolding quotedFile
     quoted-unchecked r p e = rw (← file-unchecked s r p (sym outcome-is ∙ done) (sym last-is ∙ e))
 
-    pub quoted-done : AllBytes s → y .outcome ≡ Done → (q : Quoted) → q ≡ quotedOf (x .description) → q .quote ≡ quotedFile s
+    pub quoted-done : AllBytes s → y .outcome ≡ Done → (q : Quote) → q ≡ largestBelow (allHeld (x .description)) 2801 → q ≡ quotedFile s
     unfolding quotedFile
     quoted-done b e q f =
         let whole : x ≡ readFile s = parsed ∙ file-checked s (sym outcome-is ∙ done) (sym last-is ∙ e) in
         let accepted : readFile s .outcome ≡ Done = sym (ap (λ (r : Reading). r .outcome) whole) ∙ done in
-        ap (λ (k : Quoted). k .quote) f
-        ∙ ap (λ (r : Reading). quotedOf (r .description) .quote) whole
+        f
+        ∙ ap (λ (r : Reading). largestBelow (allHeld (r .description)) 2801) whole
         ∙ quote-judged (readFile s .description) (read-judged s b accepted)
         ∙ sym (rw accepted refl)
 

@@ -51,14 +51,12 @@ fn quote_file(file: &[u8]) -> Quote
         return Quote::Unquoted(why, place);
     }
     let d = parsed.description;
-    let sheet = loads::last_checks(d);
-    let last = sheet.outcome;
+    let worked = loads::work_out(d);
+    let last = worked.outcome;
     if let Outcome::Refused(why, place) = last {
         return Quote::Unquoted(why, place);
     }
-    let rows = sheet.rows;
-    let quoted = quotes::quote_from(d, rows);
-    quoted.quote
+    quotes::quote_from(d, &worked.adds, &worked.works)
 }
 
 // Byte k of a number's four, high byte first.

@@ -14,7 +14,7 @@ use Rattle.theory.proofs.Tests.{Cmp, less, same, more, cmp}
 use Rattle.theory.proofs.Range.{sumTo-le, given-le, any-at, any-none, top-more}
 use Rattle.loads.specs.Sets.{member}
 use Rattle.loads.specs.Tables.{Column, loadBy, heavyBy}
-use Rattle.loads.proofs.Working.{loadBy-step}
+use Rattle.loads.proofs.Working.{loadBy-step, loadBy-none}
 
 -- one more entry of a column is worked out
 pub column-none : (base : ℕ) (adds : List ℕ) (j w : ℕ) (l : List ℕ) → Column base adds j w 0 l l
@@ -73,23 +73,41 @@ zero-entry n k p = getD-replicate n k 0 0 p
 
 -- levels and starts from task j + 1 on, filled from the highest down
 abbrev pub LevelsFrom : List ℕ → List ℕ → ℕ → ℕ → ℕ → List (List ℕ) → Type 0
-LevelsFrom adds works n m j levels = (length levels ≡ 32) × ((k u : ℕ) → j ≤ k → k < n → u < m → getD (getD levels k []) u 0 ≡ loadBy (getD adds (32 + u) 0) works n (suc k))
+LevelsFrom adds works n m j levels = (length levels ≡ 32) × ((k u : ℕ) → j ≤ k → k < 32 → u < m → getD (getD levels k []) u 0 ≡ loadBy (getD adds (32 + u) 0) works n (suc k))
+
+pub levels-none : (adds works : List ℕ) (n m : ℕ) → m ≤ 16 → LevelsFrom adds works n m n (replicate 32 (replicate 16 0))
+levels-none adds works n m few =
+    (refl, λ k u p q r.
+    ap (λ l. getD l u 0) (getD-replicate 32 k (replicate 16 0) [] q)
+    ∙ zero-entry 16 u (omega arith)
+    ∙ sym (loadBy-none (getD adds (32 + u) 0) works n (suc k) (omega arith)))
 
 pub levels-put : (adds works : List ℕ) (n m j : ℕ) (levels : List (List ℕ)) (row : List ℕ) → j < 32 → ((u : ℕ) → u < m → getD row u 0 ≡ loadBy (getD adds (32 + u) 0) works n (suc j)) → LevelsFrom adds works n m (suc j) levels → LevelsFrom adds works n m j (set levels j row)
 levels-put adds works n m j levels row p h F = (simp length-set (F .0), λ k u q r t. go k u r t q (cmp j k))
   where
-    go : (k u : ℕ) → k < n → u < m → j ≤ k → Cmp j k → getD (getD (set levels j row) k []) u 0 ≡ loadBy (getD adds (32 + u) 0) works n (suc k)
+    go : (k u : ℕ) → k < 32 → u < m → j ≤ k → Cmp j k → getD (getD (set levels j row) k []) u 0 ≡ loadBy (getD adds (32 + u) 0) works n (suc k)
     go k u r t q (less x) = ap (λ l. getD l u 0) (getD-set-other levels j k row [] (λ z. omega arith)) ∙ F .1 k u x r t
     go k u r t q (same x) = rw (← x) (ap (λ l. getD l u 0) (getD-set-same levels j row [] (omega (arith, F .0))) ∙ h u t)
     go k u r t q (more x) = absurd (omega arith)
 
 abbrev pub StartsFrom : List ℕ → List ℕ → ℕ → ℕ → List ℕ → Type 0
-StartsFrom adds works n j starts = (length starts ≡ 32) × ((c : ℕ) → j ≤ c → c < n → getD starts c 0 ≡ topN (λ k. loadBy (getD adds k 0) works n (suc c)) 0 c)
+StartsFrom adds works n j starts = (length starts ≡ 32) × ((c : ℕ) → j ≤ c → c < 32 → getD starts c 0 ≡ topN (λ k. loadBy (getD adds k 0) works n (suc c)) 0 c)
+
+top-zero : (f : ℕ → ℕ) (n : ℕ) → ((k : ℕ) → f k ≡ 0) → topN f 0 n ≡ 0
+unfolding topN
+top-zero f zero h = refl
+top-zero f (suc n) h = rw (top-zero f n h, h (0 + n)) refl
+
+pub starts-none : (adds works : List ℕ) (n : ℕ) → StartsFrom adds works n n (replicate 32 0)
+starts-none adds works n =
+    (refl, λ c p q.
+    zero-entry 32 c q
+    ∙ sym (top-zero (λ k. loadBy (getD adds k 0) works n (suc c)) c (λ k. loadBy-none (getD adds k 0) works n (suc c) (omega arith))))
 
 pub starts-put : (adds works : List ℕ) (n j : ℕ) (starts : List ℕ) (x : ℕ) → j < 32 → x ≡ topN (λ k. loadBy (getD adds k 0) works n (suc j)) 0 j → StartsFrom adds works n (suc j) starts → StartsFrom adds works n j (set starts j x)
 starts-put adds works n j starts x p e F = (simp length-set (F .0), λ c q r. go c r q (cmp j c))
   where
-    go : (c : ℕ) → c < n → j ≤ c → Cmp j c → getD (set starts j x) c 0 ≡ topN (λ k. loadBy (getD adds k 0) works n (suc c)) 0 c
+    go : (c : ℕ) → c < 32 → j ≤ c → Cmp j c → getD (set starts j x) c 0 ≡ topN (λ k. loadBy (getD adds k 0) works n (suc c)) 0 c
     go c r q (less y) = getD-set-other starts j c x 0 (λ z. omega arith) ∙ F .1 c y r
     go c r q (same y) = rw (← y) (getD-set-same starts j x 0 (omega (arith, F .0)) ∙ e)
     go c r q (more y) = absurd (omega arith)

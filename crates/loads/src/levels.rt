@@ -19,7 +19,7 @@ fn source_column(adds: &[u64; 48], m: usize, j: usize, w: u64, loads: &mut [u64;
     }
 }
 
-// The loads of m sources at each of n tasks.
+// The loads of m sources at each of n tasks; 0 at the others.
 pub fn levels_of<'a>(
     adds: &'a [u64; 48],
     works: &'a [u64; 32],
@@ -27,7 +27,7 @@ pub fn levels_of<'a>(
     m: usize,
 ) -> [[u64; 16]; 32]
     requires { ⌜ (n ≤ 32) × (m ≤ 16) × Scaled (now works) ⌝ }
-    ensures { λ r. ⌜ ((j u : ℕ) → j < n → u < m → getD (getD r j []) u 0 ≡ loadBy (getD (now (adds .entry)) (32 + u) 0) (now (works .entry)) n (suc j)) ⌝ }
+    ensures { λ r. ⌜ ((j u : ℕ) → j < 32 → u < m → getD (getD r j []) u 0 ≡ loadBy (getD (now (adds .entry)) (32 + u) 0) (now (works .entry)) n (suc j)) ⌝ }
 {
     let mut levels = [[0u64; 16]; 32];
     let mut loads = [0u64; 16];
@@ -63,10 +63,10 @@ fn task_column(adds: &[u64; 48], j: usize, w: u64, loads: &mut [u64; 32]) -> u64
     best
 }
 
-// For each of n tasks the largest load that a lower task puts on it.
+// For each of n tasks the largest load that a lower task puts on it; 0 for the others.
 pub fn starts_of<'a>(adds: &'a [u64; 48], works: &'a [u64; 32], n: usize) -> [u64; 32]
     requires { ⌜ (n ≤ 32) × Scaled (now works) ⌝ }
-    ensures { λ r. ⌜ ((j : ℕ) → j < n → getD r j 0 ≡ topN (λ k. loadBy (getD (now (adds .entry)) k 0) (now (works .entry)) n (suc j)) 0 j) ⌝ }
+    ensures { λ r. ⌜ ((j : ℕ) → j < 32 → getD r j 0 ≡ topN (λ k. loadBy (getD (now (adds .entry)) k 0) (now (works .entry)) n (suc j)) 0 j) ⌝ }
 {
     let mut starts = [0u64; 32];
     let mut loads = [0u64; 32];

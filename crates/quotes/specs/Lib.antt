@@ -1,1 +1,1 @@
-pub mod Quoted
+pub mod Best

@@ -15,7 +15,7 @@ use Rattle.model.specs.declared.Filled.the-variants.{Bytes as Bytes′, Unfille
 use Rattle.model.specs.declared.VerdictSlot.{VerdictSlot}
 use Rattle.model.specs.Basics.{tab, joined}
 use Rattle.model.specs.Graph.{linkAt}
-use Rattle.model.specs.File.{parseFile, fillWith, filledBy}
+use Rattle.model.specs.File.{parseFile, fillWith, filledBy, lastChecks}
 use Rattle.model.specs.Verdicts.{allHeld, largestBelow, slotAt, freeSlot, verdictAt}
 use Rattle.model.specs.Report.{linkLine, linkLines, refusedLine, reportFor, reportOf, reported, pageReported, printed}
 use Rattle.theory.proofs.NumberBytes.{Bytes}
@@ -26,8 +26,6 @@ use Rattle.theory.proofs.RecordLaws.{joined-cut}
 use Rattle.theory.proofs.FileLength.{read-first}
 use Rattle.theory.proofs.Table.{getD-tab, joined-more}
 use Rattle.theory.proofs.WellFormed.{WellFormed}
-use Rattle.loads.specs.Tables.{checkedLoads}
-use Rattle.loads.proofs.Checks.{checked-outcome}
 use Rattle.files.proofs.Laws.{file-refused, file-unchecked, file-checked}
 use Rattle.report.specs.Listing.{lineAt, listing}
 use Rattle.report.proofs.ReportLength.{verdicts-length, refusal-length}
@@ -38,24 +36,24 @@ module _ (s : List ℕ) where
   unfolding reportOf
   report-unparsed r p e = rw (← file-refused s r p e)
 
-  pub report-unchecked : (r : Refusal) (p : ℕ) → parseFile s .outcome ≡ Done → checkedLoads (parseFile s .description) .outcome ≡ Refused r p → refusedLine r p ≡ reportOf s
+  pub report-unchecked : (r : Refusal) (p : ℕ) → parseFile s .outcome ≡ Done → lastChecks (parseFile s .description) ≡ Refused r p → refusedLine r p ≡ reportOf s
   unfolding reportOf
   report-unchecked r p e q = rw (← file-unchecked s r p e q)
 
-  pub report-checked : parseFile s .outcome ≡ Done → checkedLoads (parseFile s .description) .outcome ≡ Done → reportFor (parseFile s .description) (largestBelow (allHeld (parseFile s .description)) 2801) ≡ reportOf s
+  pub report-checked : parseFile s .outcome ≡ Done → lastChecks (parseFile s .description) ≡ Done → reportFor (parseFile s .description) (largestBelow (allHeld (parseFile s .description)) 2801) ≡ reportOf s
   unfolding reportOf
   report-checked e q = rw (← file-checked s e q, e)
 
-  pub parsed-good : Bytes s → parseFile s .outcome ≡ Done → checkedLoads (parseFile s .description) .outcome ≡ Done → WellFormed (parseFile s .description)
+  pub parsed-good : Bytes s → parseFile s .outcome ≡ Done → lastChecks (parseFile s .description) ≡ Done → WellFormed (parseFile s .description)
   parsed-good b e q =
-      let p : LastPasses (parseFile s .description) = last-passes (parseFile s .description) (sym (checked-outcome (parseFile s .description)) ∙ q) in
+      let p : LastPasses (parseFile s .description) = last-passes (parseFile s .description) q in
       well-formed (parsed-fielded s b e) (p .some) (p .no-loop) (p .light)
 
   -- no report is longer than 11,168 bytes
   pub report-length : Bytes s → length (reportOf s) ≤ 11168
-  report-length b = go (parseFile s .outcome) refl (checkedLoads (parseFile s .description) .outcome) refl
+  report-length b = go (parseFile s .outcome) refl (lastChecks (parseFile s .description)) refl
     where
-      go : (o : Outcome) → parseFile s .outcome ≡ o → (c : Outcome) → checkedLoads (parseFile s .description) .outcome ≡ c → length (reportOf s) ≤ 11168
+      go : (o : Outcome) → parseFile s .outcome ≡ o → (c : Outcome) → lastChecks (parseFile s .description) ≡ c → length (reportOf s) ≤ 11168
       go (Refused r p) e c q = rw (← report-unparsed r p e) (omega (arith, refusal-length r p))
       go Done e (Refused r p) q = rw (← report-unchecked r p e q) (omega (arith, refusal-length r p))
       go Done e Done q =

@@ -1,37 +1,43 @@
 -- The report stage by stage, from the answers of the calls that make it: parsed, checked, quoted. Assumes nothing.
-use Prim.Native.Nat.{ℕ, _+_}
+use Prim.Native.Nat.{ℕ, _+_, _≤_}
 use mathlib.Core.Path.{_≡_, refl, sym, ap, _∙_}
 use mathlib.Core.List.{List, _++_}
+use native.Mathlib.Omega.{arith}
 use Rattle.model.specs.declared.Description.{Description}
-use Rattle.model.specs.declared.LoadSheet.{LoadSheet}
 use Rattle.model.specs.declared.Outcome.the-variants.{Done, Refused}
+use Rattle.model.specs.declared.Quote.{Quote}
+use Rattle.model.specs.declared.Quote.the-variants.{Tempo, Unquoted}
 use Rattle.model.specs.declared.Reading.{Reading}
 use Rattle.model.specs.declared.Refusal.{Refusal}
+use Rattle.model.specs.declared.VerdictSlot.{VerdictSlot}
 use Rattle.model.specs.Basics.{tab}
-use Rattle.model.specs.Graph.{system}
-use Rattle.model.specs.Loads.{sheet}
-use Rattle.model.specs.File.{parseFile}
+use Rattle.model.specs.File.{parseFile, lastChecks}
 use Rattle.model.specs.Verdicts.{allHeld, largestBelow, slotAt}
-use Rattle.model.specs.Report.{tempoLine, refusedLine, shownTempo, reportFor, reportOf}
+use Rattle.model.specs.Report.{tempoLine, linkLines, refusedLine, shownTempo, reportFor, reportOf}
 use Rattle.theory.proofs.NumberBytes.{Bytes}
 use Rattle.theory.proofs.Fielded.{Fielded}
 use Rattle.theory.proofs.ReadBack.{parsed-fielded}
 use Rattle.theory.proofs.WellFormed.{WellFormed}
-use Rattle.loads.specs.Tables.{checkedLoads}
+use Rattle.theory.proofs.Quotes.{Largest, largest-found}
+use Rattle.loads.specs.declared.Worked.{Worked}
+use Rattle.loads.specs.Tables.{WorkedOf, LoadsOf}
 use Rattle.fields.specs.Steps.{parseAt}
 use Rattle.files.proofs.Laws.{parse-start}
-use Rattle.loads.proofs.Checks.{checked-outcome, checked-rows}
-use Rattle.quotes.specs.declared.Quoted.{Quoted}
-use Rattle.quotes.specs.Quoted.{quotedOf}
 use Rattle.report.specs.Listing.{listing}
 use Rattle.report.proofs.ReportLaws.{report-unparsed, report-unchecked, report-checked, parsed-good, listing-is}
 
-quoted-parts : (d : Description) (q : Quoted) → WellFormed d → q ≡ quotedOf d → tempoLine (q .quote) ++ listing d (q .slots) (d .«link_count») ≡ reportFor d (largestBelow (allHeld d) 2801)
-unfolding quotedOf reportFor
-quoted-parts d q w e =
-    let t = shownTempo (largestBelow (allHeld d) 2801) in
-    rw e
-    (ap (λ (l : List ℕ). tempoLine (largestBelow (allHeld d) 2801) ++ l) (listing-is d t (tab 256 (slotAt d t)) (w .few-links) refl))
+quoted-parts : (d : Description) (q : Quote) (slots : List VerdictSlot) → WellFormed d → q ≡ largestBelow (allHeld d) 2801 → slots ≡ tab 256 (slotAt d (shownTempo q)) → tempoLine q ++ listing d slots (d .«link_count») ≡ reportFor d (largestBelow (allHeld d) 2801)
+unfolding reportFor
+quoted-parts d q slots w e f =
+    ap (λ (l : List ℕ). tempoLine q ++ l) (listing-is d (shownTempo q) slots (w .few-links) f)
+    ∙ ap (λ (x : Quote). tempoLine x ++ linkLines d (shownTempo x)) e
+
+-- the tempo shown is on the knob
+pub shown-on : (d : Description) (q : Quote) → q ≡ largestBelow (allHeld d) 2801 → (200 ≤ shownTempo q) × (shownTempo q ≤ 3000)
+shown-on d (Tempo t) e =
+    let r : Largest (allHeld d) 2801 t = largest-found (allHeld d) 2801 t (sym e) in
+    (r .low, omega (arith, r .high))
+shown-on d (Unquoted r p) e = (omega arith, omega arith)
 
 module _ (s : List ℕ) (x : Reading) (parsed-start : x ≡ parseAt s 0) where
   parsed : x ≡ parseFile s
@@ -47,9 +53,9 @@ module _ (s : List ℕ) (x : Reading) (parsed-start : x ≡ parseAt s 0) where
   pub stage-fields : Bytes s → x .outcome ≡ Done → Fielded (x .description)
   stage-fields b e = rw parsed (parsed-fielded s b (sym outcome-is ∙ e))
 
-  module _ (y : LoadSheet) (checked : y ≡ checkedLoads (x .description)) (done : x .outcome ≡ Done) where
-    last-is : y .outcome ≡ checkedLoads (parseFile s .description) .outcome
-    last-is = ap (λ (l : LoadSheet). l .outcome) checked ∙ ap (λ (r : Reading). checkedLoads (r .description) .outcome) parsed
+  module _ (y : Worked) (checked : WorkedOf (x .description) y) (done : x .outcome ≡ Done) where
+    last-is : y .outcome ≡ lastChecks (parseFile s .description)
+    last-is = checked .judged ∙ ap (λ (r : Reading). lastChecks (r .description)) parsed
 
     -- the last checks refuse, or pass
     pub stage-unchecked : (r : Refusal) (p : ℕ) → y .outcome ≡ Refused r p → refusedLine r p ≡ reportOf s
@@ -58,14 +64,12 @@ module _ (s : List ℕ) (x : Reading) (parsed-start : x ≡ parseAt s 0) where
     pub stage-good : Bytes s → y .outcome ≡ Done → WellFormed (x .description)
     stage-good b e = rw parsed (parsed-good s b (sym outcome-is ∙ done) (sym last-is ∙ e))
 
-    pub stage-rows : y .outcome ≡ Done → y .rows ≡ sheet (system (x .description))
-    stage-rows e =
-        ap (λ (l : LoadSheet). l .rows) checked
-        ∙ checked-rows (x .description) (sym (checked-outcome (x .description)) ∙ sym (ap (λ (l : LoadSheet). l .outcome) checked) ∙ e)
+    pub stage-loads : y .outcome ≡ Done → LoadsOf (x .description) (y .adds) (y .works)
+    stage-loads e = checked .worked (sym (checked .judged) ∙ e)
 
     -- the tempo line and the link lines are the report
-    pub stage-parts : Bytes s → y .outcome ≡ Done → (q : Quoted) → q ≡ quotedOf (x .description) → tempoLine (q .quote) ++ listing (x .description) (q .slots) (x .description .«link_count») ≡ reportOf s
-    stage-parts b e q f =
-        quoted-parts (x .description) q (stage-good b e) f
+    pub stage-parts : Bytes s → y .outcome ≡ Done → (q : Quote) (slots : List VerdictSlot) → q ≡ largestBelow (allHeld (x .description)) 2801 → slots ≡ tab 256 (slotAt (x .description) (shownTempo q)) → tempoLine q ++ listing (x .description) slots (x .description .«link_count») ≡ reportOf s
+    stage-parts b e q slots f k =
+        quoted-parts (x .description) q slots (stage-good b e) f k
         ∙ ap (λ (r : Reading). reportFor (r .description) (largestBelow (allHeld (r .description)) 2801)) parsed
         ∙ report-checked s (sym outcome-is ∙ done) (sym last-is ∙ e)

@@ -3,11 +3,16 @@
 use lines::link_line;
 use lines::refused_line;
 use lines::tempo_line;
+use loads::levels::levels_of;
+use loads::levels::starts_of;
 use model::Description;
 use model::Filled;
 use model::Outcome;
+use model::Quote;
 use model::VerdictSlot;
 use text::copy_out;
+use verdicts::plan::orders_of;
+use verdicts::slots_at;
 
 pub mod lines;
 pub mod text;
@@ -15,7 +20,7 @@ pub mod text;
 ghost use mathlib.Core.Path.{_≡_};
 ghost use Prim.Native.Nat.{_+_, _≤_};
 ghost use lib.ListN.{length, take};
-ghost use Rattle.model.specs.Report.{reportOf, reported, pageReported};
+ghost use Rattle.model.specs.Report.{shownTempo, reportOf, reported, pageReported};
 ghost use Rattle.report.specs.Listing.{listing};
 ghost use Rattle.report.specs.Page.{Put};
 
@@ -40,6 +45,16 @@ fn link_lines(page: &mut [u8], at: usize, d: Description, slots: [VerdictSlot; 2
     end
 }
 
+// The tempo that verdicts are shown at: the quoted one, or 20.0 where there is none.
+fn shown_tempo(q: Quote) -> u32
+    ensures { λ r. ⌜ r ≡ shownTempo q ⌝ }
+{
+    match q {
+        Quote::Tempo(t) => t,
+        Quote::Unquoted(_, _) => 200,
+    }
+}
+
 // The report of a file on a page that takes the longest one.
 fn put_report(file: &[u8], page: &mut [u8]) -> usize
     requires { ⌜ 11168 ≤ length (now page) ⌝ }
@@ -51,15 +66,18 @@ fn put_report(file: &[u8], page: &mut [u8]) -> usize
         return refused_line(&mut *page, 0, why, place);
     }
     let d = parsed.description;
-    let sheet = loads::last_checks(d);
-    let last = sheet.outcome;
+    let worked = loads::work_out(d);
+    let last = worked.outcome;
     if let Outcome::Refused(why, place) = last {
         return refused_line(&mut *page, 0, why, place);
     }
-    let rows = sheet.rows;
-    let quoted = quotes::quote_from(d, rows);
-    let quote = quoted.quote;
-    let slots = quoted.slots;
+    let n = d.task_count;
+    let m = d.source_count;
+    let levels = levels_of(&worked.adds, &worked.works, n, m);
+    let starts = starts_of(&worked.adds, &worked.works, n);
+    let orders = orders_of(d);
+    let quote = quotes::quote_by(d, &levels, &starts, &orders);
+    let slots = slots_at(d, &levels, &starts, &orders, shown_tempo(quote));
     let at = tempo_line(&mut *page, 0, quote);
     link_lines(&mut *page, at, d, slots)
 }

@@ -1,35 +1,21 @@
 -- The verdict call by its tests: judged, then the knob. Assumes nothing.
 use Prim.Native.Nat.{ℕ, _≤_, _<_}
-use mathlib.Core.Path.{_≡_, refl, sym, ap, _∙_}
+use mathlib.Core.Path.{_≡_, refl, ap}
 use mathlib.Core.Bool.{Bool, true, false, _&&_}
 use mathlib.Core.List.{List}
 use lib.Dec.{leb}
 use borrow.Author.Tests.{le-leb, lt-leb}
 use Rattle.model.specs.declared.Description.{Description}
-use Rattle.model.specs.declared.LoadSheet.{LoadSheet}
-use Rattle.model.specs.declared.Row.{Row}
-use Rattle.model.specs.declared.Outcome.{Outcome}
 use Rattle.model.specs.declared.Outcome.the-variants.{Done, Refused}
 use Rattle.model.specs.declared.Refusal.{Refusal}
 use Rattle.model.specs.declared.Refusal.the-variants.{OffKnob}
 use Rattle.model.specs.declared.VerdictSlot.{VerdictSlot}
 use Rattle.model.specs.declared.Verdicts.{Verdicts}
 use Rattle.model.specs.Basics.{tab}
-use Rattle.model.specs.Graph.{system}
-use Rattle.model.specs.Loads.{sheet}
-use Rattle.model.specs.File.{judge, loadSheet}
+use Rattle.model.specs.File.{judge}
 use Rattle.model.specs.Verdicts.{judgeAt, verdicts, onKnob, slotAt}
 use Rattle.theory.proofs.Tests.{and-false-left, and-false-right, both}
-use Rattle.files.proofs.Laws.{sheet-outcome}
 use Rattle.verdicts.specs.Decide.{refusedVerdicts}
-
--- what a load sheet says of its description
-pub judged-by : (d : Description) (x : LoadSheet) (o : Outcome) → x ≡ loadSheet d → x .outcome ≡ o → judge d ≡ o
-judged-by d x o e q = sym (ap (λ (y : LoadSheet). y .outcome) e ∙ sheet-outcome d) ∙ q
-
-pub rows-by : (d : Description) (x : LoadSheet) → x ≡ loadSheet d → judge d ≡ Done → x .rows ≡ sheet (system d)
-unfolding loadSheet
-rows-by d x e q = ap (λ (y : LoadSheet). y .rows) e ∙ rw q
 
 module _ (d : Description) (t : ℕ) where
   pub verdicts-refused : (r : Refusal) (p : ℕ) → judge d ≡ Refused r p → refusedVerdicts r p ≡ verdicts d t

@@ -5,3 +5,6 @@ pub mod PlanLaws
 pub mod DecideLaws
 pub mod TableLaws
 pub mod CallLaws
+pub mod LevelLaws
+pub mod NarrowLaws
+pub mod LevelSteps

@@ -1,7 +1,7 @@
 -- The tables stand for the definitions: the verdict on a link from them is the link's verdict. Assumes nothing.
 use Prim.Native.Nat.{ℕ, zero, suc, _+_, _-_, _*_, _≤_, _<_}
 use mathlib.Core.Path.{_≡_, refl, sym, ap, fun-ext, _∙_}
-use mathlib.Core.Bool.{Bool, true, false, cond, not, _&&_}
+use mathlib.Core.Bool.{Bool, true, false, cond, _&&_}
 use mathlib.Core.List.{List, []}
 use mathlib.Core.Logic.{_⊎_, inl, inr}
 use native.Mathlib.Omega.{arith}
@@ -14,14 +14,14 @@ use Rattle.model.specs.declared.Description.{Description}
 use Rattle.model.specs.declared.Verdict.{Verdict}
 use Rattle.model.specs.declared.Verdict.the-variants.{Free, HeldOrder, DoubtOrder, Held, Doubt}
 use Rattle.model.specs.declared.VerdictSlot.{VerdictSlot}
-use Rattle.model.specs.Basics.{sumN, topN, tab, allN}
+use Rattle.model.specs.Basics.{sumN, topN, tab}
 use Rattle.model.specs.Graph.{System, system, linkAt, linked}
 use Rattle.model.specs.Loads.{load, sheet}
 use Rattle.model.specs.Delays.{startOf, roundOf, spacings, spacingOf, settle}
 use Rattle.model.specs.Order.{inOrder}
-use Rattle.model.specs.Verdicts.{sourceVerdict, orderVerdict, verdictOf, verdictAt, doubtful, allHeld, slotAt, freeSlot}
+use Rattle.model.specs.Verdicts.{sourceVerdict, orderVerdict, verdictOf, verdictAt, slotAt, freeSlot}
 use Rattle.theory.proofs.Tests.{Cmp, less, same, more, cmp}
-use Rattle.theory.proofs.Range.{sumN-cong, topTo-le, all-cong}
+use Rattle.theory.proofs.Range.{sumN-cong, topTo-le}
 use Rattle.theory.proofs.Table.{tab-cong, getD-tab}
 use Rattle.theory.proofs.WellFormed.{WellFormed, Shaped, Loaded, IsTask, IsSource}
 use Rattle.theory.proofs.Fielded.{shaped}
@@ -33,7 +33,8 @@ use Rattle.theory.proofs.Levels.{sum-shift, reachOf, levelReach, level-verdict}
 use Rattle.theory.proofs.Walk.{in-order-alike}
 use Rattle.verdicts.specs.Level.{Level, roundIn, reachIn}
 use Rattle.verdicts.specs.Into.{intoSystem, IntoOf}
-use Rattle.verdicts.specs.Plan.{entry, noLoads, SheetOf, LevelsOf, StartsOf, OrdersOf, GapsOf, LimitsOf, ReachesOf, orderBy, Tables}
+use Rattle.loads.specs.Tables.{loadBy, LoadsOf}
+use Rattle.verdicts.specs.Plan.{LevelsOf, StartsOf, OrdersOf, GapsOf, LimitsOf, ReachesOf, orderBy, Tables}
 use Rattle.verdicts.specs.Decide.{verdictBy, gapBy, byTables, slotBy}
 use Rattle.verdicts.proofs.PlanLaws.{from-some, to-most}
 
@@ -52,29 +53,23 @@ top-cong f g (suc n) h =
     let e : 0 + n ≡ n = omega arith in
     rw (top-cong f g n (λ k p. h k (omega arith)), e, h n (omega arith))
 
--- the table made of the rows of a load sheet
-pub sheet-of : (d : Description) (rows : List Row) (t : List (List ℕ)) → rows ≡ sheet (system d) → ((i j : ℕ) → i < 48 → entry t i j ≡ getD (getD rows i noLoads .loads) j 0) → SheetOf d t
-unfolding sheet
-sheet-of d rows t e h i j p q =
-    h i j p
-    ∙ ap (λ (x : List Row). getD (getD x i noLoads .loads) j 0) e
-    ∙ ap (λ (x : Row). getD (x .loads) j 0) (getD-tab 48 (λ r. let x : Row = record { loads = tab 32 (λ c. load (system d) (suc r) (suc c)) } in x) noLoads i p)
-    ∙ getD-tab 32 (λ c. load (system d) (suc i) (suc c)) 0 j q
-
--- the starts that the sheet's columns give
-pub starts-of : (d : Description) (t : List (List ℕ)) (starts : List ℕ) → SheetOf d t → ((j : ℕ) → j < 32 → getD starts j 0 ≡ topN (λ k. entry t k j) 0 j) → StartsOf d starts
+-- the starts and levels that sets and works give
+starts-of : (d : Description) (adds works starts : List ℕ) → LoadsOf d adds works → ((j : ℕ) → j < 32 → getD starts j 0 ≡ topN (λ k. loadBy (getD adds k 0) works (d .«task_count») (suc j)) 0 j) → StartsOf d starts
 unfolding startOf
-starts-of d t starts h s j p =
+starts-of d adds works starts h s j p =
     let e : suc (suc j - 1) - 1 ≡ j = omega arith in
     s j p
-    ∙ top-cong (λ k. entry t k j) (λ k. load (system d) (suc k) (suc j)) j (λ k q. h k j (omega arith) p)
+    ∙ top-cong (λ k. loadBy (getD adds k 0) works (d .«task_count») (suc j)) (λ k. load (system d) (suc k) (suc j)) j (λ k q. at k (omega arith))
     ∙ sym (top-shift (λ k. load (system d) k (suc j)) j)
     ∙ ap (λ n. topN (λ k. load (system d) k (suc j)) 1 n) (sym e)
+  where
+    at : (k : ℕ) → k < 48 → loadBy (getD adds k 0) works (d .«task_count») (suc j) ≡ load (system d) (suc k) (suc j)
+    at k q = let e : suc k - 1 ≡ k = omega arith in rw e at (h .by-sets (suc k) (suc j) (omega arith, omega arith) (omega arith))
 
-pub levels-of : (d : Description) (t levels : List (List ℕ)) → SheetOf d t → ((j u : ℕ) → j < 32 → u < 16 → entry levels j u ≡ entry t (32 + u) j) → LevelsOf d levels
-levels-of d t levels h s j u p q =
-    let e : suc (32 + u) ≡ 33 + u = omega arith in
-    s j u p q ∙ h (32 + u) j (omega arith) p ∙ ap (λ i. load (system d) i (suc j)) e
+levels-of : (d : Description) (adds works : List ℕ) (levels : List (List ℕ)) → d .«source_count» ≤ 16 → LoadsOf d adds works → ((j u : ℕ) → j < 32 → u < d .«source_count» → getD (getD levels j []) u 0 ≡ loadBy (getD adds (32 + u) 0) works (d .«task_count») (suc j)) → LevelsOf d levels
+levels-of d adds works levels few h s j u p q =
+    let e : 33 + u - 1 ≡ 32 + u = omega arith in
+    s j u p q ∙ rw e at (h .by-sets (33 + u) (suc j) (omega arith, omega arith) (omega arith))
 
 module _ (d : Description) (g : WellFormed d) where
   sh : Shaped (system d)
@@ -100,15 +95,18 @@ module _ (d : Description) (g : WellFormed d) where
     sp u p = rw (z .at u p) (gap-some d g (33 + u) (omega arith) (omega arith) t (omega arith) high)
 
     -- every level is on the scale that the rounds ask for
-    pub level-is : (levels : List (List ℕ)) (starts : List ℕ) → LevelsOf d levels → StartsOf d starts → (j : ℕ) → j < d .«task_count» → Level (getD starts j 0) (getD levels j []) gaps (d .«source_count»)
-    level-is levels starts a b j p =
+    pub level-on : (levels : List (List ℕ)) (starts : List ℕ) → LevelsOf d levels → StartsOf d starts → (j : ℕ) → j < 32 → Level (getD starts j 0) (getD levels j []) gaps (d .«source_count»)
+    level-on levels starts a b j p =
         record {
           few = g .few-sources;
-          start-most = rw (b j (omega (arith, g .few-tasks))) (start-light j);
-          load-most = λ u q. rw (a j u (omega (arith, g .few-tasks)) (omega (arith, g .few-sources))) (light (33 + u) (suc j) (omega arith));
+          start-most = rw (b j p) (start-light j);
+          load-most = λ u q. rw (a j u p q) (light (33 + u) (suc j) (omega arith));
           gap-some = sp;
           gap-most = λ u q. z .most u;
         }
+
+    pub level-is : (levels : List (List ℕ)) (starts : List ℕ) → LevelsOf d levels → StartsOf d starts → (j : ℕ) → j < d .«task_count» → Level (getD starts j 0) (getD levels j []) gaps (d .«source_count»)
+    level-is levels starts a b j p = level-on levels starts a b j (omega (arith, g .few-tasks))
 
     -- a round over the tables is a round
     round-is : (levels : List (List ℕ)) (starts : List ℕ) → LevelsOf d levels → StartsOf d starts → (j : ℕ) → j < d .«task_count» → (D : ℕ) → roundIn (getD starts j 0) (getD levels j []) gaps (d .«source_count») D ≡ roundOf (system d) (spacingOf d t) (suc j) D
@@ -119,7 +117,7 @@ module _ (d : Description) (g : WellFormed d) where
         (sumN-cong _ _ 0 (d .«source_count») (λ u q r. term u (omega arith))))
       where
         term : (u : ℕ) → u < d .«source_count» → getD (getD levels j []) u 0 * spacings D (getD gaps u 0) ≡ load (system d) (33 + u) (suc j) * spacings D (spacingOf d t (33 + u))
-        term u q = rw (a j u (omega (arith, g .few-tasks)) (omega (arith, g .few-sources)), z .at u q)
+        term u q = rw (a j u (omega (arith, g .few-tasks)) q, z .at u q)
 
     -- where the rounds over the tables come to
     pub reach-is : (levels : List (List ℕ)) (starts : List ℕ) → LevelsOf d levels → StartsOf d starts → (j limit : ℕ) → j < d .«task_count» → reachIn (getD starts j 0) (getD levels j []) gaps (d .«source_count») limit ≡ levelReach (system d) (spacingOf d t) (suc j) limit
@@ -168,10 +166,6 @@ module _ (d : Description) (g : WellFormed d) where
           go false e true f = ap (λ (x : Bool). cond x HeldOrder DoubtOrder) (o l p (ltb-true (k .from) 33 f) (one e))
           go false e false f = source-by l p (ltb-false (k .from) 33 f) (one e)
 
-      pub all-by-tables : allN (λ l. not (doubtful (byTables (getD orders l false) gaps reaches (linkAt d l)))) 0 (d .«link_count») ≡ allHeld d t
-      unfolding allHeld
-      all-by-tables = all-cong _ _ 0 (d .«link_count») (λ l p q. ap (λ (v : Verdict). not (doubtful v)) (by-tables l (omega arith)))
-
       pub slots-by-tables : tab 256 (slotBy d orders gaps reaches) ≡ tab 256 (slotAt d t)
       unfolding slotBy
       slots-by-tables = tab-cong 256 (slotBy d orders gaps reaches) (slotAt d t) (λ l p. go l (ltb l (d .«link_count»)) refl)
@@ -187,24 +181,18 @@ module _ (d : Description) (g : WellFormed d) (levels : List (List ℕ)) (starts
   reaches-are : ReachesOf d t limits reaches
   reaches-are j p = r j p ∙ reach-is d g t low high gaps z levels starts (tables .by-level) (tables .by-start) j (getD limits j 0) p
 
-  pub held-by : allN (λ l. not (doubtful (byTables (getD orders l false) gaps reaches (linkAt d l)))) 0 (d .«link_count») ≡ allHeld d t
-  held-by = all-by-tables d g t low high gaps z orders (tables .by-order) limits m reaches reaches-are
-
   pub slots-by : tab 256 (slotBy d orders gaps reaches) ≡ tab 256 (slotAt d t)
   slots-by = slots-by-tables d g t low high gaps z orders (tables .by-order) limits m reaches reaches-are
 
--- the tables as they are made: from the rows of the load sheet and the sets of links
-pub tables-made : (d : Description) (rows : List Row) (table levels : List (List ℕ)) (starts into : List ℕ) (orders : List Bool) → WellFormed d → rows ≡ sheet (system d)
-    → ((i j : ℕ) → i < 48 → entry table i j ≡ getD (getD rows i noLoads .loads) j 0)
-    → ((j u : ℕ) → j < 32 → u < 16 → entry levels j u ≡ entry table (32 + u) j)
-    → ((j : ℕ) → j < 32 → getD starts j 0 ≡ topN (λ k. entry table k j) 0 j)
-    → IntoOf d into
-    → ((l : ℕ) → l < d .«link_count» → getD orders l false ≡ orderBy into (linkAt d l))
+-- the tables as they are made: from sets and works
+pub tables-made : (d : Description) (adds works : List ℕ) (levels : List (List ℕ)) (starts : List ℕ) (orders : List Bool) → WellFormed d → LoadsOf d adds works
+    → ((j u : ℕ) → j < 32 → u < d .«source_count» → getD (getD levels j []) u 0 ≡ loadBy (getD adds (32 + u) 0) works (d .«task_count») (suc j))
+    → ((j : ℕ) → j < 32 → getD starts j 0 ≡ topN (λ k. loadBy (getD adds k 0) works (d .«task_count») (suc j)) 0 j)
+    → OrdersOf d orders
     → Tables d levels starts orders
-tables-made d rows table levels starts into orders g e a b s m o =
-    let t : SheetOf d table = sheet-of d rows table e a in
+tables-made d adds works levels starts orders g L b s o =
     record {
-      by-level = levels-of d table levels t b;
-      by-start = starts-of d table starts t s;
-      by-order = orders-of d g into orders m o;
+      by-level = levels-of d adds works levels (g .few-sources) L b;
+      by-start = starts-of d adds works starts L s;
+      by-order = o;
     }

@@ -6,7 +6,6 @@ use mathlib.Core.List.{List, []}
 use lib.ListN.{getD}
 use lib.Dec.{leb, ltb, eqb}
 use Rattle.model.specs.declared.Link.{Link}
-use Rattle.model.specs.declared.Row.{Row}
 use Rattle.model.specs.declared.Description.{Description}
 use Rattle.model.specs.Graph.{System, system, linkAt}
 use Rattle.model.specs.Loads.{load}
@@ -15,21 +14,9 @@ use Rattle.model.specs.Order.{inOrder}
 use Rattle.theory.proofs.Levels.{levelReach}
 use Rattle.verdicts.specs.Into.{intoSystem}
 
--- an entry of a table of rows
-abbrev pub entry : List (List ℕ) → ℕ → ℕ → ℕ
-entry t i j = getD (getD t i []) j 0
-
--- past the last row
-abbrev pub noLoads : Row
-noLoads = record { loads = [] }
-
--- the load sheet: row i is node i + 1, column j task j + 1
-abbrev pub SheetOf : Description → List (List ℕ) → Type 0
-SheetOf d t = (i j : ℕ) → i < 48 → j < 32 → entry t i j ≡ load (system d) (suc i) (suc j)
-
 -- by level: the load of each source at task j + 1
 abbrev pub LevelsOf : Description → List (List ℕ) → Type 0
-LevelsOf d t = (j u : ℕ) → j < 32 → u < 16 → entry t j u ≡ load (system d) (33 + u) (suc j)
+LevelsOf d t = (j u : ℕ) → j < 32 → u < d .«source_count» → getD (getD t j []) u 0 ≡ load (system d) (33 + u) (suc j)
 
 -- by level: where its rounds start
 abbrev pub StartsOf : Description → List ℕ → Type 0

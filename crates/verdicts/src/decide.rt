@@ -5,12 +5,9 @@ use model::Link;
 use model::Verdict;
 use model::VerdictSlot;
 ghost use mathlib.Core.Path.{_≡_};
-ghost use mathlib.Core.Bool.{false, not};
 ghost use Prim.Native.Nat.{ℕ, _+_, _-_, _≤_, _<_};
 ghost use lib.ListN.{getD};
-ghost use Rattle.model.specs.Graph.{linkAt};
-ghost use Rattle.model.specs.Basics.{allN, tab};
-ghost use Rattle.model.specs.Verdicts.{doubtful};
+ghost use Rattle.model.specs.Basics.{tab};
 ghost use Rattle.theory.proofs.WellFormed.{WellFormed};
 ghost use Rattle.verdicts.specs.Decide.{verdictBy, gapBy, byTables, slotBy};
 
@@ -32,19 +29,6 @@ pub fn verdict_by(link: Link, order: bool, gap: u64, reach: u64) -> Verdict
         return Verdict::Held(reach as u32, gap as u32);
     }
     Verdict::Doubt(gap as u32)
-}
-
-// Whether a verdict is no doubt.
-fn is_held(v: Verdict) -> bool
-    ensures { λ r. ⌜ r ≡ not (doubtful v) ⌝ }
-{
-    match v {
-        Verdict::Free => true,
-        Verdict::HeldOrder => true,
-        Verdict::DoubtOrder => false,
-        Verdict::Held(_, _) => true,
-        Verdict::Doubt(_) => false,
-    }
 }
 
 // The spacing of a link's source; 0 where the link comes from a task.
@@ -90,26 +74,4 @@ pub fn decide_all(
         l += 1;
     }
     slots
-}
-
-// Whether no link is in doubt.
-pub fn none_doubtful(
-    d: Description,
-    orders: &[bool; 256],
-    gaps: &[u64; 16],
-    reaches: &[u64; 32],
-) -> bool
-    requires { ⌜ WellFormed d × ((u : ℕ) → getD (now gaps) u 0 ≤ 1000000000) ⌝ }
-    ensures { λ r. ⌜ r ≡ allN (λ l. not (doubtful (byTables (getD (now (orders .entry)) l false) (now (gaps .entry)) (now (reaches .entry)) (linkAt d l)))) 0 (d .«link_count») ⌝ }
-{
-    let mut l: usize = 0;
-    while l < d.link_count {
-        let link = d.links[l];
-        let verdict = verdict_from(link, orders[l], gaps, reaches);
-        if !is_held(verdict) {
-            return false;
-        }
-        l += 1;
-    }
-    true
 }

@@ -1,5 +1,6 @@
 // The tables that verdicts are worked out on. Loads, starts and the order of task links do not depend on the tempo.
 
+use crate::into::predecessors;
 use crate::rounds::level_reach;
 use crate::rounds::spacing_at;
 use crate::walk::walk_back;
@@ -8,71 +9,12 @@ use model::Link;
 ghost use mathlib.Core.Path.{_≡_};
 ghost use mathlib.Core.List.{[]};
 ghost use mathlib.Core.Bool.{false};
-ghost use Prim.Native.Nat.{ℕ, suc, _+_, _≤_, _<_, max};
+ghost use Prim.Native.Nat.{ℕ, _≤_, _<_, max};
 ghost use lib.ListN.{getD};
-ghost use Rattle.model.specs.Basics.{topN};
 ghost use Rattle.model.specs.Graph.{linkAt};
 ghost use Rattle.theory.proofs.WellFormed.{WellFormed};
 ghost use Rattle.verdicts.specs.Level.{Level, reachIn};
-ghost use Rattle.verdicts.specs.Plan.{entry, GapsOf, LimitsOf, limitBy, orderBy};
-
-// The loads of the sources at one task, from the sheet's column.
-fn level_at(sheet: &[[u64; 32]; 48], j: usize) -> [u64; 16]
-    requires { ⌜ j < 32 ⌝ }
-    ensures { λ r. ⌜ ((u : ℕ) → u < 16 → getD r u 0 ≡ entry (now (sheet .entry)) (32 + u) j) ⌝ }
-{
-    let mut loads = [0u64; 16];
-    let mut u: usize = 0;
-    while u < 16 {
-        loads[u] = sheet[32 + u][j];
-        u += 1;
-    }
-    loads
-}
-
-// The loads of the sources at every task.
-pub fn levels_of(sheet: &[[u64; 32]; 48]) -> [[u64; 16]; 32]
-    ensures { λ r. ⌜ ((j u : ℕ) → j < 32 → u < 16 → entry r j u ≡ entry (now (sheet .entry)) (32 + u) j) ⌝ }
-{
-    let mut levels = [[0u64; 16]; 32];
-    let mut j: usize = 0;
-    while j < 32 {
-        let row = level_at(sheet, j);
-        levels[j] = row;
-        j += 1;
-    }
-    levels
-}
-
-// The largest load that a lower task puts on one task.
-fn start_at(sheet: &[[u64; 32]; 48], j: usize) -> u64
-    requires { ⌜ j < 32 ⌝ }
-    ensures { λ r. ⌜ r ≡ topN (λ k. entry (now (sheet .entry)) k j) 0 j ⌝ }
-{
-    let mut best: u64 = 0;
-    let mut k: usize = 0;
-    while k < j {
-        let load = sheet[k][j];
-        if best < load {
-            best = load;
-        }
-        k += 1;
-    }
-    best
-}
-
-// Where the rounds of every task start.
-pub fn starts_of(sheet: &[[u64; 32]; 48]) -> [u64; 32]
-    ensures { λ r. ⌜ ((j : ℕ) → j < 32 → getD r j 0 ≡ topN (λ k. entry (now (sheet .entry)) k j) 0 j) ⌝ }
-{
-    let mut starts = [0u64; 32];
-    let mut j: usize = 0;
-    while j < 32 {
-        starts[j] = start_at(sheet, j);
-        j += 1;
-    }
-    starts
-}
+ghost use Rattle.verdicts.specs.Plan.{GapsOf, LimitsOf, OrdersOf, limitBy, orderBy};
 
 // A number of a link as an index.
 fn number(x: u8) -> usize
@@ -156,9 +98,7 @@ pub fn reaches_at(
     let mut reaches = [0u64; 32];
     let mut j: usize = 0;
     while j < n {
-        let loads = levels[j];
-        let reach = level_reach(starts[j], &loads, gaps, m, limits[j]);
-        reaches[j] = reach;
+        reaches[j] = level_reach(starts[j], &levels[j], gaps, m, limits[j]);
         j += 1;
     }
     reaches
@@ -180,8 +120,8 @@ fn order_by(link: Link, into: &[u64; 32]) -> bool
     false
 }
 
-// Which links between tasks are in order.
-pub fn orders_of(d: Description, into: &[u64; 32]) -> [bool; 256]
+// Which links between tasks are in order, from the links into each task.
+fn orders_by(d: Description, into: &[u64; 32]) -> [bool; 256]
     requires { ⌜ WellFormed d ⌝ }
     ensures { λ r. ⌜ ((l : ℕ) → l < d .«link_count» → getD r l false ≡ orderBy (now (into .entry)) (linkAt d l)) ⌝ }
 {
@@ -194,4 +134,13 @@ pub fn orders_of(d: Description, into: &[u64; 32]) -> [bool; 256]
         l += 1;
     }
     orders
+}
+
+// Which links between tasks are in order.
+pub fn orders_of(d: Description) -> [bool; 256]
+    requires { ⌜ WellFormed d ⌝ }
+    ensures { λ r. ⌜ OrdersOf d r ⌝ }
+{
+    let into = predecessors(d);
+    orders_by(d, &into)
 }

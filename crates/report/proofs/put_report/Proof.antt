@@ -5,14 +5,36 @@ use mathlib.Core.List.{_++_}
 use native.Mathlib.Omega.{arith}
 use lib.ListN.{length, length-append}
 use borrow.Author.Needs.{needs}
+use Rattle.model.specs.Basics.{tab}
+use Rattle.model.specs.Verdicts.{slotAt}
 use Rattle.model.specs.Report.{tempoLine, refusedLine, reportOf}
+use Rattle.theory.proofs.Fielded.{fields-of}
+use Rattle.theory.proofs.WellFormed.{WellFormed}
+use Rattle.verdicts.specs.Plan.{Tables}
+use Rattle.verdicts.proofs.TableLaws.{tables-made}
 use Rattle.report.specs.Listing.{listing}
 use Rattle.report.proofs.Pages.{put-then, put-same}
 use Rattle.report.proofs.ReportLength.{refusal-length}
 use Rattle.report.proofs.ReportLaws.{report-length}
-use Rattle.report.proofs.Stages.{stage-unparsed, stage-fields, stage-unchecked, stage-good, stage-rows, stage-parts}
+use Rattle.report.proofs.Stages.{shown-on, stage-unparsed, stage-fields, stage-unchecked, stage-good, stage-rows, stage-parts}
+use borrow.Author.Needs.{needs}
 use Rattle.report.proofs.put_report.Statement.{statement}
 use Rattle.report.proofs.put_report.Tie as tie
+use Rattle.report.proofs.put_report.Reads as reads
+use Rattle.report.proofs.put_report.Lts as lts
+use Rattle.fields.proofs.parse.Reads as parse-reads
+use Rattle.loads.proofs.last_checks.Reads as last-checks-reads
+use Rattle.loads.proofs.matrix.link_matrix.Reads as link-matrix-reads
+use Rattle.quotes.proofs.quote_by.Reads as quote-by-reads
+use Rattle.report.proofs.lines.refused_line.Reads as refused-line-reads
+use Rattle.report.proofs.lines.tempo_line.Reads as tempo-line-reads
+use Rattle.report.proofs.link_lines.Reads as link-lines-reads
+use Rattle.report.proofs.shown_tempo.Reads as shown-tempo-reads
+use Rattle.verdicts.proofs.plan.levels_of.Reads as levels-of-reads
+use Rattle.verdicts.proofs.plan.orders_of.Reads as orders-of-reads
+use Rattle.verdicts.proofs.plan.starts_of.Reads as starts-of-reads
+use Rattle.verdicts.proofs.slots_at.Reads as slots-at-reads
+use Rattle.verdicts.proofs.table_of.Reads as table-of-reads
 
 parse-requires : tie.Need-parse-requires
 parse-requires c κs = search needs
@@ -63,50 +85,72 @@ returns-2 c =
 enum-told-2 : tie.Need-enum-told-2
 enum-told-2 c = search needs
 
-quote-from-requires : tie.Need-quote-from-requires
-quote-from-requires c κs =
+table-of-requires : tie.Need-table-of-requires
+table-of-requires c κs = search needs
+
+levels-of-requires : tie.Need-levels-of-requires
+levels-of-requires c κs = search needs
+
+starts-of-requires : tie.Need-starts-of-requires
+starts-of-requires c κs = search needs
+
+-- what is known of a checked description
+good : (c : tie.After-rows) → WellFormed (c .before .before .before .before .before .before .before .parse .result .description)
+good c =
     let p = c .before .before .before .before .before .before .before .parse in
     let y = c .before .before .before .last-checks in
-    let s = c .before .before .before .before .before .before .before .before .before .before .args .file .now in
-    let done = c .before .before .before .before .before .enum-told .given .1 in
-    let last = c .before .enum-told2 .given .1 in
-    (stage-good s (p .result) (p .ensures) (y .result) (y .ensures) done (λ i. c .before .before .before .before .before .before .before .before .before .shared-slice-known .given i .fits) last, stage-rows s (p .result) (p .ensures) (y .result) (y .ensures) done last)
+    stage-good (c .before .before .before .before .before .before .before .before .before .before .args .file .now) (p .result) (p .ensures) (y .result) (y .ensures) (c .before .before .before .before .before .enum-told .given .1) (λ i. c .before .before .before .before .before .before .before .before .before .shared-slice-known .given i .fits) (c .before .enum-told2 .given .1)
 
--- what is known once the quote is there: the parts of the report, and that they fit
-few : (c : tie.After-quote-from) → c .before .before .before .before .before .before .before .before .parse .result .description .«link_count» ≤ 256
-few c =
-    let p = c .before .before .before .before .before .before .before .before .parse in
-    let y = c .before .before .before .before .last-checks in
-    stage-good (c .before .before .before .before .before .before .before .before .before .before .before .args .file .now) (p .result) (p .ensures) (y .result) (y .ensures) (c .before .before .before .before .before .before .enum-told .given .1) (λ i. c .before .before .before .before .before .before .before .before .before .before .shared-slice-known .given i .fits) (c .before .before .enum-told2 .given .1) .few-links
+link-matrix-requires : tie.Need-link-matrix-requires
+link-matrix-requires c κs = fields-of (good (c .before .before .before .before .before))
 
-parts : (c : tie.After-quote-from) → tempoLine (c .quote-from .result .quote) ++ listing (c .before .before .before .before .before .before .before .before .parse .result .description) (c .quote-from .result .slots) (c .before .before .before .before .before .before .before .before .parse .result .description .«link_count») ≡ reportOf (c .before .before .before .before .before .before .before .before .before .before .before .args .file .now)
+orders-of-requires : tie.Need-orders-of-requires
+orders-of-requires c κs = good (c .before .before .before .before .before .before .before)
+
+tables : (c : tie.After-orders-of) → Tables (c .before .before .before .before .before .before .before .before .before .before .before .before .before .before .before .parse .result .description) (c .before .before .before .before .before .levels-of .result) (c .before .before .before .starts-of .result) (c .orders-of .result)
+tables c =
+    let p = c .before .before .before .before .before .before .before .before .before .before .before .before .before .before .before .parse in
+    let y = c .before .before .before .before .before .before .before .before .before .before .before .last-checks in
+    tables-made (p .result .description) (y .result .rows) (c .before .before .before .before .before .before .before .table-of .result) (c .before .before .before .before .before .levels-of .result) (c .before .before .before .starts-of .result) (c .before .before .link-matrix .result) (c .orders-of .result) (good (c .before .before .before .before .before .before .before .before)) (stage-rows (c .before .before .before .before .before .before .before .before .before .before .before .before .before .before .before .before .before .before .args .file .now) (p .result) (p .ensures) (y .result) (y .ensures) (c .before .before .before .before .before .before .before .before .before .before .before .before .before .enum-told .given .1) (c .before .before .before .before .before .before .before .before .before .enum-told2 .given .1)) (c .before .before .before .before .before .before .before .table-of .ensures) (c .before .before .before .before .before .levels-of .ensures) (c .before .before .before .starts-of .ensures) (c .before .before .link-matrix .ensures) (c .orders-of .ensures)
+
+quote-by-requires : tie.Need-quote-by-requires
+quote-by-requires c κs = (good (c .before .before .before .before .before .before .before .before .before .before .before), tables (c .before .before .before))
+
+shown-tempo-requires : tie.Need-shown-tempo-requires
+shown-tempo-requires c κs = search needs
+
+slots-at-requires : tie.Need-slots-at-requires
+slots-at-requires c κs =
+    let on = shown-on (c .before .before .before .before .before .before .before .before .before .before .before .before .before .before .before .before .before .before .before .before .before .before .before .parse .result .description) (c .before .before .before .before .quote-by .result) (c .before .before .before .before .quote-by .ensures) in
+    (good (c .before .before .before .before .before .before .before .before .before .before .before .before .before .before .before .before), tables (c .before .before .before .before .before .before .before .before), omega (arith, on .0, c .shown-tempo .ensures), omega (arith, on .1, c .shown-tempo .ensures))
+
+-- what is known once the verdicts are there: the parts of the report, and that they fit
+parts : (c : tie.After-slots-at) → tempoLine (c .before .before .before .before .before .quote-by .result) ++ listing (c .before .before .before .before .before .before .before .before .before .before .before .before .before .before .before .before .before .before .before .before .before .before .before .before .parse .result .description) (c .slots-at .result) (c .before .before .before .before .before .before .before .before .before .before .before .before .before .before .before .before .before .before .before .before .before .before .before .before .parse .result .description .«link_count») ≡ reportOf (c .before .before .before .before .before .before .before .before .before .before .before .before .before .before .before .before .before .before .before .before .before .before .before .before .before .before .before .args .file .now)
 parts c =
-    let p = c .before .before .before .before .before .before .before .before .parse in
-    let y = c .before .before .before .before .last-checks in
-    stage-parts (c .before .before .before .before .before .before .before .before .before .before .before .args .file .now) (p .result) (p .ensures) (y .result) (y .ensures) (c .before .before .before .before .before .before .enum-told .given .1) (λ i. c .before .before .before .before .before .before .before .before .before .before .shared-slice-known .given i .fits) (c .before .before .enum-told2 .given .1) (c .quote-from .result) (c .quote-from .ensures)
+    let p = c .before .before .before .before .before .before .before .before .before .before .before .before .before .before .before .before .before .before .before .before .before .before .before .before .parse in
+    let y = c .before .before .before .before .before .before .before .before .before .before .before .before .before .before .before .before .before .before .before .before .last-checks in
+    stage-parts (c .before .before .before .before .before .before .before .before .before .before .before .before .before .before .before .before .before .before .before .before .before .before .before .before .before .before .before .args .file .now) (p .result) (p .ensures) (y .result) (y .ensures) (c .before .before .before .before .before .before .before .before .before .before .before .before .before .before .before .before .before .before .before .before .before .before .enum-told .given .1) (λ i. c .before .before .before .before .before .before .before .before .before .before .before .before .before .before .before .before .before .before .before .before .before .before .before .before .before .before .shared-slice-known .given i .fits) (c .before .before .before .before .before .before .before .before .before .before .before .before .before .before .before .before .before .before .enum-told2 .given .1) (c .before .before .before .before .before .quote-by .result) (c .slots-at .result) (c .before .before .before .before .before .quote-by .ensures) (c .slots-at .ensures ∙ ap (λ t. tab 256 (slotAt (p .result .description) t)) (c .before .shown-tempo .ensures))
 
-room : (c : tie.After-quote-from) → length (tempoLine (c .quote-from .result .quote)) + length (listing (c .before .before .before .before .before .before .before .before .parse .result .description) (c .quote-from .result .slots) (c .before .before .before .before .before .before .before .before .parse .result .description .«link_count»)) ≤ 11168
+room : (c : tie.After-slots-at) → length (tempoLine (c .before .before .before .before .before .quote-by .result)) + length (listing (c .before .before .before .before .before .before .before .before .before .before .before .before .before .before .before .before .before .before .before .before .before .before .before .before .parse .result .description) (c .slots-at .result) (c .before .before .before .before .before .before .before .before .before .before .before .before .before .before .before .before .before .before .before .before .before .before .before .before .parse .result .description .«link_count»)) ≤ 11168
 room c =
-    let d = c .before .before .before .before .before .before .before .before .parse .result .description in
-    let q = c .quote-from .result in
-    omega (arith, report-length (c .before .before .before .before .before .before .before .before .before .before .before .args .file .now) (λ i. c .before .before .before .before .before .before .before .before .before .before .shared-slice-known .given i .fits), sym (ap length (parts c)) ∙ length-append (tempoLine (q .quote)) (listing d (q .slots) (d .«link_count»)))
+    let d = c .before .before .before .before .before .before .before .before .before .before .before .before .before .before .before .before .before .before .before .before .before .before .before .before .parse .result .description in
+    omega (arith, report-length (c .before .before .before .before .before .before .before .before .before .before .before .before .before .before .before .before .before .before .before .before .before .before .before .before .before .before .before .args .file .now) (λ i. c .before .before .before .before .before .before .before .before .before .before .before .before .before .before .before .before .before .before .before .before .before .before .before .before .before .before .shared-slice-known .given i .fits), sym (ap length (parts c)) ∙ length-append (tempoLine (c .before .before .before .before .before .quote-by .result)) (listing d (c .slots-at .result) (d .«link_count»)))
 
 tempo-line-requires : tie.Need-tempo-line-requires
-tempo-line-requires c κs = omega (arith, c .before .before .before .before .before .before .before .before .before .before .before .before .before .pre, room (c .before .before))
+tempo-line-requires c κs = omega (arith, c .before .before .before .before .before .before .before .before .before .before .before .before .before .before .before .before .before .before .before .before .before .before .before .before .before .before .before .before .pre, room (c .before))
 
 link-lines-requires : tie.Need-link-lines-requires
 link-lines-requires c κs =
     let t = c .before .before .before .tempo-line .ensures in
-    (few (c .before .before .before .before .before .before), omega (arith, c .before .before .before .before .before .before .before .before .before .before .before .before .before .before .before .before .before .pre, room (c .before .before .before .before .before .before), t .put-end, t .put-size))
+    (good (c .before .before .before .before .before .before .before .before .before .before .before .before .before .before .before .before .before .before .before .before .before .before) .few-links, omega (arith, c .before .before .before .before .before .before .before .before .before .before .before .before .before .before .before .before .before .before .before .before .before .before .before .before .before .before .before .before .before .before .before .before .pre, room (c .before .before .before .before .before), t .put-end, t .put-size))
 
 same-length-3 : tie.Need-same-length-3
 same-length-3 c = search needs
 
 returns-3 : tie.Need-returns-3
 returns-3 c =
-    let d = c .before .before .before .before .before .before .before .before .before .before .before .before .before .before .before .before .before .parse .result .description in
-    let q = c .before .before .before .before .before .before .before .before .before .quote-from .result in
-    put-same _ (reportOf (c .before .before .before .before .before .before .before .before .before .before .before .before .before .before .before .before .before .before .before .before .args .file .now)) (parts (c .before .before .before .before .before .before .before .before .before)) (put-then (tempoLine (q .quote)) (listing d (q .slots) (d .«link_count»)) (c .before .before .before .before .before .before .tempo-line .ensures) (c .before .before .link-lines .ensures))
+    let d = c .before .before .before .before .before .before .before .before .before .before .before .before .before .before .before .before .before .before .before .before .before .before .before .before .before .before .before .before .before .before .before .before .parse .result .description in
+    put-same _ (reportOf (c .before .before .before .before .before .before .before .before .before .before .before .before .before .before .before .before .before .before .before .before .before .before .before .before .before .before .before .before .before .before .before .before .before .before .before .args .file .now)) (parts (c .before .before .before .before .before .before .before .before)) (put-then (tempoLine (c .before .before .before .before .before .before .before .before .before .before .before .before .before .quote-by .result)) (listing d (c .before .before .before .before .before .before .before .before .slots-at .result) (d .«link_count»)) (c .before .before .before .before .before .before .tempo-line .ensures) (c .before .before .link-lines .ensures))
 
 pub put-report-spec : {M : Type 1} → statement M
 put-report-spec =
@@ -124,7 +168,14 @@ put-report-spec =
     same-length-2
     returns-2
     enum-told-2
-    quote-from-requires
+    table-of-requires
+    levels-of-requires
+    starts-of-requires
+    link-matrix-requires
+    orders-of-requires
+    quote-by-requires
+    shown-tempo-requires
+    slots-at-requires
     tempo-line-requires
     link-lines-requires
     same-length-3

@@ -7,7 +7,7 @@ use mathlib.Core.List.{[]}
 use lib.ListN.{length, getD, length-set}
 use Rattle.loads.specs.Tables.{loadBy}
 use Rattle.loads.proofs.Working.{loadBy-none, loadBy-most}
-use Rattle.loads.proofs.Columns.{LevelsFrom, levels-step, zero-entry}
+use Rattle.loads.proofs.Columns.{LevelsFrom, levels-none, levels-step, zero-entry}
 use Rattle.loads.proofs.levels.levels_of.Statement.{statement}
 use Rattle.loads.proofs.levels.levels_of.Tie as tie
 
@@ -18,7 +18,7 @@ abbrev μ-loop : tie.MeasureT-loop
 μ-loop adds works n m levels₀ loads₀ j₀ levels loads j = j
 
 loop-holds : tie.Need-loop-holds Inv-loop μ-loop
-loop-holds c = (omega arith, refl, λ u p. zero-entry 16 u (omega (arith, c .pre .1)) ∙ sym (loadBy-none (getD (c .args .adds .now) (32 + u) 0) (c .args .works .now) (c .args .n) (suc (c .args .n)) (omega arith)), (refl, λ k u p q. absurd (omega arith)))
+loop-holds c = (omega arith, refl, λ u p. zero-entry 16 u (omega (arith, c .pre .1)) ∙ sym (loadBy-none (getD (c .args .adds .now) (32 + u) 0) (c .args .works .now) (c .args .n) (suc (c .args .n)) (omega arith)), levels-none (c .args .adds .now) (c .args .works .now) (c .args .n) (c .args .m) (c .pre .1))
 
 sub-j : tie.Need-sub-j Inv-loop μ-loop
 sub-j c = search needs

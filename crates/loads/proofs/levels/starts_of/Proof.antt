@@ -7,7 +7,7 @@ use mathlib.Core.List.{[]}
 use lib.ListN.{length, getD, length-set}
 use Rattle.loads.specs.Tables.{loadBy}
 use Rattle.loads.proofs.Working.{loadBy-none, loadBy-most}
-use Rattle.loads.proofs.Columns.{StartsFrom, starts-step, zero-entry}
+use Rattle.loads.proofs.Columns.{StartsFrom, starts-none, starts-step, zero-entry}
 use Rattle.loads.proofs.levels.starts_of.Statement.{statement}
 use Rattle.loads.proofs.levels.starts_of.Tie as tie
 
@@ -18,7 +18,7 @@ abbrev μ-loop : tie.MeasureT-loop
 μ-loop adds works n starts₀ loads₀ j₀ starts loads j = j
 
 loop-holds : tie.Need-loop-holds Inv-loop μ-loop
-loop-holds c = (omega arith, refl, λ k p. zero-entry 32 k (omega (arith, c .pre .0)) ∙ sym (loadBy-none (getD (c .args .adds .now) k 0) (c .args .works .now) (c .args .n) (suc (c .args .n)) (omega arith)), (refl, λ k p q. absurd (omega arith)))
+loop-holds c = (omega arith, refl, λ k p. zero-entry 32 k (omega (arith, c .pre .0)) ∙ sym (loadBy-none (getD (c .args .adds .now) k 0) (c .args .works .now) (c .args .n) (suc (c .args .n)) (omega arith)), starts-none (c .args .adds .now) (c .args .works .now) (c .args .n))
 
 sub-j : tie.Need-sub-j Inv-loop μ-loop
 sub-j c = search needs

@@ -4,7 +4,7 @@ use mathlib.Core.Path.{_≡_, refl, sym, ap, subst, _∙_}
 use mathlib.Core.Bool.{Bool, true, false}
 use mathlib.Core.List.{List, [], _∷_, _++_}
 use native.Mathlib.Omega.{arith}
-use native.Mathlib.Nat.{div-div-eq-div-mul, div-one, pow-suc}
+use native.Mathlib.Nat.{div-div-eq-div-mul, div-one, zero-div, pow-suc}
 use native.Mathlib.Numerals.{add-one}
 use lib.ListN.{length, getD, set, take, drop}
 use lib.Seq.{take-all}
@@ -25,14 +25,21 @@ use Rattle.model.specs.Field.{onScale}
 use Rattle.model.specs.Graph.{sourceAt}
 use Rattle.model.specs.File.{SourceFits, Widths, judge, filledBy}
 use Rattle.model.specs.Verdicts.{judgeAt, onKnob}
-use Rattle.model.specs.Machine.{idle, blankMachine, lawful, plainTick}
+use Rattle.model.specs.Basics.{upTo}
+use Rattle.model.specs.Delays.{spacingOf}
+use Rattle.model.specs.Machine.{idle, blankMachine, lawful, arriveOne, arrive, highestIn, runTask, endRun, strangers, tooSoon, plainTick}
 use Rattle.model.specs.History.{Call, answers, left, isDone}
-use Rattle.theory.proofs.Tests.{not-both, and-left, and-right}
+use Rattle.theory.proofs.Tests.{not-both, and-left, and-right, and-false-left}
+use Rattle.theory.proofs.Range.{any-none}
+use Rattle.theory.proofs.Machine.{getD-same}
 use Rattle.theory.proofs.WellFormed.{WellFormed}
 use Rattle.theory.proofs.Table.{length-tab, getD-tab}
 use Rattle.theory.proofs.Replay.{callAt, quietCall}
 use Rattle.theory.proofs.Lawful.{rules-kept}
-use Rattle.machine.specs.Run.{callIn, callsIn, codeOf, codes, page, ran}
+use Rattle.steps.specs.Parts.{parts, older}
+use Rattle.steps.proofs.StepLaws.{arrive-off, older-more, older-none, act-whole, step-whole}
+use Rattle.machine.specs.Run.{heard, marksIn, callIn, callsIn, codeOf, codes, page, ran, lagging, Coded}
+use Rattle.machine.proofs.TickLaws.{tick-done}
 
 -- masks: all of it, and one bit less
 pub whole-mask : (mask : ℕ) → mask ≡ mask / 2 ^ 0
@@ -41,9 +48,64 @@ whole-mask mask = sym (div-one mask)
 pub halved : (mask u rest : ℕ) → rest ≡ mask / 2 ^ u → rest / 2 ≡ mask / 2 ^ (u + 1)
 halved mask u rest e = rw (e, add-one u, pow-suc 2 u) (div-div-eq-div-mul mask (2 ^ u) 2)
 
+-- a mask of 0: no source arrives, none is a stranger or too soon, and the arrivals do nothing
+silent : (u : ℕ) → u < 16 → getD (marksIn 0) u false ≡ false
+unfolding marksIn
+silent u h = getD-tab 16 (heard 0) false u h ∙ rw zero-div refl
+
+arrive-silent : (d : Description) (m : Machine) → d .«source_count» ≤ 16 → m ≡ arrive d (marksIn 0) m
+unfolding arrive upTo
+arrive-silent d m h = go (d .«source_count») h
+  where
+    go : (n : ℕ) → n ≤ 16 → m ≡ upTo n (arriveOne d (marksIn 0)) m
+    go zero h = refl
+    go (suc n) h = arrive-off d (marksIn 0) n m (silent n (omega arith)) ∙ ap (arriveOne d (marksIn 0) n) (go n (omega arith))
+
+strangers-silent : (d : Description) → strangers d (marksIn 0) ≡ false
+unfolding strangers
+strangers-silent d = any-none _ 0 16 (λ k a b. and-false-left (getD (marksIn 0) k false) _ (silent k (omega arith)))
+
+soon-silent : (d : Description) (t : ℕ) (m : Machine) → d .«source_count» ≤ 16 → tooSoon d t (marksIn 0) m ≡ false
+unfolding tooSoon
+soon-silent d t m h = any-none _ 0 (d .«source_count») (λ k a b. and-false-left (getD (marksIn 0) k false) _ (silent k (omega arith)))
+
+-- so that such a call is a tick of the task that is awake
+pub quiet-done : (d : Description) (t : ℕ) (finish : Bool) (h late : ℕ) (aw aw′ wa wa′ dr dr′ : List Bool) (us us′ ag : List ℕ) → d .«source_count» ≤ 16 → judgeAt d t ≡ Done → lawful d t (parts aw us wa dr (older d t late ag)) ≡ true → h ≡ highestIn aw (d .«task_count») → parts aw′ us′ wa′ dr′ (older d t late ag) ≡ endRun d h finish (runTask h (parts aw us wa dr (older d t late ag))) → record { outcome = Done; machine = parts aw′ us′ wa′ dr′ (older d t (late + 1) ag) } ≡ plainTick d t (parts aw us wa dr (older d t late ag)) (record { marks = marksIn 0 }) finish
+quiet-done d t finish h late aw aw′ wa wa′ dr dr′ us us′ ag few e l q s =
+    let m = parts aw us wa dr (older d t late ag) in
+    tick-done d t m (parts aw′ us′ wa′ dr′ (older d t (late + 1) ag)) (record { marks = marksIn 0 }) finish e l (strangers-silent d) (soon-silent d t m few)
+    (ap (parts aw′ us′ wa′ dr′) (sym (older-more d t late 1 ag)) ∙ step-whole d t (marksIn 0) finish m aw′ wa′ dr′ us′ (older d t late ag) (s ∙ act-whole d (marksIn 0) finish h m m (arrive-silent d m few) q))
+
+-- ages that were late and are up to date
+pub caught-up : (d : Description) (t late : ℕ) (aw wa dr : List Bool) (us ag ag′ : List ℕ) → ag′ ≡ older d t late ag → parts aw us wa dr (older d t 0 ag′) ≡ parts aw us wa dr (older d t late ag)
+caught-up d t late aw wa dr us ag ag′ e =
+    let z : late + 0 ≡ late = omega arith in
+    ap (parts aw us wa dr) (ap (older d t 0) e ∙ older-more d t late 0 ag ∙ ap (λ n. older d t n ag) z)
+
+-- at the start no ages are late, and no task is awake
+pub start-late : (d : Description) (t : ℕ) (m : Machine) → d .«source_count» ≤ 16 → m ≡ idle d t → lagging d t 0 m ≡ idle d t
+unfolding idle
+start-late d t m few e = ap (lagging d t 0) e ∙ ap (parts (idle d t .awake) (idle d t .used) (idle d t .waiting) (idle d t .dropped)) (older-none d t (idle d t .ages) low)
+  where
+    low : (u : ℕ) → u < d .«source_count» → getD (idle d t .ages) u 0 ≤ spacingOf d t (33 + u)
+    low u h =
+        let q : getD (idle d t .ages) u 0 ≡ spacingOf d t (33 + u) = getD-tab 16 _ 0 u (omega arith) ∙ rw (lt-ltb u (d .«source_count») h) refl in
+        omega (arith, q)
+
+pub start-asleep : (d : Description) (t : ℕ) (m : Machine) (n : ℕ) → m ≡ idle d t → 0 ≡ highestIn (m .awake) n
+unfolding idle highestIn
+start-asleep d t m n e = sym (ap (λ (k : Machine). highestIn (k .awake) n) e ∙ go n)
+  where
+    go : (n : ℕ) → highestIn (idle d t .awake) n ≡ 0
+    go zero = refl
+    go (suc n) = rw (getD-same 32 n false, highestIn) (go n)
+
 -- an answer as its code and its record
-pub coded : (r r′ : Ticked) → r ≡ r′ → (codeOf (r .outcome) ≡ codeOf (r′ .outcome)) × (r .machine ≡ r′ .machine)
+coded : (r r′ : Ticked) → r ≡ r′ → (codeOf (r .outcome) ≡ codeOf (r′ .outcome)) × (r .machine ≡ r′ .machine)
 coded r r′ e = (ap (λ (k : Ticked). codeOf (k .outcome)) e, ap (λ (k : Ticked). k .machine) e)
+
+pub answer-coded : (d : Description) (t mask : ℕ) (finish : Bool) (marks : List Bool) (m : Machine) (r : Ticked) → marks ≡ marksIn mask → r ≡ plainTick d t m (record { marks = marks }) finish → Coded d t m mask finish (codeOf (r .outcome)) (r .machine)
+answer-coded d t mask finish marks m r e q = coded r _ (q ∙ ap (λ k. plainTick d t m (record { marks = k }) finish) e)
 
 -- as many calls as whole fours, the i-th being that of the i-th four
 pub calls-length : (bytes : List ℕ) → length (callsIn bytes) ≡ length bytes / 4

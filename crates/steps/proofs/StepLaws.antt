@@ -1,18 +1,23 @@
 -- One turn of each step's loop, on the parts of the record. Assumes nothing.
 use Prim.Native.Nat.{ℕ, zero, suc, _+_, _-_, _≤_, _<_, min}
-use mathlib.Core.Path.{_≡_, refl, ap}
-use mathlib.Core.Bool.{Bool, true, false, _||_, _&&_, not}
+use mathlib.Core.Path.{_≡_, refl, sym, ap, _∙_}
+use mathlib.Core.Bool.{Bool, true, false, _||_, _&&_, not, cond}
 use mathlib.Core.List.{List}
 use mathlib.Core.Logic.{_⊎_, inl, inr, ⊎-elim}
 use native.Mathlib.Omega.{arith}
-use lib.ListN.{getD, set}
-use lib.Dec.{eqb}
+use lib.ListN.{getD, set, length, length-set}
+use lib.Seq.{ext-getD, getD-set-same, getD-set-other}
+use lib.Dec.{eqb, ltb}
+use borrow.Author.Tests.{ltb-true, lt-ltb, le-ltb}
 use Rattle.model.specs.declared.Description.{Description}
 use Rattle.model.specs.declared.Machine.{Machine}
+use Rattle.model.specs.Basics.{upTo}
 use Rattle.model.specs.Graph.{linkAt}
 use Rattle.model.specs.Delays.{spacingOf}
 use Rattle.model.specs.Machine.{arrive, ageAll, endRun, stepped, clearInto, setAwake, fireLink, fire, arriveOne, highestIn, runTask, setUsed, usedAt, setWaiting, setAge, clearLink, ageOne}
-use Rattle.steps.specs.Parts.{parts}
+use Rattle.theory.proofs.Tests.{Cmp, less, same, more, cmp}
+use Rattle.theory.proofs.Range.{upTo-more}
+use Rattle.steps.specs.Parts.{parts, acted, each, risen, older}
 
 -- by cases, the sum first
 pub cases : {A B C : Type 0} → A ⊎ B → (A → C) → (B → C) → C
@@ -78,10 +83,70 @@ pub clear-off : (d : Description) (h l : ℕ) (m : Machine) → eqb (linkAt d l 
 unfolding clearLink
 clear-off d h l m e = rw e refl
 
+-- one number more of a list changed
+pub each-more : (n : ℕ) (f : ℕ → ℕ → ℕ) (l : List ℕ) → each (n + 1) f l ≡ set (each n f l) n (f n (getD (each n f l) n 0))
+unfolding each
+each-more n f l = upTo-more n (λ u k. set k u (f u (getD k u 0))) l
+
+-- a list changed is as long, and each of its numbers is the old one or changed
+pub each-length : (n : ℕ) (f : ℕ → ℕ → ℕ) (l : List ℕ) → length (each n f l) ≡ length l
+unfolding each upTo
+each-length zero f l = refl
+each-length (suc n) f l = length-set (each n f l) n (f n (getD (each n f l) n 0)) ∙ each-length n f l
+
+pub each-at : (n : ℕ) (f : ℕ → ℕ → ℕ) (l : List ℕ) (k : ℕ) → k < length l → getD (each n f l) k 0 ≡ cond (ltb k n) (f k (getD l k 0)) (getD l k 0)
+unfolding each upTo
+each-at zero f l k h = rw (le-ltb k 0 (omega arith)) refl
+each-at (suc n) f l k h = go (cmp k n) (each-at n f l k h)
+  where
+    go : Cmp k n → getD (each n f l) k 0 ≡ cond (ltb k n) (f k (getD l k 0)) (getD l k 0) → getD (each (suc n) f l) k 0 ≡ cond (ltb k (suc n)) (f k (getD l k 0)) (getD l k 0)
+    go (less r) q = getD-set-other (each n f l) n k (f n (getD (each n f l) n 0)) 0 (λ e. omega arith) ∙ q ∙ rw (lt-ltb k n r, lt-ltb k (suc n) (omega arith)) refl
+    go (same r) q =
+        let z : n < length (each n f l) = omega (arith, each-length n f l) in
+        let v : getD (each n f l) n 0 ≡ getD l n 0 = rw (r, le-ltb n n (omega arith)) at q in
+        rw (r, lt-ltb n (suc n) (omega arith)) (getD-set-same (each n f l) n (f n (getD (each n f l) n 0)) 0 z ∙ ap (f n) v)
+    go (more r) q = getD-set-other (each n f l) n k (f n (getD (each n f l) n 0)) 0 (λ e. omega arith) ∙ q ∙ rw (le-ltb k n (omega arith), le-ltb k (suc n) (omega arith)) refl
+
+-- ages some ticks later, and some more; and ages that do not exceed the spacings
+pub older-more : (d : Description) (t m n : ℕ) (ag : List ℕ) → older d t n (older d t m ag) ≡ older d t (m + n) ag
+older-more d t m n ag =
+    ext-getD 0 (older d t n (older d t m ag)) (older d t (m + n) ag)
+    (each-length (d .«source_count») (risen d t n) (older d t m ag) ∙ each-length (d .«source_count») (risen d t m) ag ∙ sym (each-length (d .«source_count») (risen d t (m + n)) ag))
+    (λ k h. let z : k < length ag = omega (arith, each-length (d .«source_count») (risen d t n) (older d t m ag), each-length (d .«source_count») (risen d t m) ag) in at k z (ltb k (d .«source_count»)) refl)
+  where
+    sum : (g a : ℕ) → min g (min g (a + m) + n) ≡ min g (a + (m + n))
+    sum g a = omega arith
+
+    at : (k : ℕ) → k < length ag → (b : Bool) → ltb k (d .«source_count») ≡ b → getD (older d t n (older d t m ag)) k 0 ≡ getD (older d t (m + n) ag) k 0
+    at k h true e =
+        let z : k < length (older d t m ag) = omega (arith, each-length (d .«source_count») (risen d t m) ag) in
+        rw (each-at (d .«source_count») (risen d t n) (older d t m ag) k z, each-at (d .«source_count») (risen d t (m + n)) ag k h, each-at (d .«source_count») (risen d t m) ag k h, e) (sum (spacingOf d t (33 + k)) (getD ag k 0))
+    at k h false e =
+        let z : k < length (older d t m ag) = omega (arith, each-length (d .«source_count») (risen d t m) ag) in
+        rw (each-at (d .«source_count») (risen d t n) (older d t m ag) k z, each-at (d .«source_count») (risen d t (m + n)) ag k h, each-at (d .«source_count») (risen d t m) ag k h, e) refl
+
+pub older-none : (d : Description) (t : ℕ) (ag : List ℕ) → ((u : ℕ) → u < d .«source_count» → getD ag u 0 ≤ spacingOf d t (33 + u)) → older d t 0 ag ≡ ag
+older-none d t ag low = ext-getD 0 (older d t 0 ag) ag (each-length (d .«source_count») (risen d t 0) ag) (λ k h. let z : k < length ag = omega (arith, each-length (d .«source_count») (risen d t 0) ag) in each-at (d .«source_count») (risen d t 0) ag k z ∙ at k (ltb k (d .«source_count»)) refl)
+  where
+    at : (k : ℕ) (b : Bool) → ltb k (d .«source_count») ≡ b → cond (ltb k (d .«source_count»)) (min (spacingOf d t (33 + k)) (getD ag k 0 + 0)) (getD ag k 0) ≡ getD ag k 0
+    at k true e =
+        let h : getD ag k 0 ≤ spacingOf d t (33 + k) = low k (ltb-true k (d .«source_count») e) in
+        rw e (omega arith)
+    at k false e = rw e refl
+
 -- a source of spacing g, whose age becomes x
-pub age-turn : (d : Description) (t u g x : ℕ) (aw wa dr : List Bool) (us ag : List ℕ) → g ≡ spacingOf d t (33 + u) → x ≡ min g (getD ag u 0 + 1) → parts aw us wa dr (set ag u x) ≡ ageOne d t u (parts aw us wa dr ag)
-unfolding ageOne
-age-turn d t u g x aw wa dr us ag e f = rw (f, e) refl
+pub age-turn : (d : Description) (t late u g x : ℕ) (ag ag₀ : List ℕ) → g ≡ spacingOf d t (33 + u) → x ≡ min g (getD ag u 0 + late) → ag ≡ each u (risen d t late) ag₀ → set ag u x ≡ each (u + 1) (risen d t late) ag₀
+age-turn d t late u g x ag ag₀ e f q =
+    rw (f, e) (ap (λ k. set k u (min (spacingOf d t (33 + u)) (getD k u 0 + late))) q ∙ sym (each-more u (risen d t late) ag₀))
+
+-- the ages a tick later
+pub older-one : (d : Description) (t : ℕ) (aw wa dr : List Bool) (us ag : List ℕ) → parts aw us wa dr (older d t 1 ag) ≡ ageAll d t (parts aw us wa dr ag)
+unfolding each ageAll upTo ageOne
+older-one d t aw wa dr us ag = go (d .«source_count»)
+  where
+    go : (n : ℕ) → parts aw us wa dr (upTo n (λ u k. set k u (min (spacingOf d t (33 + u)) (getD k u 0 + 1))) ag) ≡ upTo n (ageOne d t) (parts aw us wa dr ag)
+    go zero = refl
+    go (suc n) = ap (ageOne d t n) (go n)
 
 -- a run that ends, one that does not, and none
 pub end-none : (d : Description) (h : ℕ) (finish : Bool) (m : Machine) → h ≡ 0 → m ≡ endRun d h finish m
@@ -100,7 +165,11 @@ end-off d h finish runs m q e = rw (rw q at e, and-off (not (eqb h 0))) refl
     and-off true = refl
     and-off false = refl
 
--- the four steps one after the other
-pub step-whole : (d : Description) (t : ℕ) (marks : List Bool) (finish : Bool) (h : ℕ) (m m₁ m₂ m₃ m₄ : Machine) → m₁ ≡ arrive d marks m → h ≡ highestIn (m₁ .awake) (d .«task_count») → m₂ ≡ runTask h m₁ → m₃ ≡ endRun d h finish m₂ → m₄ ≡ ageAll d t m₃ → m₄ ≡ stepped d t marks finish m
+-- the first three steps one after the other
+pub act-whole : (d : Description) (marks : List Bool) (finish : Bool) (h : ℕ) (m m₁ : Machine) → m₁ ≡ arrive d marks m → h ≡ highestIn (m₁ .awake) (d .«task_count») → endRun d h finish (runTask h m₁) ≡ acted d marks finish m
+act-whole d marks finish h m m₁ e q = rw (q, e) refl
+
+-- and the fourth
+pub step-whole : (d : Description) (t : ℕ) (marks : List Bool) (finish : Bool) (m : Machine) (aw wa dr : List Bool) (us ag : List ℕ) → parts aw us wa dr ag ≡ acted d marks finish m → parts aw us wa dr (older d t 1 ag) ≡ stepped d t marks finish m
 unfolding stepped
-step-whole d t marks finish h m m₁ m₂ m₃ m₄ e₁ q e₂ e₃ e₄ = rw (e₄, e₃, e₂, q, e₁) refl
+step-whole d t marks finish m aw wa dr us ag e = older-one d t aw wa dr us ag ∙ ap (ageAll d t) e

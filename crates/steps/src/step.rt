@@ -1,12 +1,11 @@
 // The steps of a tick, on tables of the description and on the parts of the machine's record, each lent by itself.
 
-use crate::plan::Plan;
 ghost use mathlib.Core.Path.{_≡_};
 ghost use mathlib.Core.Bool.{_||_};
 ghost use Prim.Native.Nat.{_+_, _≤_, _<_, min};
 ghost use lib.Dec.{eqb};
 ghost use Rattle.model.specs.Machine.{highestIn};
-ghost use Rattle.steps.specs.Parts.{Enters, Fires, Arrives, Runs, Clears, Ends, Ages, Sound, Countable, Steps, parts};
+ghost use Rattle.steps.specs.Parts.{Enters, Fires, Arrives, Runs, Clears, Ends, Serves, Acts, Ages, Sound, Countable, Steps, parts, plan};
 
 // The number of a task as a place in a table.
 pub fn number(x: u8) -> usize
@@ -133,7 +132,7 @@ fn ends(used: u32, run: u32, finish: bool) -> bool
     finish
 }
 
-// Step 3: a run that ends puts its task to sleep, clears the marks on links into it, and fires it.
+// Step 3: a run that ends puts its task to sleep, clears the marks on links into it, and fires it. The answer is whether it ends.
 pub fn end_run<'a>(
     from: &'a [u8; 256],
     to: &'a [u8; 256],
@@ -145,12 +144,12 @@ pub fn end_run<'a>(
     used: &mut [u32; 32],
     waiting: &mut [bool; 256],
     dropped: &mut [bool; 256],
-)
+) -> bool
     requires { ⌜ Enters (now to) links × (h ≤ 32) ⌝ }
-    ensures { λ _. ⌜ Ends (now (from .entry)) (now (to .entry)) links (now (runs .entry)) h finish (now (awake .entry)) (now (used .entry)) (now (waiting .entry)) (now (dropped .entry)) (now (awake .exit)) (now (used .exit)) (now (waiting .exit)) (now (dropped .exit)) ⌝ }
+    ensures { λ r. ⌜ Ends (now (from .entry)) (now (to .entry)) links (now (runs .entry)) h finish (now (awake .entry)) (now (used .entry)) (now (waiting .entry)) (now (dropped .entry)) (now (awake .exit)) (now (used .exit)) (now (waiting .exit)) (now (dropped .exit)) r ⌝ }
 {
     if h == 0 {
-        return;
+        return false;
     }
     if ends(used[h - 1], runs[h - 1], finish) {
         let x = node(h);
@@ -158,31 +157,135 @@ pub fn end_run<'a>(
         used[h - 1] = 0;
         clear_into(to, links, x, &mut *waiting);
         fire(from, to, links, x, awake, waiting, dropped);
+        return true;
+    }
+    false
+}
+
+// Steps 2 and 3 for h, the highest awake task, or 0: it runs, and its run ends if this tick ends it. The answer is the highest
+// awake task after them, which is looked up anew only where a run ends.
+pub fn serve<'a>(
+    from: &'a [u8; 256],
+    to: &'a [u8; 256],
+    links: usize,
+    tasks: usize,
+    runs: &'a [u32; 32],
+    h: usize,
+    finish: bool,
+    awake: &mut [bool; 32],
+    used: &mut [u32; 32],
+    waiting: &mut [bool; 256],
+    dropped: &mut [bool; 256],
+) -> usize
+    requires { ⌜ Enters (now to) links × (tasks ≤ 32) × Countable (now used) × (h ≡ highestIn (now awake) tasks) ⌝ }
+    ensures { λ r. ⌜ Serves (now (from .entry)) (now (to .entry)) links tasks (now (runs .entry)) h finish (now (awake .entry)) (now (used .entry)) (now (waiting .entry)) (now (dropped .entry)) (now (awake .exit)) (now (used .exit)) (now (waiting .exit)) (now (dropped .exit)) r ⌝ }
+{
+    run_task(h, &mut *used);
+    if end_run(
+        from,
+        to,
+        links,
+        runs,
+        h,
+        finish,
+        &mut *awake,
+        &mut *used,
+        &mut *waiting,
+        &mut *dropped,
+    ) {
+        return highest(awake, tasks);
+    }
+    h
+}
+
+// The first three steps of a tick. The answer is the highest awake task after them.
+pub fn act<'a>(
+    from: &'a [u8; 256],
+    to: &'a [u8; 256],
+    links: usize,
+    tasks: usize,
+    runs: &'a [u32; 32],
+    sources: usize,
+    marks: &[bool; 16],
+    finish: bool,
+    awake: &mut [bool; 32],
+    used: &mut [u32; 32],
+    waiting: &mut [bool; 256],
+    dropped: &mut [bool; 256],
+    ages: &mut [u32; 16],
+) -> usize
+    requires { ⌜ Enters (now to) links × (tasks ≤ 32) × (sources ≤ 16) × Countable (now used) ⌝ }
+    ensures { λ r. ⌜ Acts (now (from .entry)) (now (to .entry)) links tasks (now (runs .entry)) sources (now (marks .entry)) finish (parts (now (awake .entry)) (now (used .entry)) (now (waiting .entry)) (now (dropped .entry)) (now (ages .entry))) (parts (now (awake .exit)) (now (used .exit)) (now (waiting .exit)) (now (dropped .exit)) (now (ages .exit))) r ⌝ }
+{
+    arrive(
+        from,
+        to,
+        links,
+        marks,
+        sources,
+        &mut *awake,
+        &mut *waiting,
+        &mut *dropped,
+        ages,
+    );
+    let h = highest(awake, tasks);
+    serve(
+        from,
+        to,
+        links,
+        tasks,
+        runs,
+        h,
+        finish,
+        awake,
+        used,
+        waiting,
+        dropped,
+    )
+}
+
+// A number of ticks as a number of 64 bits.
+fn wide(x: u32) -> u64
+    ensures { λ r. ⌜ r ≡ x ⌝ }
+{
+    x as u64
+}
+
+// An age some ticks later: at most the spacing.
+fn aged(age: u32, gap: u32, late: u64) -> u32
+    ensures { λ r. ⌜ r ≡ min gap (age + late) ⌝ }
+{
+    if gap <= age {
+        return gap;
+    }
+    if late < wide(gap - age) {
+        age + late as u32
+    } else {
+        gap
     }
 }
 
-// An age one tick later: at most the spacing.
-fn aged(age: u32, gap: u32) -> u32
-    ensures { λ r. ⌜ r ≡ min gap (age + 1) ⌝ }
-{
-    if age < gap { age + 1 } else { gap }
-}
-
-// Step 4: ages rise by one, up to the spacing.
-pub fn age_all(gaps: &[u32; 16], sources: usize, ages: &mut [u32; 16])
+// Step 4, for some ticks at once: ages rise by their number, up to the spacing.
+pub fn age_all(gaps: &[u32; 16], sources: usize, late: u64, ages: &mut [u32; 16])
     requires { ⌜ sources ≤ 16 ⌝ }
-    ensures { λ _. ⌜ Ages (now (gaps .entry)) sources (now (ages .entry)) (now (ages .exit)) ⌝ }
+    ensures { λ _. ⌜ Ages (now (gaps .entry)) sources late (now (ages .entry)) (now (ages .exit)) ⌝ }
 {
     let mut u: usize = 0;
     while u < sources {
-        ages[u] = aged(ages[u], gaps[u]);
+        ages[u] = aged(ages[u], gaps[u], late);
         u += 1;
     }
 }
 
 // One tick: the four steps.
-pub fn step(
-    p: Plan,
+pub fn step<'a>(
+    from: &'a [u8; 256],
+    to: &'a [u8; 256],
+    links: usize,
+    tasks: usize,
+    runs: &'a [u32; 32],
+    sources: usize,
+    gaps: &'a [u32; 16],
     marks: &[bool; 16],
     finish: bool,
     awake: &mut [bool; 32],
@@ -191,36 +294,23 @@ pub fn step(
     dropped: &mut [bool; 256],
     ages: &mut [u32; 16],
 )
-    requires { ⌜ Sound p × Countable (now used) ⌝ }
-    ensures { λ _. ⌜ Steps p (now (marks .entry)) finish (parts (now (awake .entry)) (now (used .entry)) (now (waiting .entry)) (now (dropped .entry)) (now (ages .entry))) (parts (now (awake .exit)) (now (used .exit)) (now (waiting .exit)) (now (dropped .exit)) (now (ages .exit))) ⌝ }
+    requires { ⌜ Sound (plan links (now from) (now to) tasks (now runs) sources (now gaps)) × Countable (now used) ⌝ }
+    ensures { λ _. ⌜ Steps (plan links (now (from .entry)) (now (to .entry)) tasks (now (runs .entry)) sources (now (gaps .entry))) (now (marks .entry)) finish (parts (now (awake .entry)) (now (used .entry)) (now (waiting .entry)) (now (dropped .entry)) (now (ages .entry))) (parts (now (awake .exit)) (now (used .exit)) (now (waiting .exit)) (now (dropped .exit)) (now (ages .exit))) ⌝ }
 {
-    let links = p.links;
-    let tasks = p.tasks;
-    let sources = p.sources;
-    arrive(
-        &p.from,
-        &p.to,
+    act(
+        from,
+        to,
         links,
-        marks,
+        tasks,
+        runs,
         sources,
-        &mut *awake,
-        &mut *waiting,
-        &mut *dropped,
+        marks,
+        finish,
+        awake,
+        used,
+        waiting,
+        dropped,
         &mut *ages,
     );
-    let h = highest(awake, tasks);
-    run_task(h, &mut *used);
-    end_run(
-        &p.from,
-        &p.to,
-        links,
-        &p.runs,
-        h,
-        finish,
-        &mut *awake,
-        &mut *used,
-        &mut *waiting,
-        &mut *dropped,
-    );
-    age_all(&p.gaps, sources, &mut *ages);
+    age_all(gaps, sources, 1, ages);
 }

@@ -1,15 +1,16 @@
 -- A list of calls as a run goes through it: its masks, the record before each call and the codes of the answers. Assumes nothing.
-use Prim.Native.Nat.{ℕ, zero, suc, _+_, _-_, _/_, _^_, _≤_, _<_, min}
+use Prim.Native.Nat.{ℕ, zero, suc, _+_, _-_, _/_, _%_, _^_, _≤_, _<_, min}
 use mathlib.Core.Path.{_≡_, refl, sym, ap, subst, _∙_}
-use mathlib.Core.Bool.{Bool, true, false}
+use mathlib.Core.Bool.{Bool, true, false, _&&_}
 use mathlib.Core.List.{List, [], _∷_, _++_}
 use native.Mathlib.Omega.{arith}
-use native.Mathlib.Nat.{div-div-eq-div-mul, div-one, zero-div, pow-suc}
+use native.Mathlib.Nat.{div-div-eq-div-mul, div-eq-of-lt, div-one, zero-div, pow-suc, add-sub-of-le}
+use lib.Pow.{pow-add}
 use native.Mathlib.Numerals.{add-one}
 use lib.ListN.{length, getD, set, take, drop}
 use lib.Seq.{take-all}
 use lib.Dec.{leb}
-use borrow.Author.Tests.{lt-ltb, le-ltb, leb-true}
+use borrow.Author.Tests.{lt-ltb, le-ltb, le-leb, leb-true, eqb-false}
 use Rattle.model.specs.declared.Source.{Source}
 use Rattle.model.specs.declared.Source.the-variants.{Fixed, Paced}
 use Rattle.model.specs.declared.Field.the-variants.{OfSource}
@@ -25,12 +26,12 @@ use Rattle.model.specs.Field.{onScale}
 use Rattle.model.specs.Graph.{sourceAt}
 use Rattle.model.specs.File.{SourceFits, Widths, judge, filledBy}
 use Rattle.model.specs.Verdicts.{judgeAt, onKnob}
-use Rattle.model.specs.Basics.{upTo}
+use Rattle.model.specs.Basics.{upTo, anyN}
 use Rattle.model.specs.Delays.{spacingOf}
 use Rattle.model.specs.Machine.{idle, blankMachine, lawful, arriveOne, arrive, highestIn, runTask, endRun, strangers, tooSoon, plainTick}
 use Rattle.model.specs.History.{Call, answers, left, isDone}
-use Rattle.theory.proofs.Tests.{not-both, and-left, and-right, and-false-left}
-use Rattle.theory.proofs.Range.{any-none}
+use Rattle.theory.proofs.Tests.{not-both, true-of, and-left, and-right, and-false-left, and-false-right}
+use Rattle.theory.proofs.Range.{any-none, none-any}
 use Rattle.theory.proofs.Machine.{getD-same}
 use Rattle.theory.proofs.WellFormed.{WellFormed}
 use Rattle.theory.proofs.Table.{length-tab, getD-tab}
@@ -48,10 +49,47 @@ whole-mask mask = sym (div-one mask)
 pub halved : (mask u rest : ℕ) → rest ≡ mask / 2 ^ u → rest / 2 ≡ mask / 2 ^ (u + 1)
 halved mask u rest e = rw (e, add-one u, pow-suc 2 u) (div-div-eq-div-mul mask (2 ^ u) 2)
 
--- a mask of 0: no source arrives, none is a stranger or too soon, and the arrivals do nothing
-silent : (u : ℕ) → u < 16 → getD (marksIn 0) u false ≡ false
+-- a mask with nothing left above the first s bits has no bit there, and one with no bit there has nothing left
+pub none-above : (mask s k : ℕ) → mask / 2 ^ s ≡ 0 → s ≤ k → heard mask k ≡ false
+none-above mask s k e h =
+    let q : mask / 2 ^ k ≡ 0 = ap (λ n. mask / 2 ^ n) (sym (add-sub-of-le h)) ∙ rw pow-add (sym (div-div-eq-div-mul mask (2 ^ s) (2 ^ (k - s))) ∙ ap (λ x. x / 2 ^ (k - s)) e ∙ zero-div (2 ^ (k - s))) in
+    rw q refl
+
+nothing-above : (mask : ℕ) → mask < 2 ^ 16 → (j s : ℕ) → s + j ≡ 16 → ((k : ℕ) → s ≤ k → k < 16 → heard mask k ≡ false) → mask / 2 ^ s ≡ 0
+nothing-above mask w zero s e none = let q : 16 ≡ s = omega arith in div-eq-of-lt (subst (λ n. mask < 2 ^ n) q w)
+nothing-above mask w (suc j) s e none =
+    let rest : mask / 2 ^ (s + 1) ≡ 0 = nothing-above mask w j (s + 1) (omega arith) (λ k a b. none k (omega arith) b) in
+    let half : mask / 2 ^ s / 2 ≡ 0 = halved mask s (mask / 2 ^ s) refl ∙ rest in
+    let bit : mask / 2 ^ s % 2 ≡ 1 → ⊥ = eqb-false (mask / 2 ^ s % 2) 1 (none s (omega arith) (omega arith)) in
+    zero-of (mask / 2 ^ s) half bit
+  where
+    zero-of : (x : ℕ) → x / 2 ≡ 0 → (x % 2 ≡ 1 → ⊥) → x ≡ 0
+    zero-of x a b = omega arith
+
+-- strangers are the bits above the sources that exist
+mark-in : (mask k : ℕ) → k < 16 → getD (marksIn mask) k false ≡ heard mask k
 unfolding marksIn
-silent u h = getD-tab 16 (heard 0) false u h ∙ rw zero-div refl
+mark-in mask k h = getD-tab 16 (heard mask) false k h
+
+pub strangers-none : (d : Description) (mask s : ℕ) → d .«source_count» ≡ s → mask / 2 ^ s ≡ 0 → strangers d (marksIn mask) ≡ false
+unfolding strangers
+strangers-none d mask s q e = rw q (any-none (λ u. getD (marksIn mask) u false && leb s u) 0 16 (λ k a b. go k b (leb s k) refl))
+  where
+    go : (k : ℕ) → k < 16 → (b : Bool) → leb s k ≡ b → (getD (marksIn mask) k false && leb s k) ≡ false
+    go k h true f = and-false-left (getD (marksIn mask) k false) (leb s k) (mark-in mask k h ∙ none-above mask s k e (leb-true s k f))
+    go k h false f = and-false-right (getD (marksIn mask) k false) (leb s k) f
+
+pub strangers-some : (d : Description) (mask s : ℕ) → d .«source_count» ≡ s → s ≤ 16 → mask < 2 ^ 16 → (mask / 2 ^ s ≡ 0 → ⊥) → strangers d (marksIn mask) ≡ true
+unfolding strangers
+strangers-some d mask s q few w some = rw q (true-of (anyN (λ u. getD (marksIn mask) u false && leb s u) 0 16) (λ e. some (nothing-above mask w (16 - s) s (omega arith) (λ k a b. sym (mark-in mask k b) ∙ and-false-of (getD (marksIn mask) k false) (leb s k) (le-leb s k a) (none-any (λ u. getD (marksIn mask) u false && leb s u) 0 16 e k (omega arith) b)))))
+  where
+    and-false-of : (a b : Bool) → b ≡ true → (a && b) ≡ false → a ≡ false
+    and-false-of true b e f = sym e ∙ f
+    and-false-of false b e f = refl
+
+-- a mask of 0: no source arrives, none is too soon, and the arrivals do nothing
+silent : (u : ℕ) → u < 16 → getD (marksIn 0) u false ≡ false
+silent u h = mark-in 0 u h ∙ none-above 0 0 u (zero-div (2 ^ 0)) (omega arith)
 
 arrive-silent : (d : Description) (m : Machine) → d .«source_count» ≤ 16 → m ≡ arrive d (marksIn 0) m
 unfolding arrive upTo
@@ -61,10 +99,6 @@ arrive-silent d m h = go (d .«source_count») h
     go zero h = refl
     go (suc n) h = arrive-off d (marksIn 0) n m (silent n (omega arith)) ∙ ap (arriveOne d (marksIn 0) n) (go n (omega arith))
 
-strangers-silent : (d : Description) → strangers d (marksIn 0) ≡ false
-unfolding strangers
-strangers-silent d = any-none _ 0 16 (λ k a b. and-false-left (getD (marksIn 0) k false) _ (silent k (omega arith)))
-
 soon-silent : (d : Description) (t : ℕ) (m : Machine) → d .«source_count» ≤ 16 → tooSoon d t (marksIn 0) m ≡ false
 unfolding tooSoon
 soon-silent d t m h = any-none _ 0 (d .«source_count») (λ k a b. and-false-left (getD (marksIn 0) k false) _ (silent k (omega arith)))
@@ -73,7 +107,7 @@ soon-silent d t m h = any-none _ 0 (d .«source_count») (λ k a b. and-false-le
 pub quiet-done : (d : Description) (t : ℕ) (finish : Bool) (h late : ℕ) (aw aw′ wa wa′ dr dr′ : List Bool) (us us′ ag : List ℕ) → d .«source_count» ≤ 16 → judgeAt d t ≡ Done → lawful d t (parts aw us wa dr (older d t late ag)) ≡ true → h ≡ highestIn aw (d .«task_count») → parts aw′ us′ wa′ dr′ (older d t late ag) ≡ endRun d h finish (runTask h (parts aw us wa dr (older d t late ag))) → record { outcome = Done; machine = parts aw′ us′ wa′ dr′ (older d t (late + 1) ag) } ≡ plainTick d t (parts aw us wa dr (older d t late ag)) (record { marks = marksIn 0 }) finish
 quiet-done d t finish h late aw aw′ wa wa′ dr dr′ us us′ ag few e l q s =
     let m = parts aw us wa dr (older d t late ag) in
-    tick-done d t m (parts aw′ us′ wa′ dr′ (older d t (late + 1) ag)) (record { marks = marksIn 0 }) finish e l (strangers-silent d) (soon-silent d t m few)
+    tick-done d t m (parts aw′ us′ wa′ dr′ (older d t (late + 1) ag)) (record { marks = marksIn 0 }) finish e l (strangers-none d 0 (d .«source_count») refl (zero-div (2 ^ d .«source_count»))) (soon-silent d t m few)
     (ap (parts aw′ us′ wa′ dr′) (sym (older-more d t late 1 ag)) ∙ step-whole d t (marksIn 0) finish m aw′ wa′ dr′ us′ (older d t late ag) (s ∙ act-whole d (marksIn 0) finish h m m (arrive-silent d m few) q))
 
 -- ages that were late and are up to date

@@ -1,6 +1,5 @@
 // A run of many tick calls from the start: the description is judged and tabulated once, and the record is lent part by part.
 
-use crate::rules::strangers;
 use crate::rules::too_soon;
 use crate::tick::refused;
 use fields::half_at;
@@ -16,7 +15,7 @@ use steps::step::act;
 use steps::step::age_all;
 use steps::step::serve;
 ghost use mathlib.Core.Path.{_≡_};
-ghost use Prim.Native.Nat.{_+_, _<_, _^_};
+ghost use Prim.Native.Nat.{_+_, _≤_, _<_, _/_, _^_};
 ghost use Rattle.model.specs.declared.Outcome.the-variants.{Done};
 ghost use Rattle.model.specs.Machine.{blankMachine, highestIn};
 ghost use Rattle.model.specs.Verdicts.{judgeAt};
@@ -25,14 +24,24 @@ ghost use Rattle.steps.specs.Parts.{parts, plan, Sound, Countable, GapsOf};
 ghost use Rattle.machine.specs.Judged.{Planned};
 ghost use Rattle.machine.specs.Run.{marksIn, callsIn, Advances, RunIs, RunOf};
 
-// The marks of a mask: its lowest bit is source 33.
-fn marks_in(mask: u16) -> [bool; 16]
+// What is left of a mask above the sources that exist.
+fn above(mask: u16, sources: usize) -> usize
+    requires { ⌜ sources ≤ 16 ⌝ }
+    ensures { λ r. ⌜ r ≡ mask / 2 ^ sources ⌝ }
+{
+    let all = mask as usize;
+    all >> sources
+}
+
+// The marks of a mask, whose lowest bit is source 33, of sources that exist.
+fn marks_in(mask: u16, sources: usize) -> [bool; 16]
+    requires { ⌜ (sources ≤ 16) × (mask / 2 ^ sources ≡ 0) ⌝ }
     ensures { λ r. ⌜ r ≡ marksIn mask ⌝ }
 {
     let mut marks = [false; 16];
     let mut rest = mask;
     let mut u: usize = 0;
-    while u < 16 {
+    while u < sources {
         marks[u] = rest % 2 == 1;
         rest = rest / 2;
         u += 1;
@@ -100,12 +109,12 @@ pub fn advance<'a>(
         *late = behind + 1;
         return 0;
     }
-    let marks = marks_in(mask);
-    age_all(gaps, sources, behind, &mut *ages);
-    *late = 0;
-    if strangers(sources, &marks) {
+    if above(mask, sources) != 0 {
         return 15;
     }
+    let marks = marks_in(mask, sources);
+    age_all(gaps, sources, behind, &mut *ages);
+    *late = 0;
     if too_soon(gaps, sources, &marks, ages) {
         return 14;
     }

@@ -6,7 +6,7 @@ use mathlib.Core.List.{List}
 use mathlib.Core.Logic.{_⊎_, inl, inr, ⊎-elim}
 use native.Mathlib.Omega.{arith}
 use lib.ListN.{getD, set, length, length-set}
-use lib.Seq.{ext-getD, getD-set-same, getD-set-other}
+use lib.Seq.{ext-getD, getD-set-same, getD-set-other, set-getD}
 use lib.Dec.{eqb, ltb}
 use borrow.Author.Tests.{ltb-true, lt-ltb, le-ltb}
 use Rattle.model.specs.declared.Description.{Description}
@@ -74,14 +74,14 @@ pub run-on : (h : ℕ) (m : Machine) → eqb h 0 ≡ false → setUsed h (usedAt
 unfolding runTask
 run-on h m e = rw e refl
 
--- a link into h, and one into another task
-pub clear-on : (d : Description) (h l : ℕ) (m : Machine) → eqb (linkAt d l .to) h ≡ true → setWaiting l false m ≡ clearLink d h l m
+-- a link into task y, whose mark is x once those into h clear
+pub clear-turn : (d : Description) (h l y : ℕ) (x : Bool) (aw wa dr : List Bool) (us ag : List ℕ) → y ≡ linkAt d l .to → x ≡ cond (eqb y h) false (getD wa l false) → parts aw us (set wa l x) dr ag ≡ clearLink d h l (parts aw us wa dr ag)
 unfolding clearLink
-clear-on d h l m e = rw e refl
-
-pub clear-off : (d : Description) (h l : ℕ) (m : Machine) → eqb (linkAt d l .to) h ≡ false → m ≡ clearLink d h l m
-unfolding clearLink
-clear-off d h l m e = rw e refl
+clear-turn d h l y x aw wa dr us ag e f = rw (f, e) (go (eqb (linkAt d l .to) h) refl)
+  where
+    go : (b : Bool) → eqb (linkAt d l .to) h ≡ b → parts aw us (set wa l (cond (eqb (linkAt d l .to) h) false (getD wa l false))) dr ag ≡ clearLink d h l (parts aw us wa dr ag)
+    go true q = rw (q, clearLink) refl
+    go false q = rw (q, clearLink) (ap (λ w. parts aw us w dr ag) (set-getD wa l false))
 
 -- one number more of a list changed
 pub each-more : (n : ℕ) (f : ℕ → ℕ → ℕ) (l : List ℕ) → each (n + 1) f l ≡ set (each n f l) n (f n (getD (each n f l) n 0))

@@ -1,7 +1,7 @@
 // The steps of a tick, on tables of the description and on the parts of the machine's record, each lent by itself.
 
 ghost use mathlib.Core.Path.{_≡_};
-ghost use mathlib.Core.Bool.{_||_};
+ghost use mathlib.Core.Bool.{false, _||_, cond};
 ghost use Prim.Native.Nat.{_+_, _≤_, _<_, min};
 ghost use lib.Dec.{eqb};
 ghost use Rattle.model.specs.Machine.{highestIn};
@@ -108,6 +108,16 @@ pub fn run_task(h: usize, used: &mut [u32; 32])
     used[h - 1] = more;
 }
 
+// The waiting mark of a link into a task once those into h clear.
+fn kept(waiting: bool, to: u8, h: u8) -> bool
+    ensures { λ r. ⌜ r ≡ cond (eqb to h) false waiting ⌝ }
+{
+    if to == h {
+        return false;
+    }
+    waiting
+}
+
 // The waiting marks on links into task h clear.
 pub fn clear_into(to: &[u8; 256], links: usize, h: u8, waiting: &mut [bool; 256])
     requires { ⌜ links ≤ 256 ⌝ }
@@ -115,9 +125,7 @@ pub fn clear_into(to: &[u8; 256], links: usize, h: u8, waiting: &mut [bool; 256]
 {
     let mut l: usize = 0;
     while l < links {
-        if to[l] == h {
-            waiting[l] = false;
-        }
+        waiting[l] = kept(waiting[l], to[l], h);
         l += 1;
     }
 }

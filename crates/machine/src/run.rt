@@ -72,6 +72,8 @@ fn blank() -> Machine
 pub fn advance<'a>(
     from: &'a [u8; 256],
     to: &'a [u8; 256],
+    first: &'a [u16; 256],
+    last: &'a [u16; 256],
     links: usize,
     tasks: usize,
     runs: &'a [u32; 32],
@@ -87,8 +89,8 @@ pub fn advance<'a>(
     late: &mut u64,
     top: &mut usize,
 ) -> u8
-    requires { ⌜ Sound (plan links (now from) (now to) tasks (now runs) sources (now gaps)) × Countable (now used) × (now late + 1 < 2 ^ 64) × (now top ≡ highestIn (now awake) tasks) ⌝ }
-    ensures { λ r. ⌜ Advances (plan links (now (from .entry)) (now (to .entry)) tasks (now (runs .entry)) sources (now (gaps .entry))) mask finish (parts (now (awake .entry)) (now (used .entry)) (now (waiting .entry)) (now (dropped .entry)) (now (ages .entry))) (now (late .entry)) (parts (now (awake .exit)) (now (used .exit)) (now (waiting .exit)) (now (dropped .exit)) (now (ages .exit))) (now (late .exit)) (now (top .exit)) r ⌝ }
+    requires { ⌜ Sound (plan links (now from) (now to) (now first) (now last) tasks (now runs) sources (now gaps)) × Countable (now used) × (now late + 1 < 2 ^ 64) × (now top ≡ highestIn (now awake) tasks) ⌝ }
+    ensures { λ r. ⌜ Advances (plan links (now (from .entry)) (now (to .entry)) (now (first .entry)) (now (last .entry)) tasks (now (runs .entry)) sources (now (gaps .entry))) mask finish (parts (now (awake .entry)) (now (used .entry)) (now (waiting .entry)) (now (dropped .entry)) (now (ages .entry))) (now (late .entry)) (parts (now (awake .exit)) (now (used .exit)) (now (waiting .exit)) (now (dropped .exit)) (now (ages .exit))) (now (late .exit)) (now (top .exit)) r ⌝ }
 {
     let h = *top;
     let behind = *late;
@@ -96,6 +98,8 @@ pub fn advance<'a>(
         *top = serve(
             from,
             to,
+            first,
+            last,
             links,
             tasks,
             runs,
@@ -121,6 +125,8 @@ pub fn advance<'a>(
     *top = act(
         from,
         to,
+        first,
+        last,
         links,
         tasks,
         runs,
@@ -166,6 +172,8 @@ pub fn run_planned(p: Plan, calls: &[u8], outcomes: &mut [u8]) -> Ticked
         outcomes[i] = advance(
             &p.from,
             &p.to,
+            &p.first,
+            &p.last,
             links,
             tasks,
             &p.runs,

@@ -31,6 +31,8 @@ pub fn stepped(p: Plan, marks: &[bool; 16], finish: bool, m: Machine) -> Machine
     step(
         &p.from,
         &p.to,
+        &p.first,
+        &p.last,
         links,
         tasks,
         &p.runs,

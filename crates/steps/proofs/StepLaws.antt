@@ -1,6 +1,6 @@
 -- One turn of each step's loop, on the parts of the record. Assumes nothing.
 use Prim.Native.Nat.{ℕ, zero, suc, _+_, _-_, _≤_, _<_, min}
-use mathlib.Core.Path.{_≡_, refl, sym, ap, _∙_}
+use mathlib.Core.Path.{_≡_, refl, sym, ap, subst, subst⁻¹, _∙_}
 use mathlib.Core.Bool.{Bool, true, false, _||_, _&&_, not, cond}
 use mathlib.Core.List.{List}
 use mathlib.Core.Logic.{_⊎_, inl, inr, ⊎-elim}
@@ -8,7 +8,7 @@ use native.Mathlib.Omega.{arith}
 use lib.ListN.{getD, set, length, length-set}
 use lib.Seq.{ext-getD, getD-set-same, getD-set-other, set-getD}
 use lib.Dec.{eqb, ltb}
-use borrow.Author.Tests.{ltb-true, lt-ltb, le-ltb}
+use borrow.Author.Tests.{ltb-true, lt-ltb, le-ltb, ne-eqb, eqb-false}
 use Rattle.model.specs.declared.Description.{Description}
 use Rattle.model.specs.declared.Machine.{Machine}
 use Rattle.model.specs.Basics.{upTo}
@@ -17,16 +17,39 @@ use Rattle.model.specs.Delays.{spacingOf}
 use Rattle.model.specs.Machine.{arrive, ageAll, endRun, stepped, clearInto, setAwake, fireLink, fire, arriveOne, highestIn, runTask, setUsed, usedAt, setWaiting, setAge, clearLink, ageOne}
 use Rattle.theory.proofs.Tests.{Cmp, less, same, more, cmp}
 use Rattle.theory.proofs.Range.{upTo-more}
-use Rattle.steps.specs.Parts.{parts, acted, each, risen, older}
+use Rattle.theory.proofs.Firing.{getD-set}
+use Rattle.steps.specs.Parts.{parts, PlacesOf, acted, each, risen, older}
 
 -- by cases, the sum first
 pub cases : {A B C : Type 0} → A ⊎ B → (A → C) → (B → C) → C
 cases s f g = ⊎-elim f g s
 
+-- steps that change nothing, before a place and from a place on
+upTo-idle : {A : Type 0} (n : ℕ) (step : ℕ → A → A) (a : A) → ((k : ℕ) → k < n → (x : A) → x ≡ step k x) → a ≡ upTo n step a
+unfolding upTo
+upTo-idle zero step a h = refl
+upTo-idle (suc n) step a h = upTo-idle n step a (λ k b. h k (omega arith)) ∙ h n (omega arith) (upTo n step a)
+
+upTo-rest : {A : Type 0} (l j : ℕ) (step : ℕ → A → A) (a : A) → ((k : ℕ) → l ≤ k → k < l + j → (x : A) → x ≡ step k x) → upTo l step a ≡ upTo (l + j) step a
+unfolding upTo
+upTo-rest l zero step a h = let e : l ≡ l + 0 = omega arith in ap (λ n. upTo n step a) e
+upTo-rest l (suc j) step a h =
+    let e : suc (l + j) ≡ l + suc j = omega arith in
+    upTo-rest l j step a (λ k a b. h k a (omega arith)) ∙ h (l + j) (omega arith) (omega arith) (upTo (l + j) step a) ∙ ap (λ n. upTo n step a) e
+
 -- a link out of another node
 pub fire-off : (d : Description) (x l : ℕ) (m : Machine) → eqb (linkAt d l .from) x ≡ false → m ≡ fireLink d x l m
 unfolding fireLink
 fire-off d x l m e = rw e refl
+
+-- the links before a node's first place, and those from its last on
+pub fire-before : (d : Description) (x n a : ℕ) (from to first last : List ℕ) (m : Machine) → PlacesOf d from to first last n → a ≡ getD first x 0 → m ≡ upTo a (fireLink d x) m
+fire-before d x n a from to first last m r q = upTo-idle a (fireLink d x) m (λ k h y. let z : k < n = omega (arith, r .after .0 x, q) in fire-off d x k y (ne-eqb (linkAt d k .from) x (λ e. let w : getD first x 0 ≤ k = subst (λ v. getD first v 0 ≤ k) (r .linked .leaves k z ∙ e) (r .after .1 k z) in omega arith)))
+
+pub fire-after : (d : Description) (x n b l : ℕ) (from to first last : List ℕ) (m : Machine) → PlacesOf d from to first last n → b ≡ getD last x 0 → b ≤ l → l ≤ n → upTo l (fireLink d x) m ≡ upTo n (fireLink d x) m
+fire-after d x n b l from to first last m r q g h =
+    let e : l + (n - l) ≡ n = omega arith in
+    upTo-rest l (n - l) (fireLink d x) m (λ k a z y. let v : k < n = omega arith in fire-off d x k y (ne-eqb (linkAt d k .from) x (λ e. let w : k < getD last x 0 = subst (λ v. k < getD last v 0) (r .linked .leaves k v ∙ e) (r .until .1 k v) in omega arith))) ∙ ap (λ k. upTo k (fireLink d x) m) e
 
 -- a link out of x: y is its task
 pub fire-on : (d : Description) (x l y : ℕ) (aw aw′ wa wa′ dr dr′ : List Bool) (us ag : List ℕ) → eqb (linkAt d l .from) x ≡ true → y ≡ linkAt d l .to → aw′ ≡ set aw (y - 1) true → wa′ ≡ set wa l true → ((getD wa l false ≡ true) × (dr′ ≡ set dr l true)) ⊎ ((getD wa l false ≡ false) × (dr′ ≡ dr)) → parts aw′ us wa′ dr′ ag ≡ fireLink d x l (parts aw us wa dr ag)
@@ -82,6 +105,34 @@ clear-turn d h l y x aw wa dr us ag e f = rw (f, e) (go (eqb (linkAt d l .to) h)
     go : (b : Bool) → eqb (linkAt d l .to) h ≡ b → parts aw us (set wa l (cond (eqb (linkAt d l .to) h) false (getD wa l false))) dr ag ≡ clearLink d h l (parts aw us wa dr ag)
     go true q = rw (q, clearLink) refl
     go false q = rw (q, clearLink) (ap (λ w. parts aw us w dr ag) (set-getD wa l false))
+
+-- a place stored in a table
+pub set-below : (l : List ℕ) (i v b : ℕ) → i < length l → v ≤ b → ((x : ℕ) → getD l x 0 ≤ b) → (x : ℕ) → getD (set l i v) x 0 ≤ b
+set-below l i v b h low all x = subst⁻¹ (λ y. y ≤ b) (getD-set l i v 0 x h) (go (eqb x i))
+  where
+    go : (t : Bool) → cond t v (getD l x 0) ≤ b
+    go true = low
+    go false = all x
+
+pub first-turn : (from first : List ℕ) (i v l n : ℕ) → i < length first → v ≡ l → i ≡ getD from l 0 → ((k : ℕ) → l < k → k < n → getD first (getD from k 0) 0 ≤ k) → (k : ℕ) → l ≤ k → k < n → getD (set first i v) (getD from k 0) 0 ≤ k
+first-turn from first i v l n h p q all k a b = subst⁻¹ (λ y. y ≤ k) (getD-set first i v 0 (getD from k 0) h) (go (eqb (getD from k 0) i) refl)
+  where
+    go : (t : Bool) → eqb (getD from k 0) i ≡ t → cond t v (getD first (getD from k 0) 0) ≤ k
+    go true e = omega arith
+    go false e = all k (lt-of-ne (λ z. eqb-false (getD from k 0) i e (ap (λ y. getD from y 0) z ∙ sym q))) b
+      where
+        lt-of-ne : (k ≡ l → ⊥) → l < k
+        lt-of-ne z = omega arith
+
+pub last-turn : (from last : List ℕ) (i v l : ℕ) → i < length last → v ≡ l + 1 → i ≡ getD from l 0 → ((k : ℕ) → k < l → k < getD last (getD from k 0) 0) → (k : ℕ) → k < l + 1 → k < getD (set last i v) (getD from k 0) 0
+last-turn from last i v l h p q all k a = subst⁻¹ (λ y. k < y) (getD-set last i v 0 (getD from k 0) h) (go (eqb (getD from k 0) i) refl)
+  where
+    go : (t : Bool) → eqb (getD from k 0) i ≡ t → k < cond t v (getD last (getD from k 0) 0)
+    go true e = omega arith
+    go false e = all k (lt-of-ne (λ z. eqb-false (getD from k 0) i e (ap (λ y. getD from y 0) z ∙ sym q)))
+      where
+        lt-of-ne : (k ≡ l → ⊥) → k < l
+        lt-of-ne z = omega arith
 
 -- one number more of a list changed
 pub each-more : (n : ℕ) (f : ℕ → ℕ → ℕ) (l : List ℕ) → each (n + 1) f l ≡ set (each n f l) n (f n (getD (each n f l) n 0))
@@ -153,7 +204,7 @@ pub end-none : (d : Description) (h : ℕ) (finish : Bool) (m : Machine) → h �
 unfolding endRun
 end-none d h finish m e = rw e refl
 
-pub end-whole : (d : Description) (h : ℕ) (finish : Bool) (runs : List ℕ) (x : ℕ) (m m₁ m₂ : Machine) → runs ≡ d .runs → eqb h 0 ≡ false → (eqb (usedAt m h) (getD runs (h - 1) 0) || finish) ≡ true → x ≡ h → m₁ ≡ clearInto d x (setUsed h 0 (setAwake h false m)) → m₂ ≡ fire d x m₁ → m₂ ≡ endRun d h finish m
+pub end-whole : (d : Description) (h : ℕ) (finish : Bool) (runs : List ℕ) (x : ℕ) (m m₁ m₂ : Machine) → runs ≡ d .runs → eqb h 0 ≡ false → (eqb (usedAt m h) (getD runs (h - 1) 0) || finish) ≡ true → x ≡ h → m₁ ≡ clearInto d x (setUsed h 0 (setAwake h false m)) → m₂ ≡ fire d h m₁ → m₂ ≡ endRun d h finish m
 unfolding endRun
 end-whole d h finish runs x m m₁ m₂ q z e p k f = rw (f, k, p, z, rw q at e) refl
 

@@ -3,9 +3,10 @@
 ghost use mathlib.Core.Path.{_≡_};
 ghost use mathlib.Core.Bool.{false, _||_, cond};
 ghost use Prim.Native.Nat.{_+_, _≤_, _<_, min};
+ghost use lib.ListN.{getD};
 ghost use lib.Dec.{eqb};
 ghost use Rattle.model.specs.Machine.{highestIn};
-ghost use Rattle.steps.specs.Parts.{Enters, Fires, Arrives, Runs, Clears, Ends, Serves, Acts, Ages, Sound, Countable, Steps, parts, plan};
+ghost use Rattle.steps.specs.Parts.{Enters, Bounded, Fires, Arrives, Runs, Clears, Ends, Serves, Acts, Ages, Sound, Countable, Steps, parts, plan};
 
 // The number of a task as a place in a table.
 pub fn number(x: u8) -> usize
@@ -22,22 +23,33 @@ fn node(x: usize) -> u8
     x as u8
 }
 
-// Node x fires: each link out of it that waits is dropped, waits anew and wakes its task.
-pub fn fire(
-    from: &[u8; 256],
-    to: &[u8; 256],
-    links: usize,
-    x: u8,
+// A place that a table holds.
+fn place(x: u16) -> usize
+    ensures { λ r. ⌜ r ≡ x ⌝ }
+{
+    x as usize
+}
+
+// Node x fires: each link out of it that waits is dropped, waits anew and wakes its task. The links out of x lie from its first
+// place up to its last.
+pub fn fire<'a>(
+    from: &'a [u8; 256],
+    to: &'a [u8; 256],
+    first: &'a [u16; 256],
+    last: &'a [u16; 256],
+    x: usize,
     awake: &mut [bool; 32],
     waiting: &mut [bool; 256],
     dropped: &mut [bool; 256],
 )
-    requires { ⌜ Enters (now to) links ⌝ }
-    ensures { λ _. ⌜ Fires (now (from .entry)) (now (to .entry)) links x (now (awake .entry)) (now (waiting .entry)) (now (dropped .entry)) (now (awake .exit)) (now (waiting .exit)) (now (dropped .exit)) ⌝ }
+    requires { ⌜ Enters (now to) (getD (now last) x 0) × (x < 256) ⌝ }
+    ensures { λ _. ⌜ Fires (now (from .entry)) (now (to .entry)) (now (first .entry)) (now (last .entry)) x (now (awake .entry)) (now (waiting .entry)) (now (dropped .entry)) (now (awake .exit)) (now (waiting .exit)) (now (dropped .exit)) ⌝ }
 {
-    let mut l: usize = 0;
-    while l < links {
-        if from[l] == x {
+    let y = node(x);
+    let end = place(last[x]);
+    let mut l = place(first[x]);
+    while l < end {
+        if from[l] == y {
             if waiting[l] {
                 dropped[l] = true;
             }
@@ -52,7 +64,8 @@ pub fn fire(
 pub fn arrive<'a>(
     from: &'a [u8; 256],
     to: &'a [u8; 256],
-    links: usize,
+    first: &'a [u16; 256],
+    last: &'a [u16; 256],
     marks: &[bool; 16],
     sources: usize,
     awake: &mut [bool; 32],
@@ -60,8 +73,8 @@ pub fn arrive<'a>(
     dropped: &mut [bool; 256],
     ages: &mut [u32; 16],
 )
-    requires { ⌜ Enters (now to) links × (sources ≤ 16) ⌝ }
-    ensures { λ _. ⌜ Arrives (now (from .entry)) (now (to .entry)) links (now (marks .entry)) sources (now (awake .entry)) (now (waiting .entry)) (now (dropped .entry)) (now (ages .entry)) (now (awake .exit)) (now (waiting .exit)) (now (dropped .exit)) (now (ages .exit)) ⌝ }
+    requires { ⌜ Bounded (now to) (now last) × (sources ≤ 16) ⌝ }
+    ensures { λ _. ⌜ Arrives (now (from .entry)) (now (to .entry)) (now (first .entry)) (now (last .entry)) (now (marks .entry)) sources (now (awake .entry)) (now (waiting .entry)) (now (dropped .entry)) (now (ages .entry)) (now (awake .exit)) (now (waiting .exit)) (now (dropped .exit)) (now (ages .exit)) ⌝ }
 {
     let mut u: usize = 0;
     while u < sources {
@@ -69,8 +82,9 @@ pub fn arrive<'a>(
             fire(
                 from,
                 to,
-                links,
-                node(33 + u),
+                first,
+                last,
+                33 + u,
                 &mut *awake,
                 &mut *waiting,
                 &mut *dropped,
@@ -144,6 +158,8 @@ fn ends(used: u32, run: u32, finish: bool) -> bool
 pub fn end_run<'a>(
     from: &'a [u8; 256],
     to: &'a [u8; 256],
+    first: &'a [u16; 256],
+    last: &'a [u16; 256],
     links: usize,
     runs: &'a [u32; 32],
     h: usize,
@@ -153,18 +169,17 @@ pub fn end_run<'a>(
     waiting: &mut [bool; 256],
     dropped: &mut [bool; 256],
 ) -> bool
-    requires { ⌜ Enters (now to) links × (h ≤ 32) ⌝ }
-    ensures { λ r. ⌜ Ends (now (from .entry)) (now (to .entry)) links (now (runs .entry)) h finish (now (awake .entry)) (now (used .entry)) (now (waiting .entry)) (now (dropped .entry)) (now (awake .exit)) (now (used .exit)) (now (waiting .exit)) (now (dropped .exit)) r ⌝ }
+    requires { ⌜ Bounded (now to) (now last) × (links ≤ 256) × (h ≤ 32) ⌝ }
+    ensures { λ r. ⌜ Ends (now (from .entry)) (now (to .entry)) (now (first .entry)) (now (last .entry)) links (now (runs .entry)) h finish (now (awake .entry)) (now (used .entry)) (now (waiting .entry)) (now (dropped .entry)) (now (awake .exit)) (now (used .exit)) (now (waiting .exit)) (now (dropped .exit)) r ⌝ }
 {
     if h == 0 {
         return false;
     }
     if ends(used[h - 1], runs[h - 1], finish) {
-        let x = node(h);
         awake[h - 1] = false;
         used[h - 1] = 0;
-        clear_into(to, links, x, &mut *waiting);
-        fire(from, to, links, x, awake, waiting, dropped);
+        clear_into(to, links, node(h), &mut *waiting);
+        fire(from, to, first, last, h, awake, waiting, dropped);
         return true;
     }
     false
@@ -175,6 +190,8 @@ pub fn end_run<'a>(
 pub fn serve<'a>(
     from: &'a [u8; 256],
     to: &'a [u8; 256],
+    first: &'a [u16; 256],
+    last: &'a [u16; 256],
     links: usize,
     tasks: usize,
     runs: &'a [u32; 32],
@@ -185,13 +202,15 @@ pub fn serve<'a>(
     waiting: &mut [bool; 256],
     dropped: &mut [bool; 256],
 ) -> usize
-    requires { ⌜ Enters (now to) links × (tasks ≤ 32) × Countable (now used) × (h ≡ highestIn (now awake) tasks) ⌝ }
-    ensures { λ r. ⌜ Serves (now (from .entry)) (now (to .entry)) links tasks (now (runs .entry)) h finish (now (awake .entry)) (now (used .entry)) (now (waiting .entry)) (now (dropped .entry)) (now (awake .exit)) (now (used .exit)) (now (waiting .exit)) (now (dropped .exit)) r ⌝ }
+    requires { ⌜ Bounded (now to) (now last) × (links ≤ 256) × (tasks ≤ 32) × Countable (now used) × (h ≡ highestIn (now awake) tasks) ⌝ }
+    ensures { λ r. ⌜ Serves (now (from .entry)) (now (to .entry)) (now (first .entry)) (now (last .entry)) links tasks (now (runs .entry)) h finish (now (awake .entry)) (now (used .entry)) (now (waiting .entry)) (now (dropped .entry)) (now (awake .exit)) (now (used .exit)) (now (waiting .exit)) (now (dropped .exit)) r ⌝ }
 {
     run_task(h, &mut *used);
     if end_run(
         from,
         to,
+        first,
+        last,
         links,
         runs,
         h,
@@ -210,6 +229,8 @@ pub fn serve<'a>(
 pub fn act<'a>(
     from: &'a [u8; 256],
     to: &'a [u8; 256],
+    first: &'a [u16; 256],
+    last: &'a [u16; 256],
     links: usize,
     tasks: usize,
     runs: &'a [u32; 32],
@@ -222,13 +243,14 @@ pub fn act<'a>(
     dropped: &mut [bool; 256],
     ages: &mut [u32; 16],
 ) -> usize
-    requires { ⌜ Enters (now to) links × (tasks ≤ 32) × (sources ≤ 16) × Countable (now used) ⌝ }
-    ensures { λ r. ⌜ Acts (now (from .entry)) (now (to .entry)) links tasks (now (runs .entry)) sources (now (marks .entry)) finish (parts (now (awake .entry)) (now (used .entry)) (now (waiting .entry)) (now (dropped .entry)) (now (ages .entry))) (parts (now (awake .exit)) (now (used .exit)) (now (waiting .exit)) (now (dropped .exit)) (now (ages .exit))) r ⌝ }
+    requires { ⌜ Bounded (now to) (now last) × (links ≤ 256) × (tasks ≤ 32) × (sources ≤ 16) × Countable (now used) ⌝ }
+    ensures { λ r. ⌜ Acts (now (from .entry)) (now (to .entry)) (now (first .entry)) (now (last .entry)) links tasks (now (runs .entry)) sources (now (marks .entry)) finish (parts (now (awake .entry)) (now (used .entry)) (now (waiting .entry)) (now (dropped .entry)) (now (ages .entry))) (parts (now (awake .exit)) (now (used .exit)) (now (waiting .exit)) (now (dropped .exit)) (now (ages .exit))) r ⌝ }
 {
     arrive(
         from,
         to,
-        links,
+        first,
+        last,
         marks,
         sources,
         &mut *awake,
@@ -240,6 +262,8 @@ pub fn act<'a>(
     serve(
         from,
         to,
+        first,
+        last,
         links,
         tasks,
         runs,
@@ -289,6 +313,8 @@ pub fn age_all(gaps: &[u32; 16], sources: usize, late: u64, ages: &mut [u32; 16]
 pub fn step<'a>(
     from: &'a [u8; 256],
     to: &'a [u8; 256],
+    first: &'a [u16; 256],
+    last: &'a [u16; 256],
     links: usize,
     tasks: usize,
     runs: &'a [u32; 32],
@@ -302,12 +328,14 @@ pub fn step<'a>(
     dropped: &mut [bool; 256],
     ages: &mut [u32; 16],
 )
-    requires { ⌜ Sound (plan links (now from) (now to) tasks (now runs) sources (now gaps)) × Countable (now used) ⌝ }
-    ensures { λ _. ⌜ Steps (plan links (now (from .entry)) (now (to .entry)) tasks (now (runs .entry)) sources (now (gaps .entry))) (now (marks .entry)) finish (parts (now (awake .entry)) (now (used .entry)) (now (waiting .entry)) (now (dropped .entry)) (now (ages .entry))) (parts (now (awake .exit)) (now (used .exit)) (now (waiting .exit)) (now (dropped .exit)) (now (ages .exit))) ⌝ }
+    requires { ⌜ Sound (plan links (now from) (now to) (now first) (now last) tasks (now runs) sources (now gaps)) × Countable (now used) ⌝ }
+    ensures { λ _. ⌜ Steps (plan links (now (from .entry)) (now (to .entry)) (now (first .entry)) (now (last .entry)) tasks (now (runs .entry)) sources (now (gaps .entry))) (now (marks .entry)) finish (parts (now (awake .entry)) (now (used .entry)) (now (waiting .entry)) (now (dropped .entry)) (now (ages .entry))) (parts (now (awake .exit)) (now (used .exit)) (now (waiting .exit)) (now (dropped .exit)) (now (ages .exit))) ⌝ }
 {
     act(
         from,
         to,
+        first,
+        last,
         links,
         tasks,
         runs,

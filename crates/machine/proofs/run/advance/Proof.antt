@@ -29,7 +29,7 @@ returns c =
     record {
       advanced = λ d t r e l.
           let m = parts (A .awake .now) (A .used .now) (A .waiting .now) (A .dropped .now) (older d t (A .late .now) (A .ages .now)) in
-          answer-coded d t (A .mask) (A .finish) (marksIn 0) m (record { outcome = Done; machine = parts (v .last .1 .1 .1 .1 .1 .1 .1 .0) (v .last .1 .1 .1 .1 .1 .1 .1 .1 .0) (v .last .1 .1 .1 .1 .1 .1 .1 .1 .1 .0) (v .last .1 .1 .1 .1 .1 .1 .1 .1 .1 .1 .0) (older d t (A .late .now + 1) (A .ages .now)) }) (ap marksIn (sym (c .before .before .before .before .before .if1 .taken))) (quiet-done d t (A .finish) (A .top .now) (A .late .now) (A .awake .now) (v .last .1 .1 .1 .1 .1 .1 .1 .0) (A .waiting .now) (v .last .1 .1 .1 .1 .1 .1 .1 .1 .1 .0) (A .dropped .now) (v .last .1 .1 .1 .1 .1 .1 .1 .1 .1 .1 .0) (A .used .now) (v .last .1 .1 .1 .1 .1 .1 .1 .1 .0) (A .ages .now) (omega (arith, r .as-wide, S .pre .0 .few-sources)) e l (S .pre .3 ∙ ap (highestIn (A .awake .now)) (sym (r .as-many))) (v .ensures .0 d (older d t (A .late .now) (A .ages .now)) (r .linked) (r .same-runs)));
+          answer-coded d t (A .mask) (A .finish) (marksIn 0) m (record { outcome = Done; machine = parts (v .last .1 .1 .1 .1 .1 .1 .1 .1 .1 .0) (v .last .1 .1 .1 .1 .1 .1 .1 .1 .1 .1 .0) (v .last .1 .1 .1 .1 .1 .1 .1 .1 .1 .1 .1 .0) (v .last .1 .1 .1 .1 .1 .1 .1 .1 .1 .1 .1 .1 .0) (older d t (A .late .now + 1) (A .ages .now)) }) (ap marksIn (sym (c .before .before .before .before .before .if1 .taken))) (quiet-done d t (A .finish) (A .top .now) (A .late .now) (A .awake .now) (v .last .1 .1 .1 .1 .1 .1 .1 .1 .1 .0) (A .waiting .now) (v .last .1 .1 .1 .1 .1 .1 .1 .1 .1 .1 .1 .0) (A .dropped .now) (v .last .1 .1 .1 .1 .1 .1 .1 .1 .1 .1 .1 .1 .0) (A .used .now) (v .last .1 .1 .1 .1 .1 .1 .1 .1 .1 .1 .0) (A .ages .now) (omega (arith, r .as-wide, S .pre .0 .few-sources)) e l (S .pre .3 ∙ ap (highestIn (A .awake .now)) (sym (r .as-many))) (v .ensures .0 d (older d t (A .late .now) (A .ages .now)) (r .placed) (r .same-runs)));
       little = search needs;
       highest = v .ensures .1;
     }
@@ -86,7 +86,7 @@ returns-4 c =
       advanced = λ d t r e l.
           let m = parts (A .awake .now) (A .used .now) (A .waiting .now) (A .dropped .now) (older d t (A .late .now) (A .ages .now)) in
           let E = c .before .before .before .before .before .before .before .before .before .before .before .age-all .ensures d t (r .as-wide) (r .spaced) in
-          answer-coded d t (A .mask) (A .finish) marks m (record { outcome = Done; machine = parts (v .last .1 .1 .1 .1 .1 .1 .1 .1 .0) (v .last .1 .1 .1 .1 .1 .1 .1 .1 .1 .0) (v .last .1 .1 .1 .1 .1 .1 .1 .1 .1 .1 .0) (v .last .1 .1 .1 .1 .1 .1 .1 .1 .1 .1 .1 .0) (older d t 1 (v .last .1 .1 .1 .1 .1 .1 .1 .1 .1 .1 .1 .1 .0)) }) (c .before .before .before .before .before .before .before .before .before .before .before .before .before .marks-in .ensures) (tick-done d t m (parts (v .last .1 .1 .1 .1 .1 .1 .1 .1 .0) (v .last .1 .1 .1 .1 .1 .1 .1 .1 .1 .0) (v .last .1 .1 .1 .1 .1 .1 .1 .1 .1 .1 .0) (v .last .1 .1 .1 .1 .1 .1 .1 .1 .1 .1 .1 .0) (older d t 1 (v .last .1 .1 .1 .1 .1 .1 .1 .1 .1 .1 .1 .1 .0))) (record { marks = marks }) (A .finish) e l (ap (strangers d) (c .before .before .before .before .before .before .before .before .before .before .before .before .before .marks-in .ensures) ∙ strangers-none d (A .mask) (A .sources) (r .as-wide) (sym (c .before .before .before .before .before .before .before .before .before .before .before .before .before .before .before .above .ensures) ∙ c .before .before .before .before .before .before .before .before .before .before .before .before .before .before .if2 .left)) (sym (c .before .before .before .before .before .before .before .before .too-soon .ensures d t (A .awake .now) (A .waiting .now) (A .dropped .now) (A .used .now) (r .as-wide) (r .spaced) ∙ ap (λ a. tooSoon d t marks (parts (A .awake .now) (A .used .now) (A .waiting .now) (A .dropped .now) a)) E) ∙ c .before .before .before .before .before .before .before .if3 .left) (step-whole d t marks (A .finish) m (v .last .1 .1 .1 .1 .1 .1 .1 .1 .0) (v .last .1 .1 .1 .1 .1 .1 .1 .1 .1 .1 .0) (v .last .1 .1 .1 .1 .1 .1 .1 .1 .1 .1 .1 .0) (v .last .1 .1 .1 .1 .1 .1 .1 .1 .1 .0) (v .last .1 .1 .1 .1 .1 .1 .1 .1 .1 .1 .1 .1 .0) (v .ensures .0 d (r .linked) (r .as-many) (r .same-runs) (r .as-wide) ∙ ap (λ a. acted d marks (A .finish) (parts (A .awake .now) (A .used .now) (A .waiting .now) (A .dropped .now) a)) E)));
+          answer-coded d t (A .mask) (A .finish) marks m (record { outcome = Done; machine = parts (v .last .1 .1 .1 .1 .1 .1 .1 .1 .1 .1 .0) (v .last .1 .1 .1 .1 .1 .1 .1 .1 .1 .1 .1 .0) (v .last .1 .1 .1 .1 .1 .1 .1 .1 .1 .1 .1 .1 .0) (v .last .1 .1 .1 .1 .1 .1 .1 .1 .1 .1 .1 .1 .1 .0) (older d t 1 (v .last .1 .1 .1 .1 .1 .1 .1 .1 .1 .1 .1 .1 .1 .1 .0)) }) (c .before .before .before .before .before .before .before .before .before .before .before .before .before .marks-in .ensures) (tick-done d t m (parts (v .last .1 .1 .1 .1 .1 .1 .1 .1 .1 .1 .0) (v .last .1 .1 .1 .1 .1 .1 .1 .1 .1 .1 .1 .0) (v .last .1 .1 .1 .1 .1 .1 .1 .1 .1 .1 .1 .1 .0) (v .last .1 .1 .1 .1 .1 .1 .1 .1 .1 .1 .1 .1 .1 .0) (older d t 1 (v .last .1 .1 .1 .1 .1 .1 .1 .1 .1 .1 .1 .1 .1 .1 .0))) (record { marks = marks }) (A .finish) e l (ap (strangers d) (c .before .before .before .before .before .before .before .before .before .before .before .before .before .marks-in .ensures) ∙ strangers-none d (A .mask) (A .sources) (r .as-wide) (sym (c .before .before .before .before .before .before .before .before .before .before .before .before .before .before .before .above .ensures) ∙ c .before .before .before .before .before .before .before .before .before .before .before .before .before .before .if2 .left)) (sym (c .before .before .before .before .before .before .before .before .too-soon .ensures d t (A .awake .now) (A .waiting .now) (A .dropped .now) (A .used .now) (r .as-wide) (r .spaced) ∙ ap (λ a. tooSoon d t marks (parts (A .awake .now) (A .used .now) (A .waiting .now) (A .dropped .now) a)) E) ∙ c .before .before .before .before .before .before .before .if3 .left) (step-whole d t marks (A .finish) m (v .last .1 .1 .1 .1 .1 .1 .1 .1 .1 .1 .0) (v .last .1 .1 .1 .1 .1 .1 .1 .1 .1 .1 .1 .1 .0) (v .last .1 .1 .1 .1 .1 .1 .1 .1 .1 .1 .1 .1 .1 .0) (v .last .1 .1 .1 .1 .1 .1 .1 .1 .1 .1 .1 .0) (v .last .1 .1 .1 .1 .1 .1 .1 .1 .1 .1 .1 .1 .1 .1 .0) (v .ensures .0 d (r .placed) (r .as-many) (r .same-runs) (r .as-wide) ∙ ap (λ a. acted d marks (A .finish) (parts (A .awake .now) (A .used .now) (A .waiting .now) (A .dropped .now) a)) E)));
       little = search needs;
       highest = v .ensures .1;
     }

@@ -68,29 +68,29 @@ shared-slice-read-finish c = omega (arith, c .before .before .loop-test .taken, 
 
 advance-requires : tie.Need-advance-requires Inv-loop μ-loop
 advance-requires c κs =
-    let S = c .before .before .before .before .before .before .before .before .before .before .before .before .before .before .before .before .before .before .before .before .before .before .before .before .before in
-    let L = c .before .before .before .before .before .before .before .before .before .before .before .before .before .before .before .loop in
+    let S = c .before .before .before .before .before .before .before .before .before .before .before .before .before .before .before .before .before .before .before .before .before .before .before .before .before .before .before in
+    let L = c .before .before .before .before .before .before .before .before .before .before .before .before .before .before .before .before .before .loop in
     let k = S .pre in
     let m = lagging (k .description) (k .tempo) (L .late) (parts (L .awake) (L .used) (L .waiting) (L .dropped) (L .ages)) in
-    (planned-sound (S .args .t1) k, lawful-countable (k .description) (k .tempo) m (k .formed) (kept (k .description) (k .tempo) (take (L .i) (callsIn (S .args .calls .now))) m (k .formed) (k .judged) (L .inv .4 (k .description) (k .tempo) (k .of) (k .formed) (k .judged) .0)), omega (arith, c .before .before .before .before .before .before .before .before .before .before .before .before .before .before .loop-test .taken, L .inv .2, div-mul-le-self (length (S .args .calls .now)) 4), L .inv .3)
+    (planned-sound (S .args .t1) k, lawful-countable (k .description) (k .tempo) m (k .formed) (kept (k .description) (k .tempo) (take (L .i) (callsIn (S .args .calls .now))) m (k .formed) (k .judged) (L .inv .4 (k .description) (k .tempo) (k .of) (k .formed) (k .judged) .0)), omega (arith, c .before .before .before .before .before .before .before .before .before .before .before .before .before .before .before .before .loop-test .taken, L .inv .2, div-mul-le-self (length (S .args .calls .now)) 4), L .inv .3)
 
 slice-write-outcomes : tie.Need-slice-write-outcomes Inv-loop μ-loop
-slice-write-outcomes c = omega (arith, c .before .before .before .before .before .before .before .before .before .before .before .before .before .before .before .loop-test .taken, c .before .before .before .before .before .before .before .before .before .before .before .before .before .before .before .before .loop .inv .1, c .before .before .before .before .before .before .before .before .before .before .before .before .before .before .before .before .before .before .before .before .before .before .before .if1 .left)
+slice-write-outcomes c = omega (arith, c .before .before .before .before .before .before .before .before .before .before .before .before .before .before .before .before .before .loop-test .taken, c .before .before .before .before .before .before .before .before .before .before .before .before .before .before .before .before .before .before .loop .inv .1, c .before .before .before .before .before .before .before .before .before .before .before .before .before .before .before .before .before .before .before .before .before .before .before .before .before .if1 .left)
 
 add-i : tie.Need-add-i Inv-loop μ-loop
-add-i c = omega (arith, c .before .before .before .before .before .before .before .before .before .before .before .before .before .before .before .loop-test .taken, c .before .before .before .before .before .before .before .before .before .before .before .before .before .before .before .before .before .before .before .before .before .before .before .before .before .before)
+add-i c = omega (arith, c .before .before .before .before .before .before .before .before .before .before .before .before .before .before .before .before .before .loop-test .taken, c .before .before .before .before .before .before .before .before .before .before .before .before .before .before .before .before .before .before .before .before .before .before .before .before .before .before .before .before)
 
 loop-less : tie.Need-loop-less Inv-loop μ-loop
-loop-less c = omega (arith, c .before .before .before .before .before .before .before .before .before .before .before .before .before .before .before .loop-test .taken)
+loop-less c = omega (arith, c .before .before .before .before .before .before .before .before .before .before .before .before .before .before .before .before .before .loop-test .taken)
 
 loop-again : tie.Need-loop-again Inv-loop μ-loop
 loop-again c =
-    let S = c .before .before .before .before .before .before .before .before .before .before .before .before .before .before .before .before .before .before .before .before .before .before .before .before .before .before in
-    let L = c .before .before .before .before .before .before .before .before .before .before .before .before .before .before .before .before .loop in
+    let S = c .before .before .before .before .before .before .before .before .before .before .before .before .before .before .before .before .before .before .before .before .before .before .before .before .before .before .before .before in
+    let L = c .before .before .before .before .before .before .before .before .before .before .before .before .before .before .before .before .before .before .loop in
     let v = c .advance in
     let cs = callsIn (S .args .calls .now) in
     let i = L .i in
-    let J : i < length (S .args .calls .now) / 4 = c .before .before .before .before .before .before .before .before .before .before .before .before .before .before .before .loop-test .taken in
+    let J : i < length (S .args .calls .now) / 4 = c .before .before .before .before .before .before .before .before .before .before .before .before .before .before .before .before .before .loop-test .taken in
     let T : i < length cs = omega (arith, J, calls-length (S .args .calls .now)) in (
       omega (arith, J),
       length-set (L .outcomes) (L .i) (v .result) ∙ L .inv .1,
@@ -99,8 +99,8 @@ loop-again c =
       λ d t r g j.
           let I = L .inv .4 d t r g j in
           let m = lagging d t (L .late) (parts (L .awake) (L .used) (L .waiting) (L .dropped) (L .ages)) in
-          let w = run-turn d t cs (idle d t) m (lagging d t (v .last .1 .1 .1 .1 .1 .1 .1 .1 .1 .1 .1 .1 .1 .1 .0) (parts (v .last .1 .1 .1 .1 .1 .1 .1 .1 .1 .0) (v .last .1 .1 .1 .1 .1 .1 .1 .1 .1 .1 .0) (v .last .1 .1 .1 .1 .1 .1 .1 .1 .1 .1 .1 .0) (v .last .1 .1 .1 .1 .1 .1 .1 .1 .1 .1 .1 .1 .0) (v .last .1 .1 .1 .1 .1 .1 .1 .1 .1 .1 .1 .1 .1 .0))) i (v .result) (marksIn (c .before .before .before .before .before .before .before .before .before .before .before .before .before .before .half-at .result)) (not (eqb (getD (S .args .calls .now) (4 * i + 2) 0) 0)) T (I .0) (rw (c .before .before .before .before .before .before .before .before .before .before .before .before .before .before .half-at .ensures) (calls-at (S .args .calls .now) i J)) (v .ensures .advanced d t r j (kept d t (take i cs) m g j (I .0))) in
-          (w .0, store-turn (S .args .outcomes .now) (L .outcomes) (page d t cs) i (v .result) (omega (arith, c .before .before .before .before .before .before .before .before .before .before .before .before .before .before .before .before .before .before .before .before .before .before .before .if1 .left, J)) (omega (arith, codes-length d t cs (idle d t))) (I .1) (w .1)),
+          let w = run-turn d t cs (idle d t) m (lagging d t (v .last .1 .1 .1 .1 .1 .1 .1 .1 .1 .1 .1 .1 .1 .1 .1 .1 .0) (parts (v .last .1 .1 .1 .1 .1 .1 .1 .1 .1 .1 .1 .0) (v .last .1 .1 .1 .1 .1 .1 .1 .1 .1 .1 .1 .1 .0) (v .last .1 .1 .1 .1 .1 .1 .1 .1 .1 .1 .1 .1 .1 .0) (v .last .1 .1 .1 .1 .1 .1 .1 .1 .1 .1 .1 .1 .1 .1 .0) (v .last .1 .1 .1 .1 .1 .1 .1 .1 .1 .1 .1 .1 .1 .1 .1 .0))) i (v .result) (marksIn (c .before .before .before .before .before .before .before .before .before .before .before .before .before .before .before .before .half-at .result)) (not (eqb (getD (S .args .calls .now) (4 * i + 2) 0) 0)) T (I .0) (rw (c .before .before .before .before .before .before .before .before .before .before .before .before .before .before .before .before .half-at .ensures) (calls-at (S .args .calls .now) i J)) (v .ensures .advanced d t r j (kept d t (take i cs) m g j (I .0))) in
+          (w .0, store-turn (S .args .outcomes .now) (L .outcomes) (page d t cs) i (v .result) (omega (arith, c .before .before .before .before .before .before .before .before .before .before .before .before .before .before .before .before .before .before .before .before .before .before .before .before .before .if1 .left, J)) (omega (arith, codes-length d t cs (idle d t))) (I .1) (w .1)),
     )
 
 age-all-requires : tie.Need-age-all-requires Inv-loop μ-loop

@@ -16,7 +16,7 @@ returns : tie.Need-returns
 returns c = λ d t r.
     let S = c .before .before .before .before .before .before .before .before in
     let a = c .before .before .act in
-    ap (parts (a .last .1 .1 .1 .1 .1 .1 .1 .1 .0) (a .last .1 .1 .1 .1 .1 .1 .1 .1 .1 .0) (a .last .1 .1 .1 .1 .1 .1 .1 .1 .1 .1 .0) (a .last .1 .1 .1 .1 .1 .1 .1 .1 .1 .1 .1 .0)) (c .age-all .ensures d t (r .as-wide) (r .spaced)) ∙ step-whole d t (S .args .marks .now) (S .args .finish) (parts (S .args .awake .now) (S .args .used .now) (S .args .waiting .now) (S .args .dropped .now) (S .args .ages .now)) (a .last .1 .1 .1 .1 .1 .1 .1 .1 .0) (a .last .1 .1 .1 .1 .1 .1 .1 .1 .1 .1 .0) (a .last .1 .1 .1 .1 .1 .1 .1 .1 .1 .1 .1 .0) (a .last .1 .1 .1 .1 .1 .1 .1 .1 .1 .0) (a .last .1 .1 .1 .1 .1 .1 .1 .1 .1 .1 .1 .1 .0) (a .ensures .0 d (r .linked) (r .as-many) (r .same-runs) (r .as-wide))
+    ap (parts (a .last .1 .1 .1 .1 .1 .1 .1 .1 .1 .1 .0) (a .last .1 .1 .1 .1 .1 .1 .1 .1 .1 .1 .1 .0) (a .last .1 .1 .1 .1 .1 .1 .1 .1 .1 .1 .1 .1 .0) (a .last .1 .1 .1 .1 .1 .1 .1 .1 .1 .1 .1 .1 .1 .0)) (c .age-all .ensures d t (r .as-wide) (r .spaced)) ∙ step-whole d t (S .args .marks .now) (S .args .finish) (parts (S .args .awake .now) (S .args .used .now) (S .args .waiting .now) (S .args .dropped .now) (S .args .ages .now)) (a .last .1 .1 .1 .1 .1 .1 .1 .1 .1 .1 .0) (a .last .1 .1 .1 .1 .1 .1 .1 .1 .1 .1 .1 .1 .0) (a .last .1 .1 .1 .1 .1 .1 .1 .1 .1 .1 .1 .1 .1 .0) (a .last .1 .1 .1 .1 .1 .1 .1 .1 .1 .1 .1 .0) (a .last .1 .1 .1 .1 .1 .1 .1 .1 .1 .1 .1 .1 .1 .1 .0) (a .ensures .0 d (r .placed) (r .as-many) (r .same-runs) (r .as-wide))
 
 pub step-spec : {M : Type 1} → statement M
 step-spec = tie.close (tie.spec act-requires age-all-requires returns)

@@ -15,6 +15,8 @@ use steps::step::act;
 use steps::step::age_all;
 use steps::step::serve;
 ghost use mathlib.Core.Path.{_≡_};
+ghost use mathlib.Core.Bool.{false};
+ghost use lib.ListN.{replicate};
 ghost use Prim.Native.Nat.{_+_, _≤_, _<_, _/_, _^_};
 ghost use Rattle.model.specs.declared.Outcome.the-variants.{Done};
 ghost use Rattle.model.specs.Machine.{blankMachine, highestIn};
@@ -33,12 +35,11 @@ fn above(mask: u16, sources: usize) -> usize
     all >> sources
 }
 
-// The marks of a mask, whose lowest bit is source 33, of sources that exist.
-fn marks_in(mask: u16, sources: usize) -> [bool; 16]
-    requires { ⌜ (sources ≤ 16) × (mask / 2 ^ sources ≡ 0) ⌝ }
-    ensures { λ r. ⌜ r ≡ marksIn mask ⌝ }
+// The marks of a mask, whose lowest bit is source 33, of sources that exist, in place of marks that are clear.
+fn mark(mask: u16, sources: usize, marks: &mut [bool; 16])
+    requires { ⌜ (sources ≤ 16) × (mask / 2 ^ sources ≡ 0) × (now marks ≡ replicate 16 false) ⌝ }
+    ensures { λ _. ⌜ now (marks .exit) ≡ marksIn mask ⌝ }
 {
-    let mut marks = [false; 16];
     let mut rest = mask;
     let mut u: usize = 0;
     while u < sources {
@@ -46,7 +47,6 @@ fn marks_in(mask: u16, sources: usize) -> [bool; 16]
         rest = rest / 2;
         u += 1;
     }
-    marks
 }
 
 // A record of zeros.
@@ -116,7 +116,8 @@ pub fn advance<'a>(
     if above(mask, sources) != 0 {
         return 15;
     }
-    let marks = marks_in(mask, sources);
+    let mut marks = [false; 16];
+    mark(mask, sources, &mut marks);
     age_all(gaps, sources, behind, &mut *ages);
     *late = 0;
     if too_soon(gaps, sources, &marks, ages) {

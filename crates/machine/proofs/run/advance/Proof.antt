@@ -49,8 +49,8 @@ returns-2 c =
       highest = S .pre .3;
     }
 
-marks-in-requires : tie.Need-marks-in-requires
-marks-in-requires c κs = let S = c .before .before .before .before .before in (S .pre .0 .few-sources, sym (c .before .above .ensures) ∙ c .if2 .left)
+mark-requires : tie.Need-mark-requires
+mark-requires c κs = let S = c .before .before .before .before .before .before in (S .pre .0 .few-sources, sym (c .before .before .above .ensures) ∙ c .before .if2 .left, refl)
 
 age-all-requires : tie.Need-age-all-requires
 age-all-requires c κs = search needs
@@ -60,14 +60,14 @@ too-soon-requires c κs = search needs
 
 returns-3 : tie.Need-returns-3
 returns-3 c =
-    let S = c .before .before .before .before .before .before .before .before .before .before .before .before in
+    let S = c .before .before .before .before .before .before .before .before .before .before .before .before .before in
     let A = S .args in
-    let marks = c .before .before .before .before .before .before .marks-in .result in
+    let marks = c .before .before .before .before .before .before .mark .last .1 .1 .0 in
     record {
       advanced = λ d t r e l.
           let m = parts (A .awake .now) (A .used .now) (A .waiting .now) (A .dropped .now) (older d t (A .late .now) (A .ages .now)) in
           let E = c .before .before .before .before .age-all .ensures d t (r .as-wide) (r .spaced) in
-          let z = answer-coded d t (A .mask) (A .finish) marks m (record { outcome = Refused TooSoon 0; machine = m }) (c .before .before .before .before .before .before .marks-in .ensures) (tick-soon d t m (record { marks = marks }) (A .finish) e l (ap (strangers d) (c .before .before .before .before .before .before .marks-in .ensures) ∙ strangers-none d (A .mask) (A .sources) (r .as-wide) (sym (c .before .before .before .before .before .before .before .before .above .ensures) ∙ c .before .before .before .before .before .before .before .if2 .left)) (sym (c .before .too-soon .ensures d t (A .awake .now) (A .waiting .now) (A .dropped .now) (A .used .now) (r .as-wide) (r .spaced) ∙ ap (λ a. tooSoon d t marks (parts (A .awake .now) (A .used .now) (A .waiting .now) (A .dropped .now) a)) E) ∙ c .if3 .taken)) in
+          let z = answer-coded d t (A .mask) (A .finish) marks m (record { outcome = Refused TooSoon 0; machine = m }) (c .before .before .before .before .before .before .mark .ensures) (tick-soon d t m (record { marks = marks }) (A .finish) e l (ap (strangers d) (c .before .before .before .before .before .before .mark .ensures) ∙ strangers-none d (A .mask) (A .sources) (r .as-wide) (sym (c .before .before .before .before .before .before .before .before .before .above .ensures) ∙ c .before .before .before .before .before .before .before .before .if2 .left)) (sym (c .before .too-soon .ensures d t (A .awake .now) (A .waiting .now) (A .dropped .now) (A .used .now) (r .as-wide) (r .spaced) ∙ ap (λ a. tooSoon d t marks (parts (A .awake .now) (A .used .now) (A .waiting .now) (A .dropped .now) a)) E) ∙ c .if3 .taken)) in
           (z .0, caught-up d t (A .late .now) (A .awake .now) (A .waiting .now) (A .dropped .now) (A .used .now) (A .ages .now) (c .before .before .before .before .age-all .last .1 .1 .1 .0) E ∙ z .1);
       little = search needs;
       highest = S .pre .3;
@@ -78,15 +78,15 @@ act-requires c κs = search needs
 
 returns-4 : tie.Need-returns-4
 returns-4 c =
-    let S = c .before .before .before .before .before .before .before .before .before .before .before .before .before .before .before .before .before .before .before in
+    let S = c .before .before .before .before .before .before .before .before .before .before .before .before .before .before .before .before .before .before .before .before in
     let A = S .args in
-    let marks = c .before .before .before .before .before .before .before .before .before .before .before .before .before .marks-in .result in
+    let marks = c .before .before .before .before .before .before .before .before .before .before .before .before .before .mark .last .1 .1 .0 in
     let v = c .act in
     record {
       advanced = λ d t r e l.
           let m = parts (A .awake .now) (A .used .now) (A .waiting .now) (A .dropped .now) (older d t (A .late .now) (A .ages .now)) in
           let E = c .before .before .before .before .before .before .before .before .before .before .before .age-all .ensures d t (r .as-wide) (r .spaced) in
-          answer-coded d t (A .mask) (A .finish) marks m (record { outcome = Done; machine = parts (v .last .1 .1 .1 .1 .1 .1 .1 .1 .1 .1 .0) (v .last .1 .1 .1 .1 .1 .1 .1 .1 .1 .1 .1 .0) (v .last .1 .1 .1 .1 .1 .1 .1 .1 .1 .1 .1 .1 .0) (v .last .1 .1 .1 .1 .1 .1 .1 .1 .1 .1 .1 .1 .1 .0) (older d t 1 (v .last .1 .1 .1 .1 .1 .1 .1 .1 .1 .1 .1 .1 .1 .1 .0)) }) (c .before .before .before .before .before .before .before .before .before .before .before .before .before .marks-in .ensures) (tick-done d t m (parts (v .last .1 .1 .1 .1 .1 .1 .1 .1 .1 .1 .0) (v .last .1 .1 .1 .1 .1 .1 .1 .1 .1 .1 .1 .0) (v .last .1 .1 .1 .1 .1 .1 .1 .1 .1 .1 .1 .1 .0) (v .last .1 .1 .1 .1 .1 .1 .1 .1 .1 .1 .1 .1 .1 .0) (older d t 1 (v .last .1 .1 .1 .1 .1 .1 .1 .1 .1 .1 .1 .1 .1 .1 .0))) (record { marks = marks }) (A .finish) e l (ap (strangers d) (c .before .before .before .before .before .before .before .before .before .before .before .before .before .marks-in .ensures) ∙ strangers-none d (A .mask) (A .sources) (r .as-wide) (sym (c .before .before .before .before .before .before .before .before .before .before .before .before .before .before .before .above .ensures) ∙ c .before .before .before .before .before .before .before .before .before .before .before .before .before .before .if2 .left)) (sym (c .before .before .before .before .before .before .before .before .too-soon .ensures d t (A .awake .now) (A .waiting .now) (A .dropped .now) (A .used .now) (r .as-wide) (r .spaced) ∙ ap (λ a. tooSoon d t marks (parts (A .awake .now) (A .used .now) (A .waiting .now) (A .dropped .now) a)) E) ∙ c .before .before .before .before .before .before .before .if3 .left) (step-whole d t marks (A .finish) m (v .last .1 .1 .1 .1 .1 .1 .1 .1 .1 .1 .0) (v .last .1 .1 .1 .1 .1 .1 .1 .1 .1 .1 .1 .1 .0) (v .last .1 .1 .1 .1 .1 .1 .1 .1 .1 .1 .1 .1 .1 .0) (v .last .1 .1 .1 .1 .1 .1 .1 .1 .1 .1 .1 .0) (v .last .1 .1 .1 .1 .1 .1 .1 .1 .1 .1 .1 .1 .1 .1 .0) (v .ensures .0 d (r .placed) (r .as-many) (r .same-runs) (r .as-wide) ∙ ap (λ a. acted d marks (A .finish) (parts (A .awake .now) (A .used .now) (A .waiting .now) (A .dropped .now) a)) E)));
+          answer-coded d t (A .mask) (A .finish) marks m (record { outcome = Done; machine = parts (v .last .1 .1 .1 .1 .1 .1 .1 .1 .1 .1 .0) (v .last .1 .1 .1 .1 .1 .1 .1 .1 .1 .1 .1 .0) (v .last .1 .1 .1 .1 .1 .1 .1 .1 .1 .1 .1 .1 .0) (v .last .1 .1 .1 .1 .1 .1 .1 .1 .1 .1 .1 .1 .1 .0) (older d t 1 (v .last .1 .1 .1 .1 .1 .1 .1 .1 .1 .1 .1 .1 .1 .1 .0)) }) (c .before .before .before .before .before .before .before .before .before .before .before .before .before .mark .ensures) (tick-done d t m (parts (v .last .1 .1 .1 .1 .1 .1 .1 .1 .1 .1 .0) (v .last .1 .1 .1 .1 .1 .1 .1 .1 .1 .1 .1 .0) (v .last .1 .1 .1 .1 .1 .1 .1 .1 .1 .1 .1 .1 .0) (v .last .1 .1 .1 .1 .1 .1 .1 .1 .1 .1 .1 .1 .1 .0) (older d t 1 (v .last .1 .1 .1 .1 .1 .1 .1 .1 .1 .1 .1 .1 .1 .1 .0))) (record { marks = marks }) (A .finish) e l (ap (strangers d) (c .before .before .before .before .before .before .before .before .before .before .before .before .before .mark .ensures) ∙ strangers-none d (A .mask) (A .sources) (r .as-wide) (sym (c .before .before .before .before .before .before .before .before .before .before .before .before .before .before .before .before .above .ensures) ∙ c .before .before .before .before .before .before .before .before .before .before .before .before .before .before .before .if2 .left)) (sym (c .before .before .before .before .before .before .before .before .too-soon .ensures d t (A .awake .now) (A .waiting .now) (A .dropped .now) (A .used .now) (r .as-wide) (r .spaced) ∙ ap (λ a. tooSoon d t marks (parts (A .awake .now) (A .used .now) (A .waiting .now) (A .dropped .now) a)) E) ∙ c .before .before .before .before .before .before .before .if3 .left) (step-whole d t marks (A .finish) m (v .last .1 .1 .1 .1 .1 .1 .1 .1 .1 .1 .0) (v .last .1 .1 .1 .1 .1 .1 .1 .1 .1 .1 .1 .1 .0) (v .last .1 .1 .1 .1 .1 .1 .1 .1 .1 .1 .1 .1 .1 .0) (v .last .1 .1 .1 .1 .1 .1 .1 .1 .1 .1 .1 .0) (v .last .1 .1 .1 .1 .1 .1 .1 .1 .1 .1 .1 .1 .1 .1 .0) (v .ensures .0 d (r .placed) (r .as-many) (r .same-runs) (r .as-wide) ∙ ap (λ a. acted d marks (A .finish) (parts (A .awake .now) (A .used .now) (A .waiting .now) (A .dropped .now) a)) E)));
       little = search needs;
       highest = v .ensures .1;
     }
@@ -100,7 +100,7 @@ advance-spec =
     returns
     above-requires
     returns-2
-    marks-in-requires
+    mark-requires
     age-all-requires
     too-soon-requires
     returns-3

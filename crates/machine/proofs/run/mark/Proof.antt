@@ -1,6 +1,6 @@
--- `marks_in` meets its contract: the first u bits are taken, and the rest of the mask is what they leave. Assumes nothing.
+-- `mark` meets its contract: the first u bits are taken, and the rest of the mask is what they leave. Assumes nothing.
 use Prim.Native.Nat.{ℕ, _-_, _≤_, _<_, _/_, _%_, _^_}
-use mathlib.Core.Path.{_≡_, refl, sym, ap, _∙_}
+use mathlib.Core.Path.{_≡_, sym, ap, _∙_}
 use mathlib.Core.Logic.{_⊎_, inl, inr}
 use mathlib.Core.Bool.{false}
 use native.Mathlib.Omega.{arith}
@@ -13,8 +13,8 @@ use Rattle.theory.proofs.Table.{stored, is-tab}
 use Rattle.steps.proofs.StepLaws.{cases}
 use Rattle.machine.specs.Run.{heard, marksIn}
 use Rattle.machine.proofs.RunLaws.{halved, whole-mask, none-above}
-use Rattle.machine.proofs.run.marks_in.Statement.{statement}
-use Rattle.machine.proofs.run.marks_in.Tie as tie
+use Rattle.machine.proofs.run.mark.Statement.{statement}
+use Rattle.machine.proofs.run.mark.Tie as tie
 
 abbrev Inv-loop : tie.InvT-loop
 Inv-loop mask sources marks₀ rest₀ u₀ marks rest u = (u ≤ sources) × (length marks ≡ 16) × (rest ≡ mask / 2 ^ u) × ((k : ℕ) → k < u → getD marks k false ≡ heard mask k) × ((k : ℕ) → u ≤ k → getD marks k false ≡ false)
@@ -23,10 +23,12 @@ abbrev μ-loop : tie.MeasureT-loop
 μ-loop mask sources marks₀ rest₀ u₀ marks rest u = sources - u
 
 loop-holds : tie.Need-loop-holds Inv-loop μ-loop
-loop-holds c = (omega arith, refl, whole-mask (c .args .mask), (λ k h. absurd (omega arith)), λ k h. getD-same 16 k false)
+loop-holds c =
+    let e = c .pre .2 in
+    (omega arith, ap length e, whole-mask (c .args .mask), (λ k h. absurd (omega arith)), λ k h. ap (λ l. getD l k false) e ∙ getD-same 16 k false)
 
-array-write-marks : tie.Need-array-write-marks Inv-loop μ-loop
-array-write-marks c = omega arith
+element-write-marks : tie.Need-element-write-marks Inv-loop μ-loop
+element-write-marks c = omega arith
 
 add-u : tie.Need-add-u Inv-loop μ-loop
 add-u c = omega arith
@@ -55,7 +57,7 @@ returns c =
     let S = c .before .before in
     is-tab false 16 (heard (S .args .mask)) (L .marks) (L .inv .1) (λ k h. cases (split k (L .u)) (L .inv .3 k) (λ a. L .inv .4 k a ∙ sym (none-above (S .args .mask) (S .args .sources) k (S .pre .1) (omega (arith, c .loop-test .left)))))
 
-pub marks-in-spec : {M : Type 1} → statement M
-marks-in-spec =
+pub mark-spec : {M : Type 1} → statement M
+mark-spec =
     tie.close
-    (tie.spec Inv-loop μ-loop loop-holds array-write-marks add-u loop-less loop-again returns)
+    (tie.spec Inv-loop μ-loop loop-holds element-write-marks add-u loop-less loop-again returns)

@@ -89,7 +89,7 @@ pub fn advance<'a>(
     late: &mut u64,
     top: &mut usize,
 ) -> u8
-    requires { ⌜ Sound (plan links (now from) (now to) (now first) (now last) tasks (now runs) sources (now gaps)) × Countable (now used) × (now late + 1 < 2 ^ 64) × (now top ≡ highestIn (now awake) tasks) ⌝ }
+    requires { ⌜ Sound (plan links (now from) (now to) (now first) (now last) tasks (now runs) sources (now gaps)) × Countable (now used) × (now late < 2 ^ 63) × (now top ≡ highestIn (now awake) tasks) ⌝ }
     ensures { λ r. ⌜ Advances (plan links (now (from .entry)) (now (to .entry)) (now (first .entry)) (now (last .entry)) tasks (now (runs .entry)) sources (now (gaps .entry))) mask finish (parts (now (awake .entry)) (now (used .entry)) (now (waiting .entry)) (now (dropped .entry)) (now (ages .entry))) (now (late .entry)) (parts (now (awake .exit)) (now (used .exit)) (now (waiting .exit)) (now (dropped .exit)) (now (ages .exit))) (now (late .exit)) (now (top .exit)) r ⌝ }
 {
     let h = *top;

@@ -2,7 +2,7 @@
 
 ghost use mathlib.Core.Path.{_≡_};
 ghost use mathlib.Core.Bool.{false, _||_, cond};
-ghost use Prim.Native.Nat.{_+_, _≤_, _<_, min};
+ghost use Prim.Native.Nat.{_+_, _≤_, _<_, _^_, min};
 ghost use lib.ListN.{getD};
 ghost use lib.Dec.{eqb};
 ghost use Rattle.model.specs.Machine.{highestIn};
@@ -285,21 +285,16 @@ fn wide(x: u32) -> u64
 
 // An age some ticks later: at most the spacing.
 fn aged(age: u32, gap: u32, late: u64) -> u32
+    requires { ⌜ late < 2 ^ 63 ⌝ }
     ensures { λ r. ⌜ r ≡ min gap (age + late) ⌝ }
 {
-    if gap <= age {
-        return gap;
-    }
-    if late < wide(gap - age) {
-        age + late as u32
-    } else {
-        gap
-    }
+    let sum = wide(age) + late;
+    if sum < wide(gap) { sum as u32 } else { gap }
 }
 
 // Step 4, for some ticks at once: ages rise by their number, up to the spacing.
 pub fn age_all(gaps: &[u32; 16], sources: usize, late: u64, ages: &mut [u32; 16])
-    requires { ⌜ sources ≤ 16 ⌝ }
+    requires { ⌜ (sources ≤ 16) × (late < 2 ^ 63) ⌝ }
     ensures { λ _. ⌜ Ages (now (gaps .entry)) sources late (now (ages .entry)) (now (ages .exit)) ⌝ }
 {
     let mut u: usize = 0;

@@ -104,7 +104,10 @@ loop-again c =
     )
 
 age-all-requires : tie.Need-age-all-requires Inv-loop μ-loop
-age-all-requires c κs = let S = c .before .before .before .before .before .before .before .before .before .before .before .before .before .before in planned-sound (S .args .t1) (S .pre) .few-sources
+age-all-requires c κs =
+    let S = c .before .before .before .before .before .before .before .before .before .before .before .before .before .before in
+    let L = c .before .before .before .before .loop in
+    (planned-sound (S .args .t1) (S .pre) .few-sources, omega (arith, S, L .inv .0, L .inv .2, div-mul-le-self (length (S .args .calls .now)) 4))
 
 same-length : tie.Need-same-length Inv-loop μ-loop
 same-length c = c .before .before .before .before .before .loop .inv .1

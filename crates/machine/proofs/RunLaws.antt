@@ -1,15 +1,16 @@
 -- A list of calls as a run goes through it: its masks, the record before each call and the codes of the answers. Assumes nothing.
-use Prim.Native.Nat.{ℕ, zero, suc, _+_, _-_, _/_, _^_, _≤_, _<_, min}
+use Prim.Native.Nat.{ℕ, zero, suc, _+_, _-_, _/_, _%_, _^_, _≤_, _<_}
 use mathlib.Core.Path.{_≡_, refl, sym, ap, subst, _∙_}
-use mathlib.Core.Bool.{Bool, true, false}
+use mathlib.Core.Bool.{Bool, true, false, _&&_}
 use mathlib.Core.List.{List, [], _∷_, _++_}
 use native.Mathlib.Omega.{arith}
-use native.Mathlib.Nat.{div-div-eq-div-mul, div-one, pow-suc}
+use native.Mathlib.Nat.{div-div-eq-div-mul, div-eq-of-lt, div-one, zero-div, pow-suc, add-sub-of-le}
+use lib.Pow.{pow-add}
 use native.Mathlib.Numerals.{add-one}
 use lib.ListN.{length, getD, set, take, drop}
 use lib.Seq.{take-all}
 use lib.Dec.{leb}
-use borrow.Author.Tests.{lt-ltb, le-ltb, leb-true}
+use borrow.Author.Tests.{lt-ltb, le-ltb, le-leb, leb-true, eqb-false}
 use Rattle.model.specs.declared.Source.{Source}
 use Rattle.model.specs.declared.Source.the-variants.{Fixed, Paced}
 use Rattle.model.specs.declared.Field.the-variants.{OfSource}
@@ -25,14 +26,21 @@ use Rattle.model.specs.Field.{onScale}
 use Rattle.model.specs.Graph.{sourceAt}
 use Rattle.model.specs.File.{SourceFits, Widths, judge, filledBy}
 use Rattle.model.specs.Verdicts.{judgeAt, onKnob}
-use Rattle.model.specs.Machine.{idle, blankMachine, lawful, plainTick}
+use Rattle.model.specs.Basics.{upTo, anyN}
+use Rattle.model.specs.Delays.{spacingOf}
+use Rattle.model.specs.Machine.{idle, blankMachine, lawful, arriveOne, arrive, highestIn, runTask, endRun, strangers, tooSoon, plainTick}
 use Rattle.model.specs.History.{Call, answers, left, isDone}
-use Rattle.theory.proofs.Tests.{not-both, and-left, and-right}
+use Rattle.theory.proofs.Tests.{not-both, true-of, and-left, and-right, and-false-left, and-false-right}
+use Rattle.theory.proofs.Range.{any-none, none-any}
+use Rattle.theory.proofs.Machine.{getD-same}
 use Rattle.theory.proofs.WellFormed.{WellFormed}
 use Rattle.theory.proofs.Table.{length-tab, getD-tab}
 use Rattle.theory.proofs.Replay.{callAt, quietCall}
 use Rattle.theory.proofs.Lawful.{rules-kept}
-use Rattle.machine.specs.Run.{callIn, callsIn, codeOf, codes, page, ran}
+use Rattle.steps.specs.Parts.{parts, older}
+use Rattle.steps.proofs.StepLaws.{arrive-off, older-more, older-none, act-whole, step-whole}
+use Rattle.machine.specs.Run.{heard, marksIn, callIn, callsIn, codeOf, codes, page, ran, lagging, Coded}
+use Rattle.machine.proofs.TickLaws.{tick-done}
 
 -- masks: all of it, and one bit less
 pub whole-mask : (mask : ℕ) → mask ≡ mask / 2 ^ 0
@@ -41,9 +49,97 @@ whole-mask mask = sym (div-one mask)
 pub halved : (mask u rest : ℕ) → rest ≡ mask / 2 ^ u → rest / 2 ≡ mask / 2 ^ (u + 1)
 halved mask u rest e = rw (e, add-one u, pow-suc 2 u) (div-div-eq-div-mul mask (2 ^ u) 2)
 
+-- a mask with nothing left above the first s bits has no bit there, and one with no bit there has nothing left
+pub none-above : (mask s k : ℕ) → mask / 2 ^ s ≡ 0 → s ≤ k → heard mask k ≡ false
+none-above mask s k e h =
+    let q : mask / 2 ^ k ≡ 0 = ap (λ n. mask / 2 ^ n) (sym (add-sub-of-le h)) ∙ rw pow-add (sym (div-div-eq-div-mul mask (2 ^ s) (2 ^ (k - s))) ∙ ap (λ x. x / 2 ^ (k - s)) e ∙ zero-div (2 ^ (k - s))) in
+    rw q refl
+
+nothing-above : (mask : ℕ) → mask < 2 ^ 16 → (j s : ℕ) → s + j ≡ 16 → ((k : ℕ) → s ≤ k → k < 16 → heard mask k ≡ false) → mask / 2 ^ s ≡ 0
+nothing-above mask w zero s e none = let q : 16 ≡ s = omega arith in div-eq-of-lt (subst (λ n. mask < 2 ^ n) q w)
+nothing-above mask w (suc j) s e none =
+    let rest : mask / 2 ^ (s + 1) ≡ 0 = nothing-above mask w j (s + 1) (omega arith) (λ k a b. none k (omega arith) b) in
+    let half : mask / 2 ^ s / 2 ≡ 0 = halved mask s (mask / 2 ^ s) refl ∙ rest in
+    let bit : mask / 2 ^ s % 2 ≡ 1 → ⊥ = eqb-false (mask / 2 ^ s % 2) 1 (none s (omega arith) (omega arith)) in
+    zero-of (mask / 2 ^ s) half bit
+  where
+    zero-of : (x : ℕ) → x / 2 ≡ 0 → (x % 2 ≡ 1 → ⊥) → x ≡ 0
+    zero-of x a b = omega arith
+
+-- strangers are the bits above the sources that exist
+mark-in : (mask k : ℕ) → k < 16 → getD (marksIn mask) k false ≡ heard mask k
+unfolding marksIn
+mark-in mask k h = getD-tab 16 (heard mask) false k h
+
+pub strangers-none : (d : Description) (mask s : ℕ) → d .«source_count» ≡ s → mask / 2 ^ s ≡ 0 → strangers d (marksIn mask) ≡ false
+unfolding strangers
+strangers-none d mask s q e = rw q (any-none (λ u. getD (marksIn mask) u false && leb s u) 0 16 (λ k a b. go k b (leb s k) refl))
+  where
+    go : (k : ℕ) → k < 16 → (b : Bool) → leb s k ≡ b → (getD (marksIn mask) k false && leb s k) ≡ false
+    go k h true f = and-false-left (getD (marksIn mask) k false) (leb s k) (mark-in mask k h ∙ none-above mask s k e (leb-true s k f))
+    go k h false f = and-false-right (getD (marksIn mask) k false) (leb s k) f
+
+pub strangers-some : (d : Description) (mask s : ℕ) → d .«source_count» ≡ s → s ≤ 16 → mask < 2 ^ 16 → (mask / 2 ^ s ≡ 0 → ⊥) → strangers d (marksIn mask) ≡ true
+unfolding strangers
+strangers-some d mask s q few w some = rw q (true-of (anyN (λ u. getD (marksIn mask) u false && leb s u) 0 16) (λ e. some (nothing-above mask w (16 - s) s (omega arith) (λ k a b. sym (mark-in mask k b) ∙ and-false-of (getD (marksIn mask) k false) (leb s k) (le-leb s k a) (none-any (λ u. getD (marksIn mask) u false && leb s u) 0 16 e k (omega arith) b)))))
+  where
+    and-false-of : (a b : Bool) → b ≡ true → (a && b) ≡ false → a ≡ false
+    and-false-of true b e f = sym e ∙ f
+    and-false-of false b e f = refl
+
+-- a mask of 0: no source arrives, none is too soon, and the arrivals do nothing
+silent : (u : ℕ) → u < 16 → getD (marksIn 0) u false ≡ false
+silent u h = mark-in 0 u h ∙ none-above 0 0 u (zero-div (2 ^ 0)) (omega arith)
+
+arrive-silent : (d : Description) (m : Machine) → d .«source_count» ≤ 16 → m ≡ arrive d (marksIn 0) m
+unfolding arrive upTo
+arrive-silent d m h = go (d .«source_count») h
+  where
+    go : (n : ℕ) → n ≤ 16 → m ≡ upTo n (arriveOne d (marksIn 0)) m
+    go zero h = refl
+    go (suc n) h = arrive-off d (marksIn 0) n m (silent n (omega arith)) ∙ ap (arriveOne d (marksIn 0) n) (go n (omega arith))
+
+soon-silent : (d : Description) (t : ℕ) (m : Machine) → d .«source_count» ≤ 16 → tooSoon d t (marksIn 0) m ≡ false
+unfolding tooSoon
+soon-silent d t m h = any-none _ 0 (d .«source_count») (λ k a b. and-false-left (getD (marksIn 0) k false) _ (silent k (omega arith)))
+
+-- so that such a call is a tick of the task that is awake
+pub quiet-done : (d : Description) (t : ℕ) (finish : Bool) (h late : ℕ) (aw aw′ wa wa′ dr dr′ : List Bool) (us us′ ag : List ℕ) → d .«source_count» ≤ 16 → judgeAt d t ≡ Done → lawful d t (parts aw us wa dr (older d t late ag)) ≡ true → h ≡ highestIn aw (d .«task_count») → parts aw′ us′ wa′ dr′ (older d t late ag) ≡ endRun d h finish (runTask h (parts aw us wa dr (older d t late ag))) → record { outcome = Done; machine = parts aw′ us′ wa′ dr′ (older d t (late + 1) ag) } ≡ plainTick d t (parts aw us wa dr (older d t late ag)) (record { marks = marksIn 0 }) finish
+quiet-done d t finish h late aw aw′ wa wa′ dr dr′ us us′ ag few e l q s =
+    let m = parts aw us wa dr (older d t late ag) in
+    tick-done d t m (parts aw′ us′ wa′ dr′ (older d t (late + 1) ag)) (record { marks = marksIn 0 }) finish e l (strangers-none d 0 (d .«source_count») refl (zero-div (2 ^ d .«source_count»))) (soon-silent d t m few)
+    (ap (parts aw′ us′ wa′ dr′) (sym (older-more d t late 1 ag)) ∙ step-whole d t (marksIn 0) finish m aw′ wa′ dr′ us′ (older d t late ag) (s ∙ act-whole d (marksIn 0) finish h m m (arrive-silent d m few) q))
+
+-- ages that were late and are up to date
+pub caught-up : (d : Description) (t late : ℕ) (aw wa dr : List Bool) (us ag ag′ : List ℕ) → ag′ ≡ older d t late ag → parts aw us wa dr (older d t 0 ag′) ≡ parts aw us wa dr (older d t late ag)
+caught-up d t late aw wa dr us ag ag′ e =
+    let z : late + 0 ≡ late = omega arith in
+    ap (parts aw us wa dr) (ap (older d t 0) e ∙ older-more d t late 0 ag ∙ ap (λ n. older d t n ag) z)
+
+-- at the start no ages are late, and no task is awake
+pub start-late : (d : Description) (t : ℕ) (m : Machine) → d .«source_count» ≤ 16 → m ≡ idle d t → lagging d t 0 m ≡ idle d t
+unfolding idle
+start-late d t m few e = ap (lagging d t 0) e ∙ ap (parts (idle d t .awake) (idle d t .used) (idle d t .waiting) (idle d t .dropped)) (older-none d t (idle d t .ages) low)
+  where
+    low : (u : ℕ) → u < d .«source_count» → getD (idle d t .ages) u 0 ≤ spacingOf d t (33 + u)
+    low u h =
+        let q : getD (idle d t .ages) u 0 ≡ spacingOf d t (33 + u) = getD-tab 16 _ 0 u (omega arith) ∙ rw (lt-ltb u (d .«source_count») h) refl in
+        omega (arith, q)
+
+pub start-asleep : (d : Description) (t : ℕ) (m : Machine) (n : ℕ) → m ≡ idle d t → 0 ≡ highestIn (m .awake) n
+unfolding idle highestIn
+start-asleep d t m n e = sym (ap (λ (k : Machine). highestIn (k .awake) n) e ∙ go n)
+  where
+    go : (n : ℕ) → highestIn (idle d t .awake) n ≡ 0
+    go zero = refl
+    go (suc n) = rw (getD-same 32 n false, highestIn) (go n)
+
 -- an answer as its code and its record
-pub coded : (r r′ : Ticked) → r ≡ r′ → (codeOf (r .outcome) ≡ codeOf (r′ .outcome)) × (r .machine ≡ r′ .machine)
+coded : (r r′ : Ticked) → r ≡ r′ → (codeOf (r .outcome) ≡ codeOf (r′ .outcome)) × (r .machine ≡ r′ .machine)
 coded r r′ e = (ap (λ (k : Ticked). codeOf (k .outcome)) e, ap (λ (k : Ticked). k .machine) e)
+
+pub answer-coded : (d : Description) (t mask : ℕ) (finish : Bool) (marks : List Bool) (m : Machine) (r : Ticked) → marks ≡ marksIn mask → r ≡ plainTick d t m (record { marks = marks }) finish → Coded d t m mask finish (codeOf (r .outcome)) (r .machine)
+answer-coded d t mask finish marks m r e q = coded r _ (q ∙ ap (λ k. plainTick d t m (record { marks = k }) finish) e)
 
 -- as many calls as whole fours, the i-th being that of the i-th four
 pub calls-length : (bytes : List ℕ) → length (callsIn bytes) ≡ length bytes / 4

@@ -20,17 +20,26 @@ use Rattle.theory.proofs.Range.{all-at}
 use Rattle.theory.proofs.WellFormed.{WellFormed}
 use Rattle.theory.proofs.Firing.{to-some, to-most}
 use Rattle.steps.specs.declared.plan.Plan.{Plan}
-use Rattle.steps.specs.Parts.{PlanOf, Sound, Countable}
+use Rattle.steps.specs.Parts.{Enters, PlanOf, Sound, Countable}
 use Rattle.machine.specs.Judged.{Planned}
 
--- the steps may go by a plan of an accepted description
+-- a plan of an accepted description enters tasks alone
+entered-to : (d : Description) (t : ℕ) (p : Plan) → WellFormed d → PlanOf d t p → (n : ℕ) → n ≤ p .links → Enters (p .to) n
+entered-to d t p g r n low = record {
+  few = omega (arith, r .placed .linked .many, g .few-links);
+  some = λ l h.
+      let k : l < d .«link_count» = omega (arith, r .placed .linked .many) in
+      omega (arith, r .placed .linked .enters l (omega arith), to-some d g l k);
+  most = λ l h.
+      let k : l < d .«link_count» = omega (arith, r .placed .linked .many) in
+      omega (arith, r .placed .linked .enters l (omega arith), to-most d g l k);
+}
+
+-- the steps may go by it
 pub plan-sound : (d : Description) (t : ℕ) (p : Plan) → WellFormed d → PlanOf d t p → Sound p
 plan-sound d t p g r = record {
-  entered = record {
-    few = omega (arith, r .linked .many, g .few-links);
-    some = λ l h. let k : l < d .«link_count» = omega (arith, r .linked .many) in omega (arith, r .linked .enters l h, to-some d g l k);
-    most = λ l h. let k : l < d .«link_count» = omega (arith, r .linked .many) in omega (arith, r .linked .enters l h, to-most d g l k);
-  };
+  entered = entered-to d t p g r (p .links) (omega arith);
+  bounded = λ x. entered-to d t p g r (getD (p .last) x 0) (r .placed .until .0 x);
   few-tasks = omega (arith, r .as-many, g .few-tasks);
   few-sources = omega (arith, r .as-wide, g .few-sources);
 }

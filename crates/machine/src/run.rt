@@ -1,6 +1,5 @@
 // A run of many tick calls from the start: the description is judged and tabulated once, and the record is lent part by part.
 
-use crate::rules::strangers;
 use crate::rules::too_soon;
 use crate::tick::refused;
 use fields::half_at;
@@ -12,29 +11,42 @@ use model::Ticked;
 use steps::plan::Plan;
 use steps::plan::idle_of;
 use steps::plan::plan_of;
-use steps::step::step;
+use steps::step::act;
+use steps::step::age_all;
+use steps::step::serve;
 ghost use mathlib.Core.Path.{_≡_};
+ghost use mathlib.Core.Bool.{false};
+ghost use lib.ListN.{replicate};
+ghost use Prim.Native.Nat.{_+_, _≤_, _<_, _/_, _^_};
 ghost use Rattle.model.specs.declared.Outcome.the-variants.{Done};
-ghost use Rattle.model.specs.Machine.{blankMachine};
+ghost use Rattle.model.specs.Machine.{blankMachine, highestIn};
 ghost use Rattle.model.specs.Verdicts.{judgeAt};
 ghost use Rattle.theory.proofs.WellFormed.{WellFormed};
-ghost use Rattle.steps.specs.Parts.{parts, Sound, Countable, GapsOf};
+ghost use Rattle.steps.specs.Parts.{parts, plan, Sound, Countable, GapsOf};
 ghost use Rattle.machine.specs.Judged.{Planned};
 ghost use Rattle.machine.specs.Run.{marksIn, callsIn, Advances, RunIs, RunOf};
 
-// The marks of a mask: its lowest bit is source 33.
-fn marks_in(mask: u16) -> [bool; 16]
-    ensures { λ r. ⌜ r ≡ marksIn mask ⌝ }
+// What is left of a mask above the sources that exist.
+fn above(mask: u16, sources: usize) -> usize
+    requires { ⌜ sources ≤ 16 ⌝ }
+    ensures { λ r. ⌜ r ≡ mask / 2 ^ sources ⌝ }
 {
-    let mut marks = [false; 16];
+    let all = mask as usize;
+    all >> sources
+}
+
+// The marks of a mask, whose lowest bit is source 33, of sources that exist, in place of marks that are clear.
+fn mark(mask: u16, sources: usize, marks: &mut [bool; 16])
+    requires { ⌜ (sources ≤ 16) × (mask / 2 ^ sources ≡ 0) × (now marks ≡ replicate 16 false) ⌝ }
+    ensures { λ _. ⌜ now (marks .exit) ≡ marksIn mask ⌝ }
+{
     let mut rest = mask;
     let mut u: usize = 0;
-    while u < 16 {
+    while u < sources {
         marks[u] = rest % 2 == 1;
         rest = rest / 2;
         u += 1;
     }
-    marks
 }
 
 // A record of zeros.
@@ -55,28 +67,80 @@ fn blank() -> Machine
     }
 }
 
-// One call of a run, on a record that keeps the rules, so that 16 is not looked for: the refusal's number, or 0 and a tick.
-pub fn advance(
-    p: Plan,
-    marks: &[bool; 16],
+// One call of a run, on a record that keeps the rules, so that 16 is not looked for: the refusal's number, or 0 and a tick. The
+// ages are late by some ticks, and brought up to date where a source arrives; top is the highest awake task.
+pub fn advance<'a>(
+    from: &'a [u8; 256],
+    to: &'a [u8; 256],
+    first: &'a [u16; 256],
+    last: &'a [u16; 256],
+    links: usize,
+    tasks: usize,
+    runs: &'a [u32; 32],
+    sources: usize,
+    gaps: &'a [u32; 16],
+    mask: u16,
     finish: bool,
     awake: &mut [bool; 32],
     used: &mut [u32; 32],
     waiting: &mut [bool; 256],
     dropped: &mut [bool; 256],
     ages: &mut [u32; 16],
+    late: &mut u64,
+    top: &mut usize,
 ) -> u8
-    requires { ⌜ Sound p × Countable (now used) ⌝ }
-    ensures { λ r. ⌜ Advances p (now (marks .entry)) finish (parts (now (awake .entry)) (now (used .entry)) (now (waiting .entry)) (now (dropped .entry)) (now (ages .entry))) (parts (now (awake .exit)) (now (used .exit)) (now (waiting .exit)) (now (dropped .exit)) (now (ages .exit))) r ⌝ }
+    requires { ⌜ Sound (plan links (now from) (now to) (now first) (now last) tasks (now runs) sources (now gaps)) × Countable (now used) × (now late < 2 ^ 63) × (now top ≡ highestIn (now awake) tasks) ⌝ }
+    ensures { λ r. ⌜ Advances (plan links (now (from .entry)) (now (to .entry)) (now (first .entry)) (now (last .entry)) tasks (now (runs .entry)) sources (now (gaps .entry))) mask finish (parts (now (awake .entry)) (now (used .entry)) (now (waiting .entry)) (now (dropped .entry)) (now (ages .entry))) (now (late .entry)) (parts (now (awake .exit)) (now (used .exit)) (now (waiting .exit)) (now (dropped .exit)) (now (ages .exit))) (now (late .exit)) (now (top .exit)) r ⌝ }
 {
-    let sources = p.sources;
-    if strangers(sources, marks) {
+    let h = *top;
+    let behind = *late;
+    if mask == 0 {
+        *top = serve(
+            from,
+            to,
+            first,
+            last,
+            links,
+            tasks,
+            runs,
+            h,
+            finish,
+            awake,
+            used,
+            waiting,
+            dropped,
+        );
+        *late = behind + 1;
+        return 0;
+    }
+    if above(mask, sources) != 0 {
         return 15;
     }
-    if too_soon(&p.gaps, sources, marks, ages) {
+    let mut marks = [false; 16];
+    mark(mask, sources, &mut marks);
+    age_all(gaps, sources, behind, &mut *ages);
+    *late = 0;
+    if too_soon(gaps, sources, &marks, ages) {
         return 14;
     }
-    step(p, marks, finish, awake, used, waiting, dropped, ages);
+    *top = act(
+        from,
+        to,
+        first,
+        last,
+        links,
+        tasks,
+        runs,
+        sources,
+        &marks,
+        finish,
+        awake,
+        used,
+        waiting,
+        dropped,
+        ages,
+    );
+    *late = 1;
     0
 }
 
@@ -90,29 +154,45 @@ pub fn run_planned(p: Plan, calls: &[u8], outcomes: &mut [u8]) -> Ticked
     if outcomes.len() < n {
         return refused(Refusal::ShortPage, blank());
     }
+    let links = p.links;
+    let tasks = p.tasks;
+    let sources = p.sources;
     let m = idle_of(p);
     let mut awake = m.awake;
     let mut used = m.used;
     let mut waiting = m.waiting;
     let mut dropped = m.dropped;
     let mut ages = m.ages;
+    let mut late: u64 = 0;
+    let mut top: usize = 0;
     let mut i: usize = 0;
     while i < n {
         let at = 4 * i;
-        let marks = marks_in(half_at(calls, at));
+        let mask = half_at(calls, at);
         let finish = calls[at + 2] != 0;
         outcomes[i] = advance(
-            p,
-            &marks,
+            &p.from,
+            &p.to,
+            &p.first,
+            &p.last,
+            links,
+            tasks,
+            &p.runs,
+            sources,
+            &p.gaps,
+            mask,
             finish,
             &mut awake,
             &mut used,
             &mut waiting,
             &mut dropped,
             &mut ages,
+            &mut late,
+            &mut top,
         );
         i += 1;
     }
+    age_all(&p.gaps, sources, late, &mut ages);
     let last = Machine {
         awake,
         used,

@@ -25,8 +25,19 @@ pub fn stepped(p: Plan, marks: &[bool; 16], finish: bool, m: Machine) -> Machine
     let mut waiting = m.waiting;
     let mut dropped = m.dropped;
     let mut ages = m.ages;
+    let links = p.links;
+    let tasks = p.tasks;
+    let sources = p.sources;
     step(
-        p,
+        &p.from,
+        &p.to,
+        &p.first,
+        &p.last,
+        links,
+        tasks,
+        &p.runs,
+        sources,
+        &p.gaps,
         marks,
         finish,
         &mut awake,

@@ -1,12 +1,12 @@
 // The steps of a tick, on tables of the description and on the parts of the machine's record, each lent by itself.
 
-use crate::plan::Plan;
 ghost use mathlib.Core.Path.{_≡_};
-ghost use mathlib.Core.Bool.{_||_};
-ghost use Prim.Native.Nat.{_+_, _≤_, _<_, min};
+ghost use mathlib.Core.Bool.{false, _||_, cond};
+ghost use Prim.Native.Nat.{_+_, _≤_, _<_, _^_, min};
+ghost use lib.ListN.{getD};
 ghost use lib.Dec.{eqb};
 ghost use Rattle.model.specs.Machine.{highestIn};
-ghost use Rattle.steps.specs.Parts.{Enters, Fires, Arrives, Runs, Clears, Ends, Ages, Sound, Countable, Steps, parts};
+ghost use Rattle.steps.specs.Parts.{Enters, Bounded, Fires, Arrives, Runs, Clears, Ends, Serves, Acts, Ages, Sound, Countable, Steps, parts, plan};
 
 // The number of a task as a place in a table.
 pub fn number(x: u8) -> usize
@@ -23,22 +23,33 @@ fn node(x: usize) -> u8
     x as u8
 }
 
-// Node x fires: each link out of it that waits is dropped, waits anew and wakes its task.
-pub fn fire(
-    from: &[u8; 256],
-    to: &[u8; 256],
-    links: usize,
-    x: u8,
+// A place that a table holds.
+fn place(x: u16) -> usize
+    ensures { λ r. ⌜ r ≡ x ⌝ }
+{
+    x as usize
+}
+
+// Node x fires: each link out of it that waits is dropped, waits anew and wakes its task. The links out of x lie from its first
+// place up to its last.
+pub fn fire<'a>(
+    from: &'a [u8; 256],
+    to: &'a [u8; 256],
+    first: &'a [u16; 256],
+    last: &'a [u16; 256],
+    x: usize,
     awake: &mut [bool; 32],
     waiting: &mut [bool; 256],
     dropped: &mut [bool; 256],
 )
-    requires { ⌜ Enters (now to) links ⌝ }
-    ensures { λ _. ⌜ Fires (now (from .entry)) (now (to .entry)) links x (now (awake .entry)) (now (waiting .entry)) (now (dropped .entry)) (now (awake .exit)) (now (waiting .exit)) (now (dropped .exit)) ⌝ }
+    requires { ⌜ Enters (now to) (getD (now last) x 0) × (x < 256) ⌝ }
+    ensures { λ _. ⌜ Fires (now (from .entry)) (now (to .entry)) (now (first .entry)) (now (last .entry)) x (now (awake .entry)) (now (waiting .entry)) (now (dropped .entry)) (now (awake .exit)) (now (waiting .exit)) (now (dropped .exit)) ⌝ }
 {
-    let mut l: usize = 0;
-    while l < links {
-        if from[l] == x {
+    let y = node(x);
+    let end = place(last[x]);
+    let mut l = place(first[x]);
+    while l < end {
+        if from[l] == y {
             if waiting[l] {
                 dropped[l] = true;
             }
@@ -53,7 +64,8 @@ pub fn fire(
 pub fn arrive<'a>(
     from: &'a [u8; 256],
     to: &'a [u8; 256],
-    links: usize,
+    first: &'a [u16; 256],
+    last: &'a [u16; 256],
     marks: &[bool; 16],
     sources: usize,
     awake: &mut [bool; 32],
@@ -61,8 +73,8 @@ pub fn arrive<'a>(
     dropped: &mut [bool; 256],
     ages: &mut [u32; 16],
 )
-    requires { ⌜ Enters (now to) links × (sources ≤ 16) ⌝ }
-    ensures { λ _. ⌜ Arrives (now (from .entry)) (now (to .entry)) links (now (marks .entry)) sources (now (awake .entry)) (now (waiting .entry)) (now (dropped .entry)) (now (ages .entry)) (now (awake .exit)) (now (waiting .exit)) (now (dropped .exit)) (now (ages .exit)) ⌝ }
+    requires { ⌜ Bounded (now to) (now last) × (sources ≤ 16) ⌝ }
+    ensures { λ _. ⌜ Arrives (now (from .entry)) (now (to .entry)) (now (first .entry)) (now (last .entry)) (now (marks .entry)) sources (now (awake .entry)) (now (waiting .entry)) (now (dropped .entry)) (now (ages .entry)) (now (awake .exit)) (now (waiting .exit)) (now (dropped .exit)) (now (ages .exit)) ⌝ }
 {
     let mut u: usize = 0;
     while u < sources {
@@ -70,8 +82,9 @@ pub fn arrive<'a>(
             fire(
                 from,
                 to,
-                links,
-                node(33 + u),
+                first,
+                last,
+                33 + u,
                 &mut *awake,
                 &mut *waiting,
                 &mut *dropped,
@@ -109,6 +122,16 @@ pub fn run_task(h: usize, used: &mut [u32; 32])
     used[h - 1] = more;
 }
 
+// The waiting mark of a link into a task once those into h clear.
+fn kept(waiting: bool, to: u8, h: u8) -> bool
+    ensures { λ r. ⌜ r ≡ cond (eqb to h) false waiting ⌝ }
+{
+    if to == h {
+        return false;
+    }
+    waiting
+}
+
 // The waiting marks on links into task h clear.
 pub fn clear_into(to: &[u8; 256], links: usize, h: u8, waiting: &mut [bool; 256])
     requires { ⌜ links ≤ 256 ⌝ }
@@ -116,9 +139,7 @@ pub fn clear_into(to: &[u8; 256], links: usize, h: u8, waiting: &mut [bool; 256]
 {
     let mut l: usize = 0;
     while l < links {
-        if to[l] == h {
-            waiting[l] = false;
-        }
+        waiting[l] = kept(waiting[l], to[l], h);
         l += 1;
     }
 }
@@ -133,10 +154,12 @@ fn ends(used: u32, run: u32, finish: bool) -> bool
     finish
 }
 
-// Step 3: a run that ends puts its task to sleep, clears the marks on links into it, and fires it.
+// Step 3: a run that ends puts its task to sleep, clears the marks on links into it, and fires it. The answer is whether it ends.
 pub fn end_run<'a>(
     from: &'a [u8; 256],
     to: &'a [u8; 256],
+    first: &'a [u16; 256],
+    last: &'a [u16; 256],
     links: usize,
     runs: &'a [u32; 32],
     h: usize,
@@ -145,44 +168,153 @@ pub fn end_run<'a>(
     used: &mut [u32; 32],
     waiting: &mut [bool; 256],
     dropped: &mut [bool; 256],
-)
-    requires { ⌜ Enters (now to) links × (h ≤ 32) ⌝ }
-    ensures { λ _. ⌜ Ends (now (from .entry)) (now (to .entry)) links (now (runs .entry)) h finish (now (awake .entry)) (now (used .entry)) (now (waiting .entry)) (now (dropped .entry)) (now (awake .exit)) (now (used .exit)) (now (waiting .exit)) (now (dropped .exit)) ⌝ }
+) -> bool
+    requires { ⌜ Bounded (now to) (now last) × (links ≤ 256) × (h ≤ 32) ⌝ }
+    ensures { λ r. ⌜ Ends (now (from .entry)) (now (to .entry)) (now (first .entry)) (now (last .entry)) links (now (runs .entry)) h finish (now (awake .entry)) (now (used .entry)) (now (waiting .entry)) (now (dropped .entry)) (now (awake .exit)) (now (used .exit)) (now (waiting .exit)) (now (dropped .exit)) r ⌝ }
 {
     if h == 0 {
-        return;
+        return false;
     }
     if ends(used[h - 1], runs[h - 1], finish) {
-        let x = node(h);
         awake[h - 1] = false;
         used[h - 1] = 0;
-        clear_into(to, links, x, &mut *waiting);
-        fire(from, to, links, x, awake, waiting, dropped);
+        clear_into(to, links, node(h), &mut *waiting);
+        fire(from, to, first, last, h, awake, waiting, dropped);
+        return true;
     }
+    false
 }
 
-// An age one tick later: at most the spacing.
-fn aged(age: u32, gap: u32) -> u32
-    ensures { λ r. ⌜ r ≡ min gap (age + 1) ⌝ }
+// Steps 2 and 3 for h, the highest awake task, or 0: it runs, and its run ends if this tick ends it. The answer is the highest
+// awake task after them, which is looked up anew only where a run ends.
+pub fn serve<'a>(
+    from: &'a [u8; 256],
+    to: &'a [u8; 256],
+    first: &'a [u16; 256],
+    last: &'a [u16; 256],
+    links: usize,
+    tasks: usize,
+    runs: &'a [u32; 32],
+    h: usize,
+    finish: bool,
+    awake: &mut [bool; 32],
+    used: &mut [u32; 32],
+    waiting: &mut [bool; 256],
+    dropped: &mut [bool; 256],
+) -> usize
+    requires { ⌜ Bounded (now to) (now last) × (links ≤ 256) × (tasks ≤ 32) × Countable (now used) × (h ≡ highestIn (now awake) tasks) ⌝ }
+    ensures { λ r. ⌜ Serves (now (from .entry)) (now (to .entry)) (now (first .entry)) (now (last .entry)) links tasks (now (runs .entry)) h finish (now (awake .entry)) (now (used .entry)) (now (waiting .entry)) (now (dropped .entry)) (now (awake .exit)) (now (used .exit)) (now (waiting .exit)) (now (dropped .exit)) r ⌝ }
 {
-    if age < gap { age + 1 } else { gap }
+    run_task(h, &mut *used);
+    if end_run(
+        from,
+        to,
+        first,
+        last,
+        links,
+        runs,
+        h,
+        finish,
+        &mut *awake,
+        &mut *used,
+        &mut *waiting,
+        &mut *dropped,
+    ) {
+        return highest(awake, tasks);
+    }
+    h
 }
 
-// Step 4: ages rise by one, up to the spacing.
-pub fn age_all(gaps: &[u32; 16], sources: usize, ages: &mut [u32; 16])
-    requires { ⌜ sources ≤ 16 ⌝ }
-    ensures { λ _. ⌜ Ages (now (gaps .entry)) sources (now (ages .entry)) (now (ages .exit)) ⌝ }
+// The first three steps of a tick. The answer is the highest awake task after them.
+pub fn act<'a>(
+    from: &'a [u8; 256],
+    to: &'a [u8; 256],
+    first: &'a [u16; 256],
+    last: &'a [u16; 256],
+    links: usize,
+    tasks: usize,
+    runs: &'a [u32; 32],
+    sources: usize,
+    marks: &[bool; 16],
+    finish: bool,
+    awake: &mut [bool; 32],
+    used: &mut [u32; 32],
+    waiting: &mut [bool; 256],
+    dropped: &mut [bool; 256],
+    ages: &mut [u32; 16],
+) -> usize
+    requires { ⌜ Bounded (now to) (now last) × (links ≤ 256) × (tasks ≤ 32) × (sources ≤ 16) × Countable (now used) ⌝ }
+    ensures { λ r. ⌜ Acts (now (from .entry)) (now (to .entry)) (now (first .entry)) (now (last .entry)) links tasks (now (runs .entry)) sources (now (marks .entry)) finish (parts (now (awake .entry)) (now (used .entry)) (now (waiting .entry)) (now (dropped .entry)) (now (ages .entry))) (parts (now (awake .exit)) (now (used .exit)) (now (waiting .exit)) (now (dropped .exit)) (now (ages .exit))) r ⌝ }
+{
+    arrive(
+        from,
+        to,
+        first,
+        last,
+        marks,
+        sources,
+        &mut *awake,
+        &mut *waiting,
+        &mut *dropped,
+        ages,
+    );
+    let h = highest(awake, tasks);
+    serve(
+        from,
+        to,
+        first,
+        last,
+        links,
+        tasks,
+        runs,
+        h,
+        finish,
+        awake,
+        used,
+        waiting,
+        dropped,
+    )
+}
+
+// A number of ticks as a number of 64 bits.
+fn wide(x: u32) -> u64
+    ensures { λ r. ⌜ r ≡ x ⌝ }
+{
+    x as u64
+}
+
+// An age some ticks later: at most the spacing.
+fn aged(age: u32, gap: u32, late: u64) -> u32
+    requires { ⌜ late < 2 ^ 63 ⌝ }
+    ensures { λ r. ⌜ r ≡ min gap (age + late) ⌝ }
+{
+    let sum = wide(age) + late;
+    if sum < wide(gap) { sum as u32 } else { gap }
+}
+
+// Step 4, for some ticks at once: ages rise by their number, up to the spacing.
+pub fn age_all(gaps: &[u32; 16], sources: usize, late: u64, ages: &mut [u32; 16])
+    requires { ⌜ (sources ≤ 16) × (late < 2 ^ 63) ⌝ }
+    ensures { λ _. ⌜ Ages (now (gaps .entry)) sources late (now (ages .entry)) (now (ages .exit)) ⌝ }
 {
     let mut u: usize = 0;
     while u < sources {
-        ages[u] = aged(ages[u], gaps[u]);
+        ages[u] = aged(ages[u], gaps[u], late);
         u += 1;
     }
 }
 
 // One tick: the four steps.
-pub fn step(
-    p: Plan,
+pub fn step<'a>(
+    from: &'a [u8; 256],
+    to: &'a [u8; 256],
+    first: &'a [u16; 256],
+    last: &'a [u16; 256],
+    links: usize,
+    tasks: usize,
+    runs: &'a [u32; 32],
+    sources: usize,
+    gaps: &'a [u32; 16],
     marks: &[bool; 16],
     finish: bool,
     awake: &mut [bool; 32],
@@ -191,36 +323,25 @@ pub fn step(
     dropped: &mut [bool; 256],
     ages: &mut [u32; 16],
 )
-    requires { ⌜ Sound p × Countable (now used) ⌝ }
-    ensures { λ _. ⌜ Steps p (now (marks .entry)) finish (parts (now (awake .entry)) (now (used .entry)) (now (waiting .entry)) (now (dropped .entry)) (now (ages .entry))) (parts (now (awake .exit)) (now (used .exit)) (now (waiting .exit)) (now (dropped .exit)) (now (ages .exit))) ⌝ }
+    requires { ⌜ Sound (plan links (now from) (now to) (now first) (now last) tasks (now runs) sources (now gaps)) × Countable (now used) ⌝ }
+    ensures { λ _. ⌜ Steps (plan links (now (from .entry)) (now (to .entry)) (now (first .entry)) (now (last .entry)) tasks (now (runs .entry)) sources (now (gaps .entry))) (now (marks .entry)) finish (parts (now (awake .entry)) (now (used .entry)) (now (waiting .entry)) (now (dropped .entry)) (now (ages .entry))) (parts (now (awake .exit)) (now (used .exit)) (now (waiting .exit)) (now (dropped .exit)) (now (ages .exit))) ⌝ }
 {
-    let links = p.links;
-    let tasks = p.tasks;
-    let sources = p.sources;
-    arrive(
-        &p.from,
-        &p.to,
+    act(
+        from,
+        to,
+        first,
+        last,
         links,
-        marks,
+        tasks,
+        runs,
         sources,
-        &mut *awake,
-        &mut *waiting,
-        &mut *dropped,
+        marks,
+        finish,
+        awake,
+        used,
+        waiting,
+        dropped,
         &mut *ages,
     );
-    let h = highest(awake, tasks);
-    run_task(h, &mut *used);
-    end_run(
-        &p.from,
-        &p.to,
-        links,
-        &p.runs,
-        h,
-        finish,
-        &mut *awake,
-        &mut *used,
-        &mut *waiting,
-        &mut *dropped,
-    );
-    age_all(&p.gaps, sources, &mut *ages);
+    age_all(gaps, sources, 1, ages);
 }

@@ -27,7 +27,7 @@ unfolding lawful
 returns-2 c = λ d t r.
     let m = c .before .before .before .before .before .before .before .before .before .before .before .before .before .before .before .args .t2 in
     let p = c .before .before .before .before .before .before .before .before .before .before .before .before .before .before .before .args .t1 in
-    sym (and-false-right (allN (taskRule d m) 1 32) (allN (linkRule d m) 0 256 && allN (sourceRule d t m) 0 16) (and-false-left (allN (linkRule d m) 0 256) (allN (sourceRule d t m) 0 16) (sym (c .before .links-lawful .ensures d (p .from) (m .used) (m .ages) (r .linked)) ∙ not-true (c .before .links-lawful .result) (c .if2 .taken))))
+    sym (and-false-right (allN (taskRule d m) 1 32) (allN (linkRule d m) 0 256 && allN (sourceRule d t m) 0 16) (and-false-left (allN (linkRule d m) 0 256) (allN (sourceRule d t m) 0 16) (sym (c .before .links-lawful .ensures d (p .from) (m .used) (m .ages) (r .placed .linked)) ∙ not-true (c .before .links-lawful .result) (c .if2 .taken))))
 
 sources-lawful-requires : tie.Need-sources-lawful-requires
 sources-lawful-requires c κs = search needs
@@ -37,7 +37,7 @@ unfolding lawful
 returns-3 c = λ d t r.
     let m = c .before .before .before .before .before .before .before .before .before .before .before .before .before .before .before .before .before .before .before .before .args .t2 in
     let p = c .before .before .before .before .before .before .before .before .before .before .before .before .before .before .before .before .before .before .before .before .args .t1 in
-    c .sources-lawful .ensures d t (m .awake) (m .waiting) (m .dropped) (m .used) (r .as-wide) (r .spaced) ∙ sym (and-true (allN (taskRule d m) 1 32) (allN (linkRule d m) 0 256 && allN (sourceRule d t m) 0 16) (sym (c .before .before .before .before .before .before .before .before .before .before .before .before .before .before .tasks-lawful .ensures d (m .waiting) (m .dropped) (m .ages) (r .same-runs) (r .as-many)) ∙ not-false (c .before .before .before .before .before .before .before .before .before .before .before .before .before .before .tasks-lawful .result) (c .before .before .before .before .before .before .before .before .before .before .before .before .before .if1 .left)) ∙ and-true (allN (linkRule d m) 0 256) (allN (sourceRule d t m) 0 16) (sym (c .before .before .before .before .before .before .links-lawful .ensures d (p .from) (m .used) (m .ages) (r .linked)) ∙ not-false (c .before .before .before .before .before .before .links-lawful .result) (c .before .before .before .before .before .if2 .left)))
+    c .sources-lawful .ensures d t (m .awake) (m .waiting) (m .dropped) (m .used) (r .as-wide) (r .spaced) ∙ sym (and-true (allN (taskRule d m) 1 32) (allN (linkRule d m) 0 256 && allN (sourceRule d t m) 0 16) (sym (c .before .before .before .before .before .before .before .before .before .before .before .before .before .before .tasks-lawful .ensures d (m .waiting) (m .dropped) (m .ages) (r .same-runs) (r .as-many)) ∙ not-false (c .before .before .before .before .before .before .before .before .before .before .before .before .before .before .tasks-lawful .result) (c .before .before .before .before .before .before .before .before .before .before .before .before .before .if1 .left)) ∙ and-true (allN (linkRule d m) 0 256) (allN (sourceRule d t m) 0 16) (sym (c .before .before .before .before .before .before .links-lawful .ensures d (p .from) (m .used) (m .ages) (r .placed .linked)) ∙ not-false (c .before .before .before .before .before .before .links-lawful .result) (c .before .before .before .before .before .if2 .left)))
 
 pub lawful-spec : {M : Type 1} → statement M
 lawful-spec =

@@ -2,6 +2,7 @@
 use Prim.Native.Nat.{ℕ, _-_, _≤_, _<_}
 use mathlib.Core.Path.{_≡_, refl, _∙_}
 use native.Mathlib.Omega.{arith}
+use borrow.Author.Needs.{needs}
 use lib.ListN.{getD, length, length-set}
 use Rattle.model.specs.Graph.{linkAt}
 use Rattle.theory.proofs.Table.{stored}
@@ -42,11 +43,21 @@ loop-again c =
     let few = c .before .before .before .pre in
     (omega arith, length-set (L .from) (L .l) (linkAt d (L .l) .from) ∙ L .inv .1, length-set (L .to) (L .l) (linkAt d (L .l) .to) ∙ L .inv .2, stored (λ k x. x ≡ linkAt d k .from) 0 (L .from) (L .l) (linkAt d (L .l) .from) (omega (arith, L .inv .1)) (L .inv .3) refl, stored (λ k x. x ≡ linkAt d k .to) 0 (L .to) (L .l) (linkAt d (L .l) .to) (omega (arith, L .inv .2)) (L .inv .4) refl)
 
+firsts-requires : tie.Need-firsts-requires Inv-loop μ-loop
+firsts-requires c κs = search needs
+
+lasts-requires : tie.Need-lasts-requires Inv-loop μ-loop
+lasts-requires c κs = search needs
+
 returns : tie.Need-returns Inv-loop μ-loop
 returns c = λ t g.
-    let L = c .before .before .loop in
+    let L = c .before .before .before .before .before .before .loop in
     record {
-      linked = record { many = refl; leaves = λ l h. L .inv .3 l (omega (arith, c .before .loop-test .left)); enters = λ l h. L .inv .4 l (omega (arith, c .before .loop-test .left)) };
+      placed = record {
+        linked = record { many = refl; leaves = λ l h. L .inv .3 l (omega (arith, c .before .before .before .before .before .loop-test .left)); enters = λ l h. L .inv .4 l (omega (arith, c .before .before .before .before .before .loop-test .left)) };
+        after = c .before .before .before .firsts .ensures;
+        until = c .before .lasts .ensures;
+      };
       as-many = refl;
       same-runs = refl;
       as-wide = refl;
@@ -67,4 +78,6 @@ plan-of-spec =
     add-l
     loop-less
     loop-again
+    firsts-requires
+    lasts-requires
     returns)

@@ -1,29 +1,25 @@
 -- `age_all` meets its contract: after u turns the first u ages have risen. Assumes nothing.
 use Prim.Native.Nat.{ℕ, _-_, _≤_}
-use mathlib.Core.Path.{_≡_, refl, sym, ap, _∙_}
-use mathlib.Core.Bool.{Bool}
-use mathlib.Core.List.{List}
+use mathlib.Core.Path.{_≡_, refl, ap, _∙_}
 use native.Mathlib.Omega.{arith}
 use borrow.Author.Needs.{needs}
 use lib.ListN.{getD}
 use Rattle.model.specs.declared.Description.{Description}
 use Rattle.model.specs.Basics.{upTo}
-use Rattle.theory.proofs.Range.{upTo-more}
-use Rattle.model.specs.Machine.{ageOne, ageAll}
-use Rattle.steps.specs.Parts.{parts, GapsOf}
+use Rattle.steps.specs.Parts.{GapsOf, each, risen}
 use Rattle.steps.proofs.StepLaws.{age-turn}
 use Rattle.steps.proofs.step.age_all.Statement.{statement}
 use Rattle.steps.proofs.step.age_all.Tie as tie
 
 abbrev Inv-loop : tie.InvT-loop
-Inv-loop gaps sources ages₀ u₀ ages u = (u ≤ sources) × ((d : Description) (t : ℕ) (aw wa dr : List Bool) (us : List ℕ) → d .«source_count» ≡ sources → GapsOf d t gaps → parts aw us wa dr ages ≡ upTo u (ageOne d t) (parts aw us wa dr ages₀))
+Inv-loop gaps sources late ages₀ u₀ ages u = (u ≤ sources) × ((d : Description) (t : ℕ) → d .«source_count» ≡ sources → GapsOf d t gaps → ages ≡ each u (risen d t late) ages₀)
 
 abbrev μ-loop : tie.MeasureT-loop
-μ-loop gaps sources ages₀ u₀ ages u = sources - u
+μ-loop gaps sources late ages₀ u₀ ages u = sources - u
 
 loop-holds : tie.Need-loop-holds Inv-loop μ-loop
-unfolding upTo
-loop-holds c = (omega arith, λ d t aw wa dr us e g. refl)
+unfolding upTo each
+loop-holds c = (omega arith, λ d t e g. refl)
 
 mul-aged : tie.Need-mul-aged Inv-loop μ-loop
 mul-aged c = omega arith
@@ -57,15 +53,14 @@ loop-again c =
     let L = c .before .before .before .before .loop in
     let S = c .before .before .before .before .before in
     let T = c .before .before .before .loop-test .taken in
-    (omega arith, λ d t aw wa dr us e g. age-turn d t (L .u) (getD (S .args .gaps .now) (L .u) 0) (c .aged .result) aw wa dr us (L .ages) (g (L .u) (omega (arith, e))) (c .aged .ensures) ∙ ap (ageOne d t (L .u)) (L .inv .1 d t aw wa dr us e g) ∙ sym (upTo-more (L .u) (ageOne d t) (parts aw us wa dr (S .args .ages .now))))
+    (omega arith, λ d t e g. age-turn d t (S .args .late) (L .u) (getD (S .args .gaps .now) (L .u) 0) (c .aged .result) (L .ages) (S .args .ages .now) (g (L .u) (omega (arith, e))) (c .aged .ensures) (L .inv .1 d t e g))
 
 returns : tie.Need-returns Inv-loop μ-loop
-unfolding ageAll
-returns c = λ d t aw wa dr us e g.
+returns c = λ d t e g.
     let L = c .before .loop in
     let S = c .before .before in
     let q : L .u ≡ d .«source_count» = omega (arith, e) in
-    L .inv .1 d t aw wa dr us e g ∙ ap (λ n. upTo n (ageOne d t) (parts aw us wa dr (S .args .ages .now))) q
+    L .inv .1 d t e g ∙ ap (λ n. each n (risen d t (S .args .late)) (S .args .ages .now)) q
 
 pub age-all-spec : {M : Type 1} → statement M
 age-all-spec =

@@ -4,14 +4,14 @@ use mathlib.Core.Path.{_≡_, refl, sym, ap, _∙_}
 use mathlib.Core.Bool.{Bool}
 use mathlib.Core.List.{List}
 use native.Mathlib.Omega.{arith}
-use borrow.Author.Tests.{eq-eqb, ne-eqb}
+use borrow.Author.Needs.{needs}
+use lib.ListN.{getD}
 use Rattle.model.specs.declared.Description.{Description}
 use Rattle.model.specs.Basics.{upTo}
 use Rattle.theory.proofs.Range.{upTo-more}
-use Rattle.model.specs.Graph.{linkAt}
 use Rattle.model.specs.Machine.{clearLink, clearInto}
 use Rattle.steps.specs.Parts.{parts, LinksOf}
-use Rattle.steps.proofs.StepLaws.{cases, clear-on, clear-off}
+use Rattle.steps.proofs.StepLaws.{clear-turn}
 use Rattle.steps.proofs.step.clear_into.Statement.{statement}
 use Rattle.steps.proofs.step.clear_into.Tie as tie
 
@@ -25,8 +25,14 @@ loop-holds : tie.Need-loop-holds Inv-loop μ-loop
 unfolding upTo
 loop-holds c = (omega arith, λ d from aw dr us ag r. refl)
 
-element-copy-out-if1 : tie.Need-element-copy-out-if1 Inv-loop μ-loop
-element-copy-out-if1 c = omega arith
+element-copy-out-kept : tie.Need-element-copy-out-kept Inv-loop μ-loop
+element-copy-out-kept c = omega arith
+
+element-copy-out-kept-2 : tie.Need-element-copy-out-kept-2 Inv-loop μ-loop
+element-copy-out-kept-2 c = omega arith
+
+kept-requires : tie.Need-kept-requires Inv-loop μ-loop
+kept-requires c κs = search needs
 
 element-write-waiting : tie.Need-element-write-waiting Inv-loop μ-loop
 element-write-waiting c = omega arith
@@ -39,11 +45,10 @@ loop-less c = omega arith
 
 loop-again : tie.Need-loop-again Inv-loop μ-loop
 loop-again c =
-    let L = c .before .before .before .loop in
-    let S = c .before .before .before .before in
+    let L = c .before .before .before .before .loop in
+    let S = c .before .before .before .before .before in
     let h = S .args .h in
-    let T = c .before .before .loop-test .taken in
-    (omega arith, λ d from aw dr us ag r. cases (c .if1 .came) (λ w. rw (w .1) (clear-on d h (L .l) (parts aw us (L .waiting) dr ag) (eq-eqb (linkAt d (L .l) .to) h (sym (r .enters (L .l) T) ∙ w .0 .taken)))) (λ w. rw (w .1) (clear-off d h (L .l) (parts aw us (L .waiting) dr ag) (ne-eqb (linkAt d (L .l) .to) h (λ e. w .0 .left (r .enters (L .l) T ∙ e))))) ∙ ap (clearLink d h (L .l)) (L .inv .1 d from aw dr us ag r) ∙ sym (upTo-more (L .l) (clearLink d h) (parts aw us (S .args .waiting .now) dr ag)))
+    (omega arith, λ d from aw dr us ag r. clear-turn d h (L .l) (getD (S .args .to .now) (L .l) 0) (c .kept .result) aw (L .waiting) dr us ag (r .enters (L .l) (c .before .before .before .loop-test .taken)) (c .kept .ensures) ∙ ap (clearLink d h (L .l)) (L .inv .1 d from aw dr us ag r) ∙ sym (upTo-more (L .l) (clearLink d h) (parts aw us (S .args .waiting .now) dr ag)))
 
 returns : tie.Need-returns Inv-loop μ-loop
 unfolding clearInto
@@ -60,7 +65,9 @@ clear-into-spec =
     Inv-loop
     μ-loop
     loop-holds
-    element-copy-out-if1
+    element-copy-out-kept
+    element-copy-out-kept-2
+    kept-requires
     element-write-waiting
     add-l
     loop-less

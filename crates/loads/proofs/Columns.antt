@@ -76,11 +76,13 @@ abbrev pub LevelsFrom : List ℕ → List ℕ → ℕ → ℕ → ℕ → List (
 LevelsFrom adds works n m j levels = (length levels ≡ 32) × ((k u : ℕ) → j ≤ k → k < 32 → u < m → getD (getD levels k []) u 0 ≡ loadBy (getD adds (32 + u) 0) works n (suc k))
 
 pub levels-none : (adds works : List ℕ) (n m : ℕ) → m ≤ 16 → LevelsFrom adds works n m n (replicate 32 (replicate 16 0))
-levels-none adds works n m few =
-    (refl, λ k u p q r.
-    ap (λ l. getD l u 0) (getD-replicate 32 k (replicate 16 0) [] q)
-    ∙ zero-entry 16 u (omega arith)
-    ∙ sym (loadBy-none (getD adds (32 + u) 0) works n (suc k) (omega arith)))
+levels-none adds works n m few = (
+  refl,
+  λ k u p q r.
+      ap (λ l. getD l u 0) (getD-replicate 32 k (replicate 16 0) [] q)
+      ∙ zero-entry 16 u (omega arith)
+      ∙ sym (loadBy-none (getD adds (32 + u) 0) works n (suc k) (omega arith)),
+)
 
 pub levels-put : (adds works : List ℕ) (n m j : ℕ) (levels : List (List ℕ)) (row : List ℕ) → j < 32 → ((u : ℕ) → u < m → getD row u 0 ≡ loadBy (getD adds (32 + u) 0) works n (suc j)) → LevelsFrom adds works n m (suc j) levels → LevelsFrom adds works n m j (set levels j row)
 levels-put adds works n m j levels row p h F = (simp length-set (F .0), λ k u q r t. go k u r t q (cmp j k))
@@ -99,10 +101,12 @@ top-zero f zero h = refl
 top-zero f (suc n) h = rw (top-zero f n h, h (0 + n)) refl
 
 pub starts-none : (adds works : List ℕ) (n : ℕ) → StartsFrom adds works n n (replicate 32 0)
-starts-none adds works n =
-    (refl, λ c p q.
-    zero-entry 32 c q
-    ∙ sym (top-zero (λ k. loadBy (getD adds k 0) works n (suc c)) c (λ k. loadBy-none (getD adds k 0) works n (suc c) (omega arith))))
+starts-none adds works n = (
+  refl,
+  λ c p q.
+      zero-entry 32 c q
+      ∙ sym (top-zero (λ k. loadBy (getD adds k 0) works n (suc c)) c (λ k. loadBy-none (getD adds k 0) works n (suc c) (omega arith))),
+)
 
 pub starts-put : (adds works : List ℕ) (n j : ℕ) (starts : List ℕ) (x : ℕ) → j < 32 → x ≡ topN (λ k. loadBy (getD adds k 0) works n (suc j)) 0 j → StartsFrom adds works n (suc j) starts → StartsFrom adds works n j (set starts j x)
 starts-put adds works n j starts x p e F = (simp length-set (F .0), λ c q r. go c r q (cmp j c))

@@ -36,12 +36,12 @@ returns-3 : tie.Need-returns-3
 returns-3 c = c .refused3 .ensures ∙ verdicts-fast (c .before .before .before .before .before .before .args .d) (c .before .before .before .before .before .before .args .t) (sym (c .before .before .before .before .before .work-out .ensures .judged) ∙ c .before .before .before .enum-told .given .1) (c .before .if2 .taken)
 
 levels-of-requires : tie.Need-levels-of-requires
-levels-of-requires c κs = 
+levels-of-requires c κs =
     let good = judge-well-formed (c .before .before .before .before .before .before .before .before .args .d) (typed-widths (c .before .before .before .before .before .before .before .before .args .d) _ (c .before .before .before .before .before .before .before .before .good .0)) (sym (c .before .before .before .before .before .before .before .work-out .ensures .judged) ∙ c .before .before .before .before .before .enum-told .given .1) in
     (good .few-tasks, good .few-sources, c .before .before .before .before .before .before .before .work-out .ensures .worked (sym (c .before .before .before .before .before .before .before .work-out .ensures .judged) ∙ c .before .before .before .before .before .enum-told .given .1) .scaled)
 
 starts-of-requires : tie.Need-starts-of-requires
-starts-of-requires c κs = 
+starts-of-requires c κs =
     let good = judge-well-formed (c .before .before .before .before .before .before .before .before .before .before .before .before .args .d) (typed-widths (c .before .before .before .before .before .before .before .before .before .before .before .before .args .d) _ (c .before .before .before .before .before .before .before .before .before .before .before .before .good .0)) (sym (c .before .before .before .before .before .before .before .before .before .before .before .work-out .ensures .judged) ∙ c .before .before .before .before .before .before .before .before .before .enum-told .given .1) in
     (good .few-tasks, c .before .before .before .before .before .before .before .before .before .before .before .work-out .ensures .worked (sym (c .before .before .before .before .before .before .before .before .before .before .before .work-out .ensures .judged) ∙ c .before .before .before .before .before .before .before .before .before .enum-told .given .1) .scaled)
 
@@ -49,7 +49,7 @@ orders-of-requires : tie.Need-orders-of-requires
 orders-of-requires c κs = judge-well-formed (c .before .before .before .before .before .before .before .before .before .before .before .before .before .args .d) (typed-widths (c .before .before .before .before .before .before .before .before .before .before .before .before .before .args .d) _ (c .before .before .before .before .before .before .before .before .before .before .before .before .before .good .0)) (sym (c .before .before .before .before .before .before .before .before .before .before .before .before .work-out .ensures .judged) ∙ c .before .before .before .before .before .before .before .before .before .before .enum-told .given .1)
 
 slots-at-requires : tie.Need-slots-at-requires
-slots-at-requires c κs = 
+slots-at-requires c κs =
     let good = judge-well-formed (c .before .before .before .before .before .before .before .before .before .before .before .before .before .before .before .before .before .args .d) (typed-widths (c .before .before .before .before .before .before .before .before .before .before .before .before .before .before .before .before .before .args .d) _ (c .before .before .before .before .before .before .before .before .before .before .before .before .before .before .before .before .before .good .0)) (sym (c .before .before .before .before .before .before .before .before .before .before .before .before .before .before .before .before .work-out .ensures .judged) ∙ c .before .before .before .before .before .before .before .before .before .before .before .before .before .before .enum-told .given .1) in
     let loads = c .before .before .before .before .before .before .before .before .before .before .before .before .before .before .before .before .work-out .ensures .worked (sym (c .before .before .before .before .before .before .before .before .before .before .before .before .before .before .before .before .work-out .ensures .judged) ∙ c .before .before .before .before .before .before .before .before .before .before .before .before .before .before .enum-told .given .1) in
     let w = c .before .before .before .before .before .before .before .before .before .before .before .before .before .before .before .before .work-out .result in

@@ -34,6 +34,7 @@ use Rattle.theory.proofs.Walk.{in-order-alike}
 use Rattle.verdicts.specs.Level.{Level, roundIn, reachIn}
 use Rattle.verdicts.specs.Into.{intoSystem, IntoOf}
 use Rattle.loads.specs.Tables.{loadBy, LoadsOf}
+use Rattle.loads.proofs.Columns.{top-cong}
 use Rattle.verdicts.specs.Plan.{LevelsOf, StartsOf, OrdersOf, GapsOf, LimitsOf, ReachesOf, orderBy, Tables}
 use Rattle.verdicts.specs.Decide.{verdictBy, gapBy, byTables, slotBy}
 use Rattle.verdicts.proofs.PlanLaws.{from-some, to-most}
@@ -45,13 +46,6 @@ top-shift f zero = refl
 top-shift f (suc n) =
     let e : 1 + n ≡ suc (0 + n) = omega arith in
     rw (top-shift f n, e)
-
-top-cong : (f g : ℕ → ℕ) (n : ℕ) → ((k : ℕ) → k < n → f k ≡ g k) → topN f 0 n ≡ topN g 0 n
-unfolding topN
-top-cong f g zero h = refl
-top-cong f g (suc n) h =
-    let e : 0 + n ≡ n = omega arith in
-    rw (top-cong f g n (λ k p. h k (omega arith)), e, h n (omega arith))
 
 -- the starts and levels that sets and works give
 starts-of : (d : Description) (adds works starts : List ℕ) → LoadsOf d adds works → ((j : ℕ) → j < 32 → getD starts j 0 ≡ topN (λ k. loadBy (getD adds k 0) works (d .«task_count») (suc j)) 0 j) → StartsOf d starts

@@ -4,12 +4,13 @@ use crate::into::predecessors;
 use crate::rounds::level_reach;
 use crate::rounds::spacing_at;
 use crate::walk::walk_back;
+use loads::levels::larger;
 use model::Description;
 use model::Link;
 ghost use mathlib.Core.Path.{_≡_};
 ghost use mathlib.Core.List.{[]};
 ghost use mathlib.Core.Bool.{false};
-ghost use Prim.Native.Nat.{ℕ, _≤_, _<_, max};
+ghost use Prim.Native.Nat.{ℕ, _≤_, _<_};
 ghost use lib.ListN.{getD};
 ghost use Rattle.model.specs.Graph.{linkAt};
 ghost use Rattle.theory.proofs.WellFormed.{WellFormed};
@@ -44,13 +45,6 @@ pub fn gaps_at(d: Description, t: u32) -> [u64; 16]
         u += 1;
     }
     gaps
-}
-
-// The larger of two numbers.
-fn larger(a: u64, b: u64) -> u64
-    ensures { λ r. ⌜ r ≡ max a b ⌝ }
-{
-    if a < b { b } else { a }
 }
 
 // The spacing of a critical link's source, or 0 for any other link.

@@ -10,7 +10,7 @@ use Rattle.verdicts.proofs.plan.limits_at.Statement.{statement}
 use Rattle.verdicts.proofs.plan.limits_at.Tie as tie
 use Rattle.verdicts.proofs.plan.limits_at.Reads as reads
 use Rattle.verdicts.proofs.plan.limits_at.Lts as lts
-use Rattle.verdicts.proofs.plan.larger.Reads as larger-reads
+use Rattle.loads.proofs.levels.larger.Reads as larger-reads
 use Rattle.verdicts.proofs.plan.limit_by.Reads as limit-by-reads
 use Rattle.verdicts.proofs.plan.number.Reads as number-reads
 

@@ -80,22 +80,6 @@ strangers-some d mask s q few w some = rw q (true-of (anyN (λ u. getD (marksIn 
     and-false-of true b e f = sym e ∙ f
     and-false-of false b e f = refl
 
--- a mask of 0: no source arrives, none is too soon, and the arrivals do nothing
-silent : (u : ℕ) → u < 16 → getD (marksIn 0) u false ≡ false
-silent u h = mark-in 0 u h ∙ none-above 0 0 u (zero-div (2 ^ 0)) (omega arith)
-
-arrive-silent : (d : Description) (m : Machine) → d .«source_count» ≤ 16 → m ≡ arrive d (marksIn 0) m
-unfolding arrive upTo
-arrive-silent d m h = go (d .«source_count») h
-  where
-    go : (n : ℕ) → n ≤ 16 → m ≡ upTo n (arriveOne d (marksIn 0)) m
-    go zero h = refl
-    go (suc n) h = arrive-off d (marksIn 0) n m (silent n (omega arith)) ∙ ap (arriveOne d (marksIn 0) n) (go n (omega arith))
-
-soon-silent : (d : Description) (t : ℕ) (m : Machine) → d .«source_count» ≤ 16 → tooSoon d t (marksIn 0) m ≡ false
-unfolding tooSoon
-soon-silent d t m h = any-none _ 0 (d .«source_count») (λ k a b. and-false-left (getD (marksIn 0) k false) _ (silent k (omega arith)))
-
 -- a mask with one mark more below the others
 pub bit-low : (mask : ℕ) (b : Bool) → heard (2 * mask + cond b 1 0) 0 ≡ b
 bit-low mask b = ap (λ x. eqb (x % 2) 1) (div-one (2 * mask + cond b 1 0)) ∙ go b
@@ -124,6 +108,22 @@ bit-turn mask u b marks p e all zero h =
 bit-turn mask u b marks p e all (suc j) h =
     let q : u + j ≡ u - 1 + suc j = omega arith in
     bit-next mask j b ∙ all j (omega arith) ∙ ap (λ n. getD marks n false) q
+
+-- a mask of 0: no source arrives, none is too soon, and the arrivals do nothing
+silent : (u : ℕ) → u < 16 → getD (marksIn 0) u false ≡ false
+silent u h = mark-in 0 u h ∙ none-above 0 0 u (zero-div (2 ^ 0)) (omega arith)
+
+arrive-silent : (d : Description) (m : Machine) → d .«source_count» ≤ 16 → m ≡ arrive d (marksIn 0) m
+unfolding arrive upTo
+arrive-silent d m h = go (d .«source_count») h
+  where
+    go : (n : ℕ) → n ≤ 16 → m ≡ upTo n (arriveOne d (marksIn 0)) m
+    go zero h = refl
+    go (suc n) h = arrive-off d (marksIn 0) n m (silent n (omega arith)) ∙ ap (arriveOne d (marksIn 0) n) (go n (omega arith))
+
+soon-silent : (d : Description) (t : ℕ) (m : Machine) → d .«source_count» ≤ 16 → tooSoon d t (marksIn 0) m ≡ false
+unfolding tooSoon
+soon-silent d t m h = any-none _ 0 (d .«source_count») (λ k a b. and-false-left (getD (marksIn 0) k false) _ (silent k (omega arith)))
 
 -- so that such a call is a tick of the task that is awake
 pub quiet-done : (d : Description) (t : ℕ) (finish : Bool) (h late : ℕ) (aw aw′ wa wa′ dr dr′ : List Bool) (us us′ ag : List ℕ) → d .«source_count» ≤ 16 → judgeAt d t ≡ Done → lawful d t (parts aw us wa dr (older d t late ag)) ≡ true → h ≡ highestIn aw (d .«task_count») → parts aw′ us′ wa′ dr′ (older d t late ag) ≡ endRun d h finish (runTask h (parts aw us wa dr (older d t late ag))) → record { outcome = Done; machine = parts aw′ us′ wa′ dr′ (older d t (late + 1) ag) } ≡ plainTick d t (parts aw us wa dr (older d t late ag)) (record { marks = marksIn 0 }) finish

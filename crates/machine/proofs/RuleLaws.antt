@@ -1,5 +1,5 @@
 -- The rules of the record and the tests of arrivals, place by place. Assumes nothing.
-use Prim.Native.Nat.{ℕ, _+_, _-_, _<_}
+use Prim.Native.Nat.{ℕ, _+_, _-_, _≤_, _<_}
 use mathlib.Core.Path.{_≡_, refl, sym, _∙_}
 use mathlib.Core.Bool.{Bool, true, false, _||_, _&&_, not, cond}
 use mathlib.Core.List.{List}
@@ -7,15 +7,16 @@ use native.Mathlib.Omega.{arith}
 use native.Mathlib.Numerals.{add-one}
 use lib.ListN.{getD}
 use lib.Dec.{ltb, leb, eqb}
-use borrow.Author.Tests.{ltb-true, leb-true, le-leb, lt-ltb}
+use borrow.Author.Tests.{ltb-true, leb-true, le-leb, lt-ltb, le-ltb}
 use Rattle.model.specs.declared.Description.{Description}
-use Rattle.model.specs.Basics.{allN, anyN}
+use Rattle.model.specs.Basics.{allN}
 use Rattle.model.specs.Graph.{linkAt}
 use Rattle.model.specs.Delays.{spacingOf}
-use Rattle.model.specs.Machine.{taskRule, linkRule, sourceRule}
-use Rattle.theory.proofs.Tests.{same-test, false-of, not-both, both, or-false}
-use Rattle.theory.proofs.Range.{all-at, any-more}
-use Rattle.steps.specs.Parts.{parts, LinksOf, GapsOf}
+use Rattle.model.specs.Machine.{taskRule, linkRule, sourceRule, tooSoon}
+use Rattle.theory.proofs.Tests.{same-test, false-of, not-both, both, and-false-left, and-false-right}
+use Rattle.theory.proofs.Range.{all-at, any-at, any-none}
+use Rattle.steps.specs.Parts.{parts, heard, marksIn, Known, LinksOf, GapsOf}
+use Rattle.steps.proofs.MaskLaws.{mark-in, heard-under}
 
 -- tests over a range as a loop goes through them
 pub all-none : (p : ℕ → Bool) (a : ℕ) → allN p a 0 ≡ true
@@ -29,13 +30,6 @@ all-next p a n e f = rw (add-one, allN) (both (allN p a n) (p (a + n)) e f)
 pub all-fails : (p : ℕ → Bool) (a n k : ℕ) → k < n → p (a + k) ≡ false → false ≡ allN p a n
 all-fails p a n k h f =
     sym (false-of (allN p a n) (λ e. not-both (all-at p a n e (a + k) (omega arith) (omega arith)) f))
-
-pub any-none₀ : (p : ℕ → Bool) (a : ℕ) → anyN p a 0 ≡ false
-unfolding anyN
-any-none₀ p a = refl
-
-pub any-next : (p : ℕ → Bool) (n : ℕ) → anyN p 0 n ≡ false → p n ≡ false → anyN p 0 (n + 1) ≡ false
-any-next p n e f = any-more p n ∙ or-false (anyN p 0 n) (p n) e f
 
 -- a task's rule, by its place
 pub task-is : (d : Description) (runs : List ℕ) (tasks k : ℕ) (aw wa dr : List Bool) (us ag : List ℕ) (r : Bool) → runs ≡ d .runs → d .«task_count» ≡ tasks → r ≡ cond (ltb k tasks) (ltb (getD us k 0) (getD runs k 0) && (getD aw k false || eqb (getD us k 0) 0)) (not (getD aw k false) && eqb (getD us k 0) 0) → taskRule d (parts aw us wa dr ag) (1 + k) ≡ r
@@ -59,6 +53,21 @@ source-is d t gaps n u aw wa dr us ag r p g e = go (ltb u (d .«source_count»))
     go : (b : Bool) → ltb u (d .«source_count») ≡ b → cond (ltb u (d .«source_count»)) (leb (getD ag u 0) (spacingOf d t (33 + u))) (eqb (getD ag u 0) 0) ≡ cond (ltb u (d .«source_count»)) (leb (getD ag u 0) (getD gaps u 0)) (eqb (getD ag u 0) 0)
     go true f = rw (f, g u (ltb-true u (d .«source_count») f)) refl
     go false f = rw f refl
+
+-- an arrival that is too soon, and none that is
+pub soon-one : (d : Description) (t mask u : ℕ) (gaps us ag : List ℕ) (aw wa dr : List Bool) → GapsOf d t gaps → Known d mask → heard mask u ≡ true → getD ag u 0 < getD gaps u 0 → true ≡ tooSoon d t (marksIn mask) (parts aw us wa dr ag)
+unfolding tooSoon
+soon-one d t mask u gaps us ag aw wa dr g k e h =
+    let z : u < d .«source_count» = heard-under mask (d .«source_count») u (k .1) e in
+    sym (any-at (λ u. getD (marksIn mask) u false && ltb (getD ag u 0) (spacingOf d t (33 + u))) 0 (d .«source_count») u (omega arith) (omega arith) (both (getD (marksIn mask) u false) (ltb (getD ag u 0) (spacingOf d t (33 + u))) (mark-in mask u (omega (arith, k .0)) ∙ e) (lt-ltb (getD ag u 0) (spacingOf d t (33 + u)) (omega (arith, h, g u z)))))
+
+pub soon-none : (d : Description) (t mask : ℕ) (gaps us ag : List ℕ) (aw wa dr : List Bool) → GapsOf d t gaps → Known d mask → ((u : ℕ) → heard mask u ≡ true → getD gaps u 0 ≤ getD ag u 0) → false ≡ tooSoon d t (marksIn mask) (parts aw us wa dr ag)
+unfolding tooSoon
+soon-none d t mask gaps us ag aw wa dr g k low = sym (any-none (λ u. getD (marksIn mask) u false && ltb (getD ag u 0) (spacingOf d t (33 + u))) 0 (d .«source_count») (λ u a b. go u (omega arith) (heard mask u) refl))
+  where
+    go : (u : ℕ) → u < d .«source_count» → (b : Bool) → heard mask u ≡ b → (getD (marksIn mask) u false && ltb (getD ag u 0) (spacingOf d t (33 + u))) ≡ false
+    go u h true e = and-false-right (getD (marksIn mask) u false) (ltb (getD ag u 0) (spacingOf d t (33 + u))) (le-ltb (getD ag u 0) (spacingOf d t (33 + u)) (omega (arith, low u e, g u h)))
+    go u h false e = and-false-left (getD (marksIn mask) u false) (ltb (getD ag u 0) (spacingOf d t (33 + u))) (mark-in mask u (omega (arith, k .0)) ∙ e)
 
 pub and-true : (a b : Bool) → a ≡ true → (a && b) ≡ b
 and-true a b e = rw e refl

@@ -1,16 +1,16 @@
 -- A list of calls as a run goes through it: its masks, the record before each call and the codes of the answers. Assumes nothing.
-use Prim.Native.Nat.{ℕ, zero, suc, _+_, _-_, _/_, _%_, _^_, _≤_, _<_}
+use Prim.Native.Nat.{ℕ, zero, suc, _+_, _*_, _-_, _/_, _%_, _^_, _≤_, _<_}
 use mathlib.Core.Path.{_≡_, refl, sym, ap, subst, _∙_}
-use mathlib.Core.Bool.{Bool, true, false, _&&_}
+use mathlib.Core.Bool.{Bool, true, false, _&&_, cond}
 use mathlib.Core.List.{List, [], _∷_, _++_}
 use native.Mathlib.Omega.{arith}
-use native.Mathlib.Nat.{div-div-eq-div-mul, div-eq-of-lt, div-one, zero-div, pow-suc, add-sub-of-le}
-use lib.Pow.{pow-add}
+use native.Mathlib.Nat.{div-div-eq-div-mul, div-eq-of-lt, div-one, zero-div, pow-suc}
+use lib.Pow.{shr-shr}
 use native.Mathlib.Numerals.{add-one}
 use lib.ListN.{length, getD, set, take, drop}
 use lib.Seq.{take-all}
-use lib.Dec.{leb}
-use borrow.Author.Tests.{lt-ltb, le-ltb, le-leb, leb-true, eqb-false}
+use lib.Dec.{leb, eqb}
+use borrow.Author.Tests.{lt-ltb, le-ltb, le-leb, leb-true, eqb-false, eq-eqb, ne-eqb}
 use Rattle.model.specs.declared.Source.{Source}
 use Rattle.model.specs.declared.Source.the-variants.{Fixed, Paced}
 use Rattle.model.specs.declared.Field.the-variants.{OfSource}
@@ -37,24 +37,17 @@ use Rattle.theory.proofs.WellFormed.{WellFormed}
 use Rattle.theory.proofs.Table.{length-tab, getD-tab}
 use Rattle.theory.proofs.Replay.{callAt, quietCall}
 use Rattle.theory.proofs.Lawful.{rules-kept}
-use Rattle.steps.specs.Parts.{parts, older}
+use Rattle.steps.specs.Parts.{heard, marksIn, Known, parts, older}
+use Rattle.steps.proofs.MaskLaws.{none-above, mark-in}
 use Rattle.steps.proofs.StepLaws.{arrive-off, older-more, older-none, act-whole, step-whole}
-use Rattle.machine.specs.Run.{heard, marksIn, callIn, callsIn, codeOf, codes, page, ran, lagging, Coded}
+use Rattle.machine.specs.Run.{callIn, callsIn, codeOf, codes, page, ran, lagging, Coded}
 use Rattle.machine.proofs.TickLaws.{tick-done}
 
--- masks: all of it, and one bit less
-pub whole-mask : (mask : ℕ) → mask ≡ mask / 2 ^ 0
-whole-mask mask = sym (div-one mask)
-
-pub halved : (mask u rest : ℕ) → rest ≡ mask / 2 ^ u → rest / 2 ≡ mask / 2 ^ (u + 1)
+-- a mask with one bit less
+halved : (mask u rest : ℕ) → rest ≡ mask / 2 ^ u → rest / 2 ≡ mask / 2 ^ (u + 1)
 halved mask u rest e = rw (e, add-one u, pow-suc 2 u) (div-div-eq-div-mul mask (2 ^ u) 2)
 
--- a mask with nothing left above the first s bits has no bit there, and one with no bit there has nothing left
-pub none-above : (mask s k : ℕ) → mask / 2 ^ s ≡ 0 → s ≤ k → heard mask k ≡ false
-none-above mask s k e h =
-    let q : mask / 2 ^ k ≡ 0 = ap (λ n. mask / 2 ^ n) (sym (add-sub-of-le h)) ∙ rw pow-add (sym (div-div-eq-div-mul mask (2 ^ s) (2 ^ (k - s))) ∙ ap (λ x. x / 2 ^ (k - s)) e ∙ zero-div (2 ^ (k - s))) in
-    rw q refl
-
+-- a mask with no bit above the first s has nothing left there
 nothing-above : (mask : ℕ) → mask < 2 ^ 16 → (j s : ℕ) → s + j ≡ 16 → ((k : ℕ) → s ≤ k → k < 16 → heard mask k ≡ false) → mask / 2 ^ s ≡ 0
 nothing-above mask w zero s e none = let q : 16 ≡ s = omega arith in div-eq-of-lt (subst (λ n. mask < 2 ^ n) q w)
 nothing-above mask w (suc j) s e none =
@@ -66,11 +59,11 @@ nothing-above mask w (suc j) s e none =
     zero-of : (x : ℕ) → x / 2 ≡ 0 → (x % 2 ≡ 1 → ⊥) → x ≡ 0
     zero-of x a b = omega arith
 
--- strangers are the bits above the sources that exist
-mark-in : (mask k : ℕ) → k < 16 → getD (marksIn mask) k false ≡ heard mask k
-unfolding marksIn
-mark-in mask k h = getD-tab 16 (heard mask) false k h
+-- a mask with nothing left above s sources
+pub known : (d : Description) (mask s a : ℕ) → d .«source_count» ≡ s → s ≤ 16 → a ≡ mask / 2 ^ s → a ≡ 0 → Known d mask
+known d mask s a q few e z = (omega arith, ap (λ n. mask / 2 ^ n) q ∙ sym e ∙ z)
 
+-- strangers are the bits above the sources that exist
 pub strangers-none : (d : Description) (mask s : ℕ) → d .«source_count» ≡ s → mask / 2 ^ s ≡ 0 → strangers d (marksIn mask) ≡ false
 unfolding strangers
 strangers-none d mask s q e = rw q (any-none (λ u. getD (marksIn mask) u false && leb s u) 0 16 (λ k a b. go k b (leb s k) refl))
@@ -86,6 +79,35 @@ strangers-some d mask s q few w some = rw q (true-of (anyN (λ u. getD (marksIn 
     and-false-of : (a b : Bool) → b ≡ true → (a && b) ≡ false → a ≡ false
     and-false-of true b e f = sym e ∙ f
     and-false-of false b e f = refl
+
+-- a mask with one mark more below the others
+pub bit-low : (mask : ℕ) (b : Bool) → heard (2 * mask + cond b 1 0) 0 ≡ b
+bit-low mask b = ap (λ x. eqb (x % 2) 1) (div-one (2 * mask + cond b 1 0)) ∙ go b
+  where
+    go : (b : Bool) → eqb ((2 * mask + cond b 1 0) % 2) 1 ≡ b
+    go true = eq-eqb ((2 * mask + 1) % 2) 1 (omega arith)
+    go false = ne-eqb ((2 * mask + 0) % 2) 1 (λ e. omega arith)
+
+pub bit-next : (mask k : ℕ) (b : Bool) → heard (2 * mask + cond b 1 0) (suc k) ≡ heard mask k
+bit-next mask k b =
+    let e : suc k ≡ 1 + k = omega arith in
+    ap (λ n. heard (2 * mask + cond b 1 0) n) e ∙ ap (λ x. eqb (x % 2) 1) (sym (shr-shr (2 * mask + cond b 1 0) 1 k) ∙ ap (λ x. x / 2 ^ k) (go b))
+  where
+    go : (b : Bool) → (2 * mask + cond b 1 0) / 2 ≡ mask
+    go true = omega arith
+    go false = omega arith
+
+pub bit-below : (mask n : ℕ) (b : Bool) → mask < 2 ^ n → 2 * mask + cond b 1 0 < 2 ^ suc n
+bit-below mask n true h = omega (arith, pow-suc 2 n)
+bit-below mask n false h = omega (arith, pow-suc 2 n)
+
+pub bit-turn : (mask u : ℕ) (b : Bool) (marks : List Bool) → 0 < u → b ≡ getD marks (u - 1) false → ((j : ℕ) → u + j < 16 → heard mask j ≡ getD marks (u + j) false) → (j : ℕ) → u - 1 + j < 16 → heard (2 * mask + cond b 1 0) j ≡ getD marks (u - 1 + j) false
+bit-turn mask u b marks p e all zero h =
+    let q : u - 1 ≡ u - 1 + 0 = omega arith in
+    bit-low mask b ∙ e ∙ ap (λ n. getD marks n false) q
+bit-turn mask u b marks p e all (suc j) h =
+    let q : u + j ≡ u - 1 + suc j = omega arith in
+    bit-next mask j b ∙ all j (omega arith) ∙ ap (λ n. getD marks n false) q
 
 -- a mask of 0: no source arrives, none is too soon, and the arrivals do nothing
 silent : (u : ℕ) → u < 16 → getD (marksIn 0) u false ≡ false
@@ -138,8 +160,11 @@ start-asleep d t m n e = sym (ap (λ (k : Machine). highestIn (k .awake) n) e �
 coded : (r r′ : Ticked) → r ≡ r′ → (codeOf (r .outcome) ≡ codeOf (r′ .outcome)) × (r .machine ≡ r′ .machine)
 coded r r′ e = (ap (λ (k : Ticked). codeOf (k .outcome)) e, ap (λ (k : Ticked). k .machine) e)
 
-pub answer-coded : (d : Description) (t mask : ℕ) (finish : Bool) (marks : List Bool) (m : Machine) (r : Ticked) → marks ≡ marksIn mask → r ≡ plainTick d t m (record { marks = marks }) finish → Coded d t m mask finish (codeOf (r .outcome)) (r .machine)
-answer-coded d t mask finish marks m r e q = coded r _ (q ∙ ap (λ k. plainTick d t m (record { marks = k }) finish) e)
+pub answer-coded : (d : Description) (t mask : ℕ) (finish : Bool) (m : Machine) (r : Ticked) → r ≡ plainTick d t m (record { marks = marksIn mask }) finish → Coded d t m mask finish (codeOf (r .outcome)) (r .machine)
+answer-coded d t mask finish m r q = coded r _ q
+
+pub answer-as : (d : Description) (t mask : ℕ) (finish : Bool) (marks : List Bool) (m : Machine) (r : Ticked) → marks ≡ marksIn mask → r ≡ plainTick d t m (record { marks = marks }) finish → Coded d t m mask finish (codeOf (r .outcome)) (r .machine)
+answer-as d t mask finish marks m r e q = answer-coded d t mask finish m r (q ∙ ap (λ k. plainTick d t m (record { marks = k }) finish) e)
 
 -- as many calls as whole fours, the i-th being that of the i-th four
 pub calls-length : (bytes : List ℕ) → length (callsIn bytes) ≡ length bytes / 4

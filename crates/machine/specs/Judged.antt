@@ -11,10 +11,10 @@ use Rattle.model.specs.declared.Ticked.{Ticked}
 use Rattle.model.specs.declared.Outcome.the-variants.{Done}
 use Rattle.model.specs.Basics.{allN}
 use Rattle.model.specs.Verdicts.{judgeAt}
-use Rattle.model.specs.Machine.{taskRule, linkRule, sourceRule, lawful, strangers, tooSoon, plainTick}
+use Rattle.model.specs.Machine.{taskRule, linkRule, sourceRule, lawful, tooSoon, plainTick}
 use Rattle.theory.proofs.WellFormed.{WellFormed}
 use Rattle.steps.specs.declared.plan.Plan.{Plan}
-use Rattle.steps.specs.Parts.{parts, LinksOf, GapsOf, PlanOf}
+use Rattle.steps.specs.Parts.{parts, marksIn, Known, LinksOf, GapsOf, PlanOf}
 
 -- the rules, of the parts that each speaks of
 abbrev pub TasksLawful : List ℕ → ℕ → List Bool → List ℕ → Bool → Type 0
@@ -35,13 +35,10 @@ SourcesLawful gaps sources ages r =
 abbrev pub Lawful : Plan → Machine → Bool → Type 0
 Lawful p m r = (d : Description) (t : ℕ) → PlanOf d t p → r ≡ lawful d t m
 
-abbrev pub Strangers : ℕ → List Bool → Bool → Type 0
-Strangers sources marks r = (d : Description) → d .«source_count» ≡ sources → r ≡ strangers d marks
-
-abbrev pub TooSoon : List ℕ → ℕ → List Bool → List ℕ → Bool → Type 0
-TooSoon gaps sources marks ages r =
-    (d : Description) (t : ℕ) (awake waiting dropped : List Bool) (used : List ℕ) → d .«source_count» ≡ sources → GapsOf d t gaps
-    → r ≡ tooSoon d t marks (parts awake used waiting dropped ages)
+abbrev pub TooSoon : List ℕ → ℕ → List ℕ → Bool → Type 0
+TooSoon gaps mask ages r =
+    (d : Description) (t : ℕ) (awake waiting dropped : List Bool) (used : List ℕ) → GapsOf d t gaps → Known d mask
+    → r ≡ tooSoon d t (marksIn mask) (parts awake used waiting dropped ages)
 
 -- a plan of some description and tempo that are judged as done
 pub record Planned (p : Plan) : Type 0 where

@@ -1,5 +1,5 @@
 -- A run of many tick calls: the list of calls that its bytes stand for, its answer, and the buffer it leaves.
-use Prim.Native.Nat.{ℕ, _+_, _*_, _≤_, _/_, _%_, _^_}
+use Prim.Native.Nat.{ℕ, _+_, _*_, _≤_, _/_}
 use mathlib.Core.Bool.{Bool, true, cond, not}
 use mathlib.Core.List.{List, [], _∷_}
 use mathlib.Core.Path.{_≡_}
@@ -22,14 +22,7 @@ use Rattle.model.specs.History.{Call, answers, left}
 use Rattle.model.specs.Promise.{Assured}
 use Rattle.theory.proofs.WellFormed.{WellFormed}
 use Rattle.steps.specs.declared.plan.Plan.{Plan}
-use Rattle.steps.specs.Parts.{parts, older, PlanOf}
-
--- the arrivals of a mask, whose bit u is source 33 + u
-abbrev pub heard : ℕ → ℕ → Bool
-heard mask u = eqb (mask / 2 ^ u % 2) 1
-
-unfoldable pub marksIn : ℕ → List Bool
-marksIn mask = tab 16 (heard mask)
+use Rattle.steps.specs.Parts.{marksIn, parts, older, PlanOf}
 
 -- a call in four bytes: the mask of its arrivals, high byte first; finish, unless the byte is 0; and a byte that is not looked at
 abbrev pub callOf : ℕ → Bool → Call

@@ -2,13 +2,15 @@
 
 use model::Machine;
 use steps::plan::Plan;
+use steps::step::bits;
 use steps::step::number;
+use verdicts::into::first;
 ghost use mathlib.Core.Path.{_≡_};
 ghost use mathlib.Core.Bool.{_||_, _&&_, not, cond};
-ghost use Prim.Native.Nat.{_≤_, _<_};
+ghost use Prim.Native.Nat.{_≤_, _<_, _/_, _^_};
 ghost use lib.Dec.{ltb, leb, eqb};
 ghost use Rattle.steps.specs.Parts.{Enters, Sound};
-ghost use Rattle.machine.specs.Judged.{TasksLawful, LinksLawful, SourcesLawful, Lawful, Strangers, TooSoon};
+ghost use Rattle.machine.specs.Judged.{TasksLawful, LinksLawful, SourcesLawful, Lawful, TooSoon};
 
 // Used is below the longest run, and 0 for a sleeping task; nothing is set for an absent one.
 fn task_lawful(here: bool, run: u32, awake: bool, used: u32) -> bool
@@ -127,35 +129,29 @@ pub fn lawful(p: Plan, m: Machine) -> bool
     sources_lawful(&p.gaps, sources, &m.ages)
 }
 
-// 15: an arrival from a source that does not exist.
-pub fn strangers(sources: usize, marks: &[bool; 16]) -> bool
-    ensures { λ r. ⌜ Strangers sources (now (marks .entry)) r ⌝ }
+// 15: what is left of a mask above the sources that exist.
+pub fn above(mask: u16, sources: usize) -> usize
+    requires { ⌜ sources ≤ 16 ⌝ }
+    ensures { λ r. ⌜ r ≡ mask / 2 ^ sources ⌝ }
 {
-    let mut u: usize = 0;
-    while u < 16 {
-        if marks[u] {
-            if sources <= u {
-                return true;
-            }
-        }
-        u += 1;
-    }
-    false
+    let all = mask as usize;
+    all >> sources
 }
 
-// 14: an arriving source's age is below its spacing.
-pub fn too_soon(gaps: &[u32; 16], sources: usize, marks: &[bool; 16], ages: &[u32; 16]) -> bool
-    requires { ⌜ sources ≤ 16 ⌝ }
-    ensures { λ r. ⌜ TooSoon (now (gaps .entry)) sources (now (marks .entry)) (now (ages .entry)) r ⌝ }
+// 14: an arriving source's age is below its spacing. The rest of the mask has its bits from r on.
+pub fn too_soon(gaps: &[u32; 16], mask: u16, ages: &[u32; 16]) -> bool
+    ensures { λ r. ⌜ TooSoon (now (gaps .entry)) mask (now (ages .entry)) r ⌝ }
 {
-    let mut u: usize = 0;
-    while u < sources {
-        if marks[u] {
-            if ages[u] < gaps[u] {
-                return true;
-            }
+    let mut rest = bits(mask);
+    let mut r: usize = 0;
+    while rest != 0 {
+        let k = first(rest);
+        let u = r + k;
+        if ages[u] < gaps[u] {
+            return true;
         }
-        u += 1;
+        r = u + 1;
+        rest = rest >> k >> 1;
     }
     false
 }

@@ -1,5 +1,6 @@
 // A run of many tick calls from the start: the description is judged and tabulated once, and the record is lent part by part.
 
+use crate::rules::above;
 use crate::rules::too_soon;
 use crate::tick::refused;
 use fields::half_at;
@@ -15,39 +16,14 @@ use steps::step::act;
 use steps::step::age_all;
 use steps::step::serve;
 ghost use mathlib.Core.Path.{_≡_};
-ghost use mathlib.Core.Bool.{false};
-ghost use lib.ListN.{replicate};
-ghost use Prim.Native.Nat.{_+_, _≤_, _<_, _/_, _^_};
+ghost use Prim.Native.Nat.{_<_, _^_};
 ghost use Rattle.model.specs.declared.Outcome.the-variants.{Done};
 ghost use Rattle.model.specs.Machine.{blankMachine, highestIn};
 ghost use Rattle.model.specs.Verdicts.{judgeAt};
 ghost use Rattle.theory.proofs.WellFormed.{WellFormed};
 ghost use Rattle.steps.specs.Parts.{parts, plan, Sound, Countable, GapsOf};
 ghost use Rattle.machine.specs.Judged.{Planned};
-ghost use Rattle.machine.specs.Run.{marksIn, callsIn, Advances, RunIs, RunOf};
-
-// What is left of a mask above the sources that exist.
-fn above(mask: u16, sources: usize) -> usize
-    requires { ⌜ sources ≤ 16 ⌝ }
-    ensures { λ r. ⌜ r ≡ mask / 2 ^ sources ⌝ }
-{
-    let all = mask as usize;
-    all >> sources
-}
-
-// The marks of a mask, whose lowest bit is source 33, of sources that exist, in place of marks that are clear.
-fn mark(mask: u16, sources: usize, marks: &mut [bool; 16])
-    requires { ⌜ (sources ≤ 16) × (mask / 2 ^ sources ≡ 0) × (now marks ≡ replicate 16 false) ⌝ }
-    ensures { λ _. ⌜ now (marks .exit) ≡ marksIn mask ⌝ }
-{
-    let mut rest = mask;
-    let mut u: usize = 0;
-    while u < sources {
-        marks[u] = rest % 2 == 1;
-        rest = rest / 2;
-        u += 1;
-    }
-}
+ghost use Rattle.machine.specs.Run.{callsIn, Advances, RunIs, RunOf};
 
 // A record of zeros.
 fn blank() -> Machine
@@ -116,11 +92,9 @@ pub fn advance<'a>(
     if above(mask, sources) != 0 {
         return 15;
     }
-    let mut marks = [false; 16];
-    mark(mask, sources, &mut marks);
     age_all(gaps, sources, behind, &mut *ages);
     *late = 0;
-    if too_soon(gaps, sources, &marks, ages) {
+    if too_soon(gaps, mask, ages) {
         return 14;
     }
     *top = act(
@@ -131,8 +105,7 @@ pub fn advance<'a>(
         links,
         tasks,
         runs,
-        sources,
-        &marks,
+        mask,
         finish,
         awake,
         used,

@@ -1,7 +1,7 @@
 // The tick call on a record by value, once its description is judged.
 
+use crate::rules::above;
 use crate::rules::lawful;
-use crate::rules::strangers;
 use crate::rules::too_soon;
 use model::Arrivals;
 use model::Machine;
@@ -11,14 +11,37 @@ use model::Ticked;
 use steps::plan::Plan;
 use steps::step::step;
 ghost use mathlib.Core.Path.{_≡_};
-ghost use Rattle.steps.specs.Parts.{Sound, Countable, Steps};
+ghost use mathlib.Core.Bool.{cond};
+ghost use lib.ListN.{length};
+ghost use Rattle.steps.specs.Parts.{marksIn, Sound, Countable, Steps};
 ghost use Rattle.model.specs.declared.Outcome.the-variants.{Refused};
 ghost use Rattle.machine.specs.Judged.{Planned, TickIs};
 
+// A mark as the lowest bit of a mask.
+fn bit(mark: bool) -> u16
+    ensures { λ r. ⌜ r ≡ cond mark 1 0 ⌝ }
+{
+    if mark { 1 } else { 0 }
+}
+
+// The mask of some marks.
+fn mask_of(marks: &[bool; 16]) -> u16
+    requires { ⌜ length (now marks) ≡ 16 ⌝ }
+    ensures { λ r. ⌜ marksIn r ≡ now (marks .entry) ⌝ }
+{
+    let mut mask: u16 = 0;
+    let mut u: usize = 16;
+    while 0 < u {
+        u -= 1;
+        mask = 2 * mask + bit(marks[u]);
+    }
+    mask
+}
+
 // One tick of a record by value.
-pub fn stepped(p: Plan, marks: &[bool; 16], finish: bool, m: Machine) -> Machine
+pub fn stepped(p: Plan, mask: u16, finish: bool, m: Machine) -> Machine
     requires { ⌜ Sound p × Countable (m .used) ⌝ }
-    ensures { λ r. ⌜ Steps p (now (marks .entry)) finish m r ⌝ }
+    ensures { λ r. ⌜ Steps p mask finish m r ⌝ }
 {
     let mut awake = m.awake;
     let mut used = m.used;
@@ -38,7 +61,7 @@ pub fn stepped(p: Plan, marks: &[bool; 16], finish: bool, m: Machine) -> Machine
         &p.runs,
         sources,
         &p.gaps,
-        marks,
+        mask,
         finish,
         &mut awake,
         &mut used,
@@ -75,16 +98,17 @@ pub fn tick_judged(p: Plan, m: Machine, a: Arrivals, finish: bool) -> Ticked
         return refused(Refusal::ForeignState, m);
     }
     let marks = a.marks;
+    let mask = mask_of(&marks);
     let sources = p.sources;
-    if strangers(sources, &marks) {
+    if above(mask, sources) != 0 {
         return refused(Refusal::Stranger, m);
     }
     let gaps = p.gaps;
     let ages = m.ages;
-    if too_soon(&gaps, sources, &marks, &ages) {
+    if too_soon(&gaps, mask, &ages) {
         return refused(Refusal::TooSoon, m);
     }
-    let next = stepped(p, &marks, finish, m);
+    let next = stepped(p, mask, finish, m);
     let outcome = Outcome::Done;
     Ticked {
         outcome,

@@ -1,5 +1,5 @@
 -- One turn of each step's loop, on the parts of the record. Assumes nothing.
-use Prim.Native.Nat.{ℕ, zero, suc, _+_, _-_, _≤_, _<_, min}
+use Prim.Native.Nat.{ℕ, zero, suc, _+_, _-_, _/_, _^_, _≤_, _<_, min}
 use mathlib.Core.Path.{_≡_, refl, sym, ap, subst, subst⁻¹, _∙_}
 use mathlib.Core.Bool.{Bool, true, false, _||_, _&&_, not, cond}
 use mathlib.Core.List.{List}
@@ -18,7 +18,8 @@ use Rattle.model.specs.Machine.{arrive, ageAll, endRun, stepped, clearInto, set
 use Rattle.theory.proofs.Tests.{Cmp, less, same, more, cmp}
 use Rattle.theory.proofs.Range.{upTo-more}
 use Rattle.theory.proofs.Firing.{getD-set}
-use Rattle.steps.specs.Parts.{parts, PlacesOf, acted, each, risen, older}
+use Rattle.steps.specs.Parts.{parts, PlacesOf, heard, marksIn, acted, each, risen, older}
+use Rattle.steps.proofs.MaskLaws.{none-above, mark-in}
 
 -- by cases, the sum first
 pub cases : {A B C : Type 0} → A ⊎ B → (A → C) → (B → C) → C
@@ -65,6 +66,15 @@ arrive-on d marks u m aw wa dr us ag e f = rw e (ap (setAge u 0) f)
 pub arrive-off : (d : Description) (marks : List Bool) (u : ℕ) (m : Machine) → getD marks u false ≡ false → m ≡ arriveOne d marks u m
 unfolding arriveOne
 arrive-off d marks u m e = rw e refl
+
+-- sources of a mask with no bit from l up to l + j, and with none from l on
+pub arrive-none : (d : Description) (mask l j : ℕ) (m : Machine) → l + j ≤ 16 → ((u : ℕ) → l ≤ u → u < l + j → heard mask u ≡ false) → upTo l (arriveOne d (marksIn mask)) m ≡ upTo (l + j) (arriveOne d (marksIn mask)) m
+arrive-none d mask l j m h none = upTo-rest l j (arriveOne d (marksIn mask)) m (λ u a b x. arrive-off d (marksIn mask) u x (mark-in mask u (omega arith) ∙ none u a b))
+
+pub arrive-rest : (d : Description) (mask l : ℕ) (m : Machine) → l ≤ 16 → mask / 2 ^ l ≡ 0 → upTo l (arriveOne d (marksIn mask)) m ≡ upTo 16 (arriveOne d (marksIn mask)) m
+arrive-rest d mask l m h e =
+    let q : l + (16 - l) ≡ 16 = omega arith in
+    arrive-none d mask l (16 - l) m (omega arith) (λ u a b. none-above mask l u e a) ∙ ap (λ n. upTo n (arriveOne d (marksIn mask)) m) q
 
 -- the highest awake task of k is k if it is awake, and one of k - 1 otherwise
 pub highest-here : (aw : List Bool) (k : ℕ) → 0 < k → getD aw (k - 1) false ≡ true → highestIn aw k ≡ k

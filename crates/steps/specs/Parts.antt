@@ -1,12 +1,13 @@
 -- The description as plain tables and the machine's record by its parts: how the code holds them, and what each step ensures of them.
-use Prim.Native.Nat.{ℕ, _+_, _≤_, _<_, _^_, min}
+use Prim.Native.Nat.{ℕ, _+_, _/_, _%_, _^_, _≤_, _<_, min}
 use mathlib.Core.Bool.{Bool, false}
 use mathlib.Core.List.{List}
 use mathlib.Core.Path.{_≡_}
 use lib.ListN.{getD, set}
+use lib.Dec.{eqb}
 use Rattle.model.specs.declared.Description.{Description}
 use Rattle.model.specs.declared.Machine.{Machine}
-use Rattle.model.specs.Basics.{upTo}
+use Rattle.model.specs.Basics.{upTo, tab}
 use Rattle.model.specs.Graph.{linkAt}
 use Rattle.model.specs.Delays.{spacingOf}
 use Rattle.model.specs.Machine.{idle, fire, arrive, highest, highestIn, runTask, clearInto, endRun, stepped}
@@ -56,11 +57,22 @@ Fires from to first last x awake waiting dropped awake′ waiting′ dropped′ 
     (d : Description) (n : ℕ) (used ages : List ℕ) → PlacesOf d from to first last n
     → parts awake′ used waiting′ dropped′ ages ≡ fire d x (parts awake used waiting dropped ages)
 
--- the marked sources have arrived
-abbrev pub Arrives : List ℕ → List ℕ → List ℕ → List ℕ → List Bool → ℕ → List Bool → List Bool → List Bool → List ℕ → List Bool → List Bool → List Bool → List ℕ → Type 0
-Arrives from to first last marks sources awake waiting dropped ages awake′ waiting′ dropped′ ages′ =
-    (d : Description) (n : ℕ) (used : List ℕ) → PlacesOf d from to first last n → d .«source_count» ≡ sources
-    → parts awake′ used waiting′ dropped′ ages′ ≡ arrive d marks (parts awake used waiting dropped ages)
+-- the arrivals of a mask, whose bit u is source 33 + u
+abbrev pub heard : ℕ → ℕ → Bool
+heard mask u = eqb (mask / 2 ^ u % 2) 1
+
+unfoldable pub marksIn : ℕ → List Bool
+marksIn mask = tab 16 (heard mask)
+
+-- a mask of sources that exist
+abbrev pub Known : Description → ℕ → Type 0
+Known d mask = (d .«source_count» ≤ 16) × (mask / 2 ^ d .«source_count» ≡ 0)
+
+-- the sources of a mask have arrived
+abbrev pub Arrives : List ℕ → List ℕ → List ℕ → List ℕ → ℕ → List Bool → List Bool → List Bool → List ℕ → List Bool → List Bool → List Bool → List ℕ → Type 0
+Arrives from to first last mask awake waiting dropped ages awake′ waiting′ dropped′ ages′ =
+    (d : Description) (n : ℕ) (used : List ℕ) → PlacesOf d from to first last n → Known d mask
+    → parts awake′ used waiting′ dropped′ ages′ ≡ arrive d (marksIn mask) (parts awake used waiting dropped ages)
 
 -- task h has run, or none for 0
 abbrev pub Runs : ℕ → List ℕ → List ℕ → Type 0
@@ -91,9 +103,9 @@ abbrev pub acted : Description → List Bool → Bool → Machine → Machine
 acted d marks finish m = let m₁ = arrive d marks m in let h = highest d m₁ in endRun d h finish (runTask h m₁)
 
 -- the record is three steps on, and r is the highest awake task then
-abbrev pub Acts : List ℕ → List ℕ → List ℕ → List ℕ → ℕ → ℕ → List ℕ → ℕ → List Bool → Bool → Machine → Machine → ℕ → Type 0
-Acts from to first last n tasks runs sources marks finish m m′ r =
-    ((d : Description) → PlacesOf d from to first last n → d .«task_count» ≡ tasks → runs ≡ d .runs → d .«source_count» ≡ sources → m′ ≡ acted d marks finish m)
+abbrev pub Acts : List ℕ → List ℕ → List ℕ → List ℕ → ℕ → ℕ → List ℕ → ℕ → Bool → Machine → Machine → ℕ → Type 0
+Acts from to first last n tasks runs mask finish m m′ r =
+    ((d : Description) → PlacesOf d from to first last n → d .«task_count» ≡ tasks → runs ≡ d .runs → Known d mask → m′ ≡ acted d (marksIn mask) finish m)
     × (r ≡ highestIn (m′ .awake) tasks)
 
 -- each of the first n numbers of a list changed by a function of its place
@@ -132,8 +144,8 @@ pub record Sound (p : Plan) : Type 0 where
   pub few-sources : p .sources ≤ 16
 
 -- the record is one tick later
-abbrev pub Steps : Plan → List Bool → Bool → Machine → Machine → Type 0
-Steps p marks finish m m′ = (d : Description) (t : ℕ) → PlanOf d t p → m′ ≡ stepped d t marks finish m
+abbrev pub Steps : Plan → ℕ → Bool → Machine → Machine → Type 0
+Steps p mask finish m m′ = (d : Description) (t : ℕ) → PlanOf d t p → Known d mask → m′ ≡ stepped d t (marksIn mask) finish m
 
 -- a tick more fits what each task has used
 abbrev pub Countable : List ℕ → Type 0

@@ -60,38 +60,46 @@ pub fn fire<'a>(
     }
 }
 
-// Step 1: each arriving source fires, in rising number, and its age becomes 0.
+// A mask as a word.
+pub fn bits(mask: u16) -> u64
+    ensures { λ r. ⌜ r ≡ mask ⌝ }
+{
+    mask as u64
+}
+
+// Step 1: each arriving source fires, in rising number, and its age becomes 0. The rest of the mask has its bits from r on.
 pub fn arrive<'a>(
     from: &'a [u8; 256],
     to: &'a [u8; 256],
     first: &'a [u16; 256],
     last: &'a [u16; 256],
-    marks: &[bool; 16],
-    sources: usize,
+    mask: u16,
     awake: &mut [bool; 32],
     waiting: &mut [bool; 256],
     dropped: &mut [bool; 256],
     ages: &mut [u32; 16],
 )
-    requires { ⌜ Bounded (now to) (now last) × (sources ≤ 16) ⌝ }
-    ensures { λ _. ⌜ Arrives (now (from .entry)) (now (to .entry)) (now (first .entry)) (now (last .entry)) (now (marks .entry)) sources (now (awake .entry)) (now (waiting .entry)) (now (dropped .entry)) (now (ages .entry)) (now (awake .exit)) (now (waiting .exit)) (now (dropped .exit)) (now (ages .exit)) ⌝ }
+    requires { ⌜ Bounded (now to) (now last) ⌝ }
+    ensures { λ _. ⌜ Arrives (now (from .entry)) (now (to .entry)) (now (first .entry)) (now (last .entry)) mask (now (awake .entry)) (now (waiting .entry)) (now (dropped .entry)) (now (ages .entry)) (now (awake .exit)) (now (waiting .exit)) (now (dropped .exit)) (now (ages .exit)) ⌝ }
 {
-    let mut u: usize = 0;
-    while u < sources {
-        if marks[u] {
-            fire(
-                from,
-                to,
-                first,
-                last,
-                33 + u,
-                &mut *awake,
-                &mut *waiting,
-                &mut *dropped,
-            );
-            ages[u] = 0;
-        }
-        u += 1;
+    let mut rest = bits(mask);
+    let mut r: usize = 0;
+    while rest != 0 {
+        let k = verdicts::into::first(rest);
+        let u = r + k;
+        fire(
+            from,
+            to,
+            first,
+            last,
+            33 + u,
+            &mut *awake,
+            &mut *waiting,
+            &mut *dropped,
+        );
+        ages[u] = 0;
+        r = u + 1;
+        rest = rest >> k >> 1;
     }
 }
 
@@ -234,8 +242,7 @@ pub fn act<'a>(
     links: usize,
     tasks: usize,
     runs: &'a [u32; 32],
-    sources: usize,
-    marks: &[bool; 16],
+    mask: u16,
     finish: bool,
     awake: &mut [bool; 32],
     used: &mut [u32; 32],
@@ -243,16 +250,15 @@ pub fn act<'a>(
     dropped: &mut [bool; 256],
     ages: &mut [u32; 16],
 ) -> usize
-    requires { ⌜ Bounded (now to) (now last) × (links ≤ 256) × (tasks ≤ 32) × (sources ≤ 16) × Countable (now used) ⌝ }
-    ensures { λ r. ⌜ Acts (now (from .entry)) (now (to .entry)) (now (first .entry)) (now (last .entry)) links tasks (now (runs .entry)) sources (now (marks .entry)) finish (parts (now (awake .entry)) (now (used .entry)) (now (waiting .entry)) (now (dropped .entry)) (now (ages .entry))) (parts (now (awake .exit)) (now (used .exit)) (now (waiting .exit)) (now (dropped .exit)) (now (ages .exit))) r ⌝ }
+    requires { ⌜ Bounded (now to) (now last) × (links ≤ 256) × (tasks ≤ 32) × Countable (now used) ⌝ }
+    ensures { λ r. ⌜ Acts (now (from .entry)) (now (to .entry)) (now (first .entry)) (now (last .entry)) links tasks (now (runs .entry)) mask finish (parts (now (awake .entry)) (now (used .entry)) (now (waiting .entry)) (now (dropped .entry)) (now (ages .entry))) (parts (now (awake .exit)) (now (used .exit)) (now (waiting .exit)) (now (dropped .exit)) (now (ages .exit))) r ⌝ }
 {
     arrive(
         from,
         to,
         first,
         last,
-        marks,
-        sources,
+        mask,
         &mut *awake,
         &mut *waiting,
         &mut *dropped,
@@ -315,7 +321,7 @@ pub fn step<'a>(
     runs: &'a [u32; 32],
     sources: usize,
     gaps: &'a [u32; 16],
-    marks: &[bool; 16],
+    mask: u16,
     finish: bool,
     awake: &mut [bool; 32],
     used: &mut [u32; 32],
@@ -324,7 +330,7 @@ pub fn step<'a>(
     ages: &mut [u32; 16],
 )
     requires { ⌜ Sound (plan links (now from) (now to) (now first) (now last) tasks (now runs) sources (now gaps)) × Countable (now used) ⌝ }
-    ensures { λ _. ⌜ Steps (plan links (now (from .entry)) (now (to .entry)) (now (first .entry)) (now (last .entry)) tasks (now (runs .entry)) sources (now (gaps .entry))) (now (marks .entry)) finish (parts (now (awake .entry)) (now (used .entry)) (now (waiting .entry)) (now (dropped .entry)) (now (ages .entry))) (parts (now (awake .exit)) (now (used .exit)) (now (waiting .exit)) (now (dropped .exit)) (now (ages .exit))) ⌝ }
+    ensures { λ _. ⌜ Steps (plan links (now (from .entry)) (now (to .entry)) (now (first .entry)) (now (last .entry)) tasks (now (runs .entry)) sources (now (gaps .entry))) mask finish (parts (now (awake .entry)) (now (used .entry)) (now (waiting .entry)) (now (dropped .entry)) (now (ages .entry))) (parts (now (awake .exit)) (now (used .exit)) (now (waiting .exit)) (now (dropped .exit)) (now (ages .exit))) ⌝ }
 {
     act(
         from,
@@ -334,8 +340,7 @@ pub fn step<'a>(
         links,
         tasks,
         runs,
-        sources,
-        marks,
+        mask,
         finish,
         awake,
         used,

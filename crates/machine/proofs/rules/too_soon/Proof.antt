@@ -1,78 +1,108 @@
--- `too_soon` meets its contract: none of the first u sources arrives too soon. Assumes nothing.
-use Prim.Native.Nat.{ℕ, _+_, _-_, _≤_, _<_}
-use mathlib.Core.Path.{_≡_, sym, ap, _∙_}
-use mathlib.Core.Bool.{false, _&&_}
+-- `too_soon` meets its contract: no source of the first r bits arrives too soon, and the rest of the mask is what they leave. Assumes
+-- nothing.
+use Prim.Native.Nat.{ℕ, _+_, _-_, _≤_, _<_, _/_, _^_}
+use mathlib.Core.Path.{_≡_, sym, _∙_}
+use mathlib.Core.Bool.{true}
 use native.Mathlib.Omega.{arith}
-use borrow.Author.Tests.{le-ltb, lt-ltb}
+use borrow.Author.Needs.{needs}
 use lib.ListN.{getD}
-use Rattle.model.specs.declared.Description.{Description}
-use lib.Dec.{ltb}
-use Rattle.model.specs.Basics.{anyN}
-use Rattle.model.specs.Delays.{spacingOf}
-use Rattle.model.specs.Machine.{tooSoon}
-use Rattle.theory.proofs.Tests.{both, and-false-left, and-false-right}
-use Rattle.theory.proofs.Range.{any-at}
-use Rattle.steps.specs.Parts.{GapsOf}
-use Rattle.steps.proofs.StepLaws.{cases}
-use Rattle.machine.proofs.RuleLaws.{any-none₀, any-next}
+use Rattle.steps.specs.Parts.{heard}
+use Rattle.steps.proofs.MaskLaws.{whole-mask, heard-under, turn, passed}
+use Rattle.machine.proofs.RuleLaws.{soon-one, soon-none}
 use Rattle.machine.proofs.rules.too_soon.Statement.{statement}
 use Rattle.machine.proofs.rules.too_soon.Tie as tie
 
 abbrev Inv-loop : tie.InvT-loop
-Inv-loop gaps sources marks ages u₀ u = (u ≤ sources) × ((d : Description) (t : ℕ) → d .«source_count» ≡ sources → GapsOf d t gaps → anyN (λ k. getD marks k false && ltb (getD ages k 0) (spacingOf d t (33 + k))) 0 u ≡ false)
+Inv-loop gaps mask ages rest₀ r₀ rest r = (r ≤ 16) × (rest ≡ mask / 2 ^ r) × ((u : ℕ) → u < r → heard mask u ≡ true → getD gaps u 0 ≤ getD ages u 0)
 
 abbrev μ-loop : tie.MeasureT-loop
-μ-loop gaps sources marks ages u₀ u = sources - u
+μ-loop gaps mask ages rest₀ r₀ rest r = 16 - r
+
+bits-requires : tie.Need-bits-requires Inv-loop μ-loop
+bits-requires c κs = search needs
 
 loop-holds : tie.Need-loop-holds Inv-loop μ-loop
-loop-holds c = (omega arith, λ d t e g. any-none₀ _ 0)
+loop-holds c = (omega arith, c .bits .ensures ∙ whole-mask (c .before .args .mask), λ u h e. absurd (omega arith))
 
-element-copy-out-if1 : tie.Need-element-copy-out-if1 Inv-loop μ-loop
-element-copy-out-if1 c = omega arith
-
-mul-if2 : tie.Need-mul-if2 Inv-loop μ-loop
-mul-if2 c = omega arith
-
-element-copy-out-if2 : tie.Need-element-copy-out-if2 Inv-loop μ-loop
-element-copy-out-if2 c = omega arith
-
-mul-if2-2 : tie.Need-mul-if2-2 Inv-loop μ-loop
-mul-if2-2 c = omega arith
-
-element-copy-out-if2-2 : tie.Need-element-copy-out-if2-2 Inv-loop μ-loop
-element-copy-out-if2-2 c = omega arith
-
-returns : tie.Need-returns Inv-loop μ-loop
-unfolding tooSoon
-returns c = λ d t aw wa dr us e g.
-    let S = c .before .before .before .before .before .before .before in
-    let L = c .before .before .before .before .before .before .loop in
-    let h : L .u < d .«source_count» = omega (arith, e, c .before .before .before .before .before .loop-test .taken) in
-    sym (any-at (λ k. getD (S .args .marks .now) k false && ltb (getD (S .args .ages .now) k 0) (spacingOf d t (33 + k))) 0 (d .«source_count») (L .u) (omega arith) (omega arith) (both (getD (S .args .marks .now) (L .u) false) (ltb (getD (S .args .ages .now) (L .u) 0) (spacingOf d t (33 + L .u))) (c .before .before .before .if1 .taken) (lt-ltb (getD (S .args .ages .now) (L .u) 0) (spacingOf d t (33 + L .u)) (omega (arith, c .if2 .taken, g (L .u) h)))))
+first-requires : tie.Need-first-requires Inv-loop μ-loop
+first-requires c κs = search needs
 
 add-u : tie.Need-add-u Inv-loop μ-loop
-add-u c = omega arith
+add-u c =
+    let S = c .before .before .before .before in
+    let L = c .before .before .loop in
+    let f = c .first in
+    omega (arith, turn (S .args .mask) (L .r) (L .rest) (f .result) (S .fits .mask .fits) (L .inv .1) (f .ensures) .inside)
+
+mul-if1 : tie.Need-mul-if1 Inv-loop μ-loop
+mul-if1 c =
+    let S = c .before .before .before .before in
+    let L = c .before .before .loop in
+    let f = c .first in
+    omega (arith, turn (S .args .mask) (L .r) (L .rest) (f .result) (S .fits .mask .fits) (L .inv .1) (f .ensures) .inside)
+
+element-copy-out-if1 : tie.Need-element-copy-out-if1 Inv-loop μ-loop
+element-copy-out-if1 c =
+    let S = c .before .before .before .before in
+    let L = c .before .before .loop in
+    let f = c .first in
+    omega (arith, turn (S .args .mask) (L .r) (L .rest) (f .result) (S .fits .mask .fits) (L .inv .1) (f .ensures) .inside)
+
+mul-if1-2 : tie.Need-mul-if1-2 Inv-loop μ-loop
+mul-if1-2 c =
+    let S = c .before .before .before .before .before in
+    let L = c .before .before .before .loop in
+    let f = c .before .first in
+    omega (arith, turn (S .args .mask) (L .r) (L .rest) (f .result) (S .fits .mask .fits) (L .inv .1) (f .ensures) .inside)
+
+element-copy-out-if1-2 : tie.Need-element-copy-out-if1-2 Inv-loop μ-loop
+element-copy-out-if1-2 c =
+    let S = c .before .before .before .before .before in
+    let L = c .before .before .before .loop in
+    let f = c .before .first in
+    omega (arith, turn (S .args .mask) (L .r) (L .rest) (f .result) (S .fits .mask .fits) (L .inv .1) (f .ensures) .inside)
+
+returns : tie.Need-returns Inv-loop μ-loop
+returns c = λ d t aw wa dr us g k.
+    let S = c .before .before .before .before .before .before .before in
+    let L = c .before .before .before .before .before .loop in
+    let f = c .before .before .before .first in
+    soon-one d t (S .args .mask) (L .r + f .result) (S .args .gaps .now) us (S .args .ages .now) aw wa dr g k (turn (S .args .mask) (L .r) (L .rest) (f .result) (S .fits .mask .fits) (L .inv .1) (f .ensures) .here) (c .if1 .taken)
+
+add-r : tie.Need-add-r Inv-loop μ-loop
+add-r c =
+    let S = c .before .before .before .before .before .before .before in
+    let L = c .before .before .before .before .before .loop in
+    let f = c .before .before .before .first in
+    omega (arith, turn (S .args .mask) (L .r) (L .rest) (f .result) (S .fits .mask .fits) (L .inv .1) (f .ensures) .inside)
+
+shr-rest : tie.Need-shr-rest Inv-loop μ-loop
+shr-rest c =
+    let S = c .before .before .before .before .before .before .before in
+    let L = c .before .before .before .before .before .loop in
+    let f = c .before .before .before .first in
+    omega (arith, f .ensures .below)
 
 loop-less : tie.Need-loop-less Inv-loop μ-loop
-loop-less c = omega arith
+loop-less c =
+    let S = c .before .before .before .before .before .before .before in
+    let L = c .before .before .before .before .before .loop in
+    let f = c .before .before .before .first in
+    omega (arith, turn (S .args .mask) (L .r) (L .rest) (f .result) (S .fits .mask .fits) (L .inv .1) (f .ensures) .inside)
 
 loop-again : tie.Need-loop-again Inv-loop μ-loop
 loop-again c =
-    let S = c .before .before .before .before in
-    let L = c .before .before .before .loop in (
-      omega arith,
-      λ d t e g.
-          let h : L .u < d .«source_count» = omega (arith, e, c .before .before .loop-test .taken) in
-          any-next (λ k. getD (S .args .marks .now) k false && ltb (getD (S .args .ages .now) k 0) (spacingOf d t (33 + k))) (L .u) (L .inv .1 d t e g) (cases (c .if1 .came) (λ w. and-false-right (getD (S .args .marks .now) (L .u) false) (ltb (getD (S .args .ages .now) (L .u) 0) (spacingOf d t (33 + L .u))) (le-ltb (getD (S .args .ages .now) (L .u) 0) (spacingOf d t (33 + L .u)) (omega (arith, w .3 .left, g (L .u) h)))) (λ w. and-false-left (getD (S .args .marks .now) (L .u) false) (ltb (getD (S .args .ages .now) (L .u) 0) (spacingOf d t (33 + L .u))) (w .left))),
-    )
+    let S = c .before .before .before .before .before .before .before in
+    let L = c .before .before .before .before .before .loop in
+    let f = c .before .before .before .first in
+    let T = turn (S .args .mask) (L .r) (L .rest) (f .result) (S .fits .mask .fits) (L .inv .1) (f .ensures) in
+    (omega (arith, T .inside), T .after, passed (λ u. getD (S .args .gaps .now) u 0 ≤ getD (S .args .ages .now) u 0) (S .args .mask) (L .r) (L .rest) (f .result) T (L .inv .2) (omega (arith, c .if1 .left)))
 
 returns-2 : tie.Need-returns-2 Inv-loop μ-loop
-unfolding tooSoon
-returns-2 c = λ d t aw wa dr us e g.
-    let S = c .before .before in
+returns-2 c = λ d t aw wa dr us g k.
+    let S = c .before .before .before in
     let L = c .before .loop in
-    let q : L .u ≡ d .«source_count» = omega (arith, c .loop-test .left, L .inv .0, e) in
-    sym (ap (anyN (λ k. getD (S .args .marks .now) k false && ltb (getD (S .args .ages .now) k 0) (spacingOf d t (33 + k))) 0) (sym q) ∙ L .inv .1 d t e g)
+    soon-none d t (S .args .mask) (S .args .gaps .now) us (S .args .ages .now) aw wa dr g k (λ u e. L .inv .2 u (heard-under (S .args .mask) (L .r) u (sym (L .inv .1) ∙ c .loop-test .left) e) e)
 
 pub too-soon-spec : {M : Type 1} → statement M
 too-soon-spec =
@@ -80,14 +110,17 @@ too-soon-spec =
     (tie.spec
     Inv-loop
     μ-loop
+    bits-requires
     loop-holds
-    element-copy-out-if1
-    mul-if2
-    element-copy-out-if2
-    mul-if2-2
-    element-copy-out-if2-2
-    returns
+    first-requires
     add-u
+    mul-if1
+    element-copy-out-if1
+    mul-if1-2
+    element-copy-out-if1-2
+    returns
+    add-r
+    shr-rest
     loop-less
     loop-again
     returns-2)

@@ -5,12 +5,11 @@ use Prim.Native.Nat.{_+_}
 use native.Mathlib.Omega.{arith}
 use Rattle.model.specs.declared.Outcome.the-variants.{Done, Refused}
 use Rattle.model.specs.declared.Refusal.the-variants.{TooSoon, Stranger}
-use Rattle.model.specs.Machine.{highestIn, strangers, tooSoon}
-use Rattle.steps.specs.Parts.{parts, older, acted}
+use Rattle.model.specs.Machine.{highestIn, tooSoon}
+use Rattle.steps.specs.Parts.{marksIn, parts, older, acted}
 use Rattle.steps.proofs.StepLaws.{step-whole}
-use Rattle.machine.specs.Run.{marksIn}
 use Rattle.machine.proofs.TickLaws.{tick-stranger, tick-soon, tick-done}
-use Rattle.machine.proofs.RunLaws.{quiet-done, caught-up, strangers-none, strangers-some, answer-coded}
+use Rattle.machine.proofs.RunLaws.{quiet-done, caught-up, strangers-none, strangers-some, known, answer-coded, answer-as}
 use borrow.Author.Needs.{needs}
 use Rattle.machine.proofs.run.advance.Statement.{statement}
 use Rattle.machine.proofs.run.advance.Tie as tie
@@ -29,7 +28,7 @@ returns c =
     record {
       advanced = λ d t r e l.
           let m = parts (A .awake .now) (A .used .now) (A .waiting .now) (A .dropped .now) (older d t (A .late .now) (A .ages .now)) in
-          answer-coded d t (A .mask) (A .finish) (marksIn 0) m (record { outcome = Done; machine = parts (v .last .1 .1 .1 .1 .1 .1 .1 .1 .1 .0) (v .last .1 .1 .1 .1 .1 .1 .1 .1 .1 .1 .0) (v .last .1 .1 .1 .1 .1 .1 .1 .1 .1 .1 .1 .0) (v .last .1 .1 .1 .1 .1 .1 .1 .1 .1 .1 .1 .1 .0) (older d t (A .late .now + 1) (A .ages .now)) }) (ap marksIn (sym (c .before .before .before .before .before .if1 .taken))) (quiet-done d t (A .finish) (A .top .now) (A .late .now) (A .awake .now) (v .last .1 .1 .1 .1 .1 .1 .1 .1 .1 .0) (A .waiting .now) (v .last .1 .1 .1 .1 .1 .1 .1 .1 .1 .1 .1 .0) (A .dropped .now) (v .last .1 .1 .1 .1 .1 .1 .1 .1 .1 .1 .1 .1 .0) (A .used .now) (v .last .1 .1 .1 .1 .1 .1 .1 .1 .1 .1 .0) (A .ages .now) (omega (arith, r .as-wide, S .pre .0 .few-sources)) e l (S .pre .3 ∙ ap (highestIn (A .awake .now)) (sym (r .as-many))) (v .ensures .0 d (older d t (A .late .now) (A .ages .now)) (r .placed) (r .same-runs)));
+          answer-as d t (A .mask) (A .finish) (marksIn 0) m (record { outcome = Done; machine = parts (v .last .1 .1 .1 .1 .1 .1 .1 .1 .1 .0) (v .last .1 .1 .1 .1 .1 .1 .1 .1 .1 .1 .0) (v .last .1 .1 .1 .1 .1 .1 .1 .1 .1 .1 .1 .0) (v .last .1 .1 .1 .1 .1 .1 .1 .1 .1 .1 .1 .1 .0) (older d t (A .late .now + 1) (A .ages .now)) }) (ap marksIn (sym (c .before .before .before .before .before .if1 .taken))) (quiet-done d t (A .finish) (A .top .now) (A .late .now) (A .awake .now) (v .last .1 .1 .1 .1 .1 .1 .1 .1 .1 .0) (A .waiting .now) (v .last .1 .1 .1 .1 .1 .1 .1 .1 .1 .1 .1 .0) (A .dropped .now) (v .last .1 .1 .1 .1 .1 .1 .1 .1 .1 .1 .1 .1 .0) (A .used .now) (v .last .1 .1 .1 .1 .1 .1 .1 .1 .1 .1 .0) (A .ages .now) (omega (arith, r .as-wide, S .pre .0 .few-sources)) e l (S .pre .3 ∙ ap (highestIn (A .awake .now)) (sym (r .as-many))) (v .ensures .0 d (older d t (A .late .now) (A .ages .now)) (r .placed) (r .same-runs)));
       little = search needs;
       highest = v .ensures .1;
     }
@@ -44,13 +43,10 @@ returns-2 c =
     record {
       advanced = λ d t r e l.
           let m = parts (A .awake .now) (A .used .now) (A .waiting .now) (A .dropped .now) (older d t (A .late .now) (A .ages .now)) in
-          answer-coded d t (A .mask) (A .finish) (marksIn (A .mask)) m (record { outcome = Refused Stranger 0; machine = m }) refl (tick-stranger d t m (record { marks = marksIn (A .mask) }) (A .finish) e l (strangers-some d (A .mask) (A .sources) (r .as-wide) (S .pre .0 .few-sources) (S .fits .mask .fits) (λ z. c .if2 .taken (c .before .above .ensures ∙ z))));
+          answer-coded d t (A .mask) (A .finish) m (record { outcome = Refused Stranger 0; machine = m }) (tick-stranger d t m (record { marks = marksIn (A .mask) }) (A .finish) e l (strangers-some d (A .mask) (A .sources) (r .as-wide) (S .pre .0 .few-sources) (S .fits .mask .fits) (λ z. c .if2 .taken (c .before .above .ensures ∙ z))));
       little = search needs;
       highest = S .pre .3;
     }
-
-mark-requires : tie.Need-mark-requires
-mark-requires c κs = let S = c .before .before .before .before .before .before in (S .pre .0 .few-sources, sym (c .before .before .above .ensures) ∙ c .before .if2 .left, refl)
 
 age-all-requires : tie.Need-age-all-requires
 age-all-requires c κs = search needs
@@ -60,15 +56,16 @@ too-soon-requires c κs = search needs
 
 returns-3 : tie.Need-returns-3
 returns-3 c =
-    let S = c .before .before .before .before .before .before .before .before .before .before .before .before .before in
+    let S = c .before .before .before .before .before .before .before .before .before .before in
     let A = S .args in
-    let marks = c .before .before .before .before .before .before .mark .last .1 .1 .0 in
+    let marks = marksIn (A .mask) in
     record {
       advanced = λ d t r e l.
           let m = parts (A .awake .now) (A .used .now) (A .waiting .now) (A .dropped .now) (older d t (A .late .now) (A .ages .now)) in
-          let E = c .before .before .before .before .age-all .ensures d t (r .as-wide) (r .spaced) in
-          let z = answer-coded d t (A .mask) (A .finish) marks m (record { outcome = Refused TooSoon 0; machine = m }) (c .before .before .before .before .before .before .mark .ensures) (tick-soon d t m (record { marks = marks }) (A .finish) e l (ap (strangers d) (c .before .before .before .before .before .before .mark .ensures) ∙ strangers-none d (A .mask) (A .sources) (r .as-wide) (sym (c .before .before .before .before .before .before .before .before .before .above .ensures) ∙ c .before .before .before .before .before .before .before .before .if2 .left)) (sym (c .before .too-soon .ensures d t (A .awake .now) (A .waiting .now) (A .dropped .now) (A .used .now) (r .as-wide) (r .spaced) ∙ ap (λ a. tooSoon d t marks (parts (A .awake .now) (A .used .now) (A .waiting .now) (A .dropped .now) a)) E) ∙ c .if3 .taken)) in
-          (z .0, caught-up d t (A .late .now) (A .awake .now) (A .waiting .now) (A .dropped .now) (A .used .now) (A .ages .now) (c .before .before .before .before .age-all .last .1 .1 .1 .0) E ∙ z .1);
+          let K = known d (A .mask) (A .sources) (c .before .before .before .before .before .before .above .result) (r .as-wide) (S .pre .0 .few-sources) (c .before .before .before .before .before .before .above .ensures) (c .before .before .before .before .before .if2 .left) in
+          let E = c .before .before .before .age-all .ensures d t (r .as-wide) (r .spaced) in
+          let z = answer-coded d t (A .mask) (A .finish) m (record { outcome = Refused TooSoon 0; machine = m }) (tick-soon d t m (record { marks = marks }) (A .finish) e l (strangers-none d (A .mask) (d .«source_count») refl (K .1)) (sym (c .before .too-soon .ensures d t (A .awake .now) (A .waiting .now) (A .dropped .now) (A .used .now) (r .spaced) K ∙ ap (λ a. tooSoon d t marks (parts (A .awake .now) (A .used .now) (A .waiting .now) (A .dropped .now) a)) E) ∙ c .if3 .taken)) in
+          (z .0, caught-up d t (A .late .now) (A .awake .now) (A .waiting .now) (A .dropped .now) (A .used .now) (A .ages .now) (c .before .before .before .age-all .last .1 .1 .1 .0) E ∙ z .1);
       little = search needs;
       highest = S .pre .3;
     }
@@ -78,15 +75,17 @@ act-requires c κs = search needs
 
 returns-4 : tie.Need-returns-4
 returns-4 c =
-    let S = c .before .before .before .before .before .before .before .before .before .before .before .before .before .before .before .before .before .before .before .before in
+    let S = c .before .before .before .before .before .before .before .before .before .before .before .before .before .before .before .before in
     let A = S .args in
-    let marks = c .before .before .before .before .before .before .before .before .before .before .before .before .before .mark .last .1 .1 .0 in
+    let marks = marksIn (A .mask) in
     let v = c .act in
     record {
       advanced = λ d t r e l.
           let m = parts (A .awake .now) (A .used .now) (A .waiting .now) (A .dropped .now) (older d t (A .late .now) (A .ages .now)) in
-          let E = c .before .before .before .before .before .before .before .before .before .before .before .age-all .ensures d t (r .as-wide) (r .spaced) in
-          answer-coded d t (A .mask) (A .finish) marks m (record { outcome = Done; machine = parts (v .last .1 .1 .1 .1 .1 .1 .1 .1 .1 .1 .0) (v .last .1 .1 .1 .1 .1 .1 .1 .1 .1 .1 .1 .0) (v .last .1 .1 .1 .1 .1 .1 .1 .1 .1 .1 .1 .1 .0) (v .last .1 .1 .1 .1 .1 .1 .1 .1 .1 .1 .1 .1 .1 .0) (older d t 1 (v .last .1 .1 .1 .1 .1 .1 .1 .1 .1 .1 .1 .1 .1 .1 .0)) }) (c .before .before .before .before .before .before .before .before .before .before .before .before .before .mark .ensures) (tick-done d t m (parts (v .last .1 .1 .1 .1 .1 .1 .1 .1 .1 .1 .0) (v .last .1 .1 .1 .1 .1 .1 .1 .1 .1 .1 .1 .0) (v .last .1 .1 .1 .1 .1 .1 .1 .1 .1 .1 .1 .1 .0) (v .last .1 .1 .1 .1 .1 .1 .1 .1 .1 .1 .1 .1 .1 .0) (older d t 1 (v .last .1 .1 .1 .1 .1 .1 .1 .1 .1 .1 .1 .1 .1 .1 .0))) (record { marks = marks }) (A .finish) e l (ap (strangers d) (c .before .before .before .before .before .before .before .before .before .before .before .before .before .mark .ensures) ∙ strangers-none d (A .mask) (A .sources) (r .as-wide) (sym (c .before .before .before .before .before .before .before .before .before .before .before .before .before .before .before .before .above .ensures) ∙ c .before .before .before .before .before .before .before .before .before .before .before .before .before .before .before .if2 .left)) (sym (c .before .before .before .before .before .before .before .before .too-soon .ensures d t (A .awake .now) (A .waiting .now) (A .dropped .now) (A .used .now) (r .as-wide) (r .spaced) ∙ ap (λ a. tooSoon d t marks (parts (A .awake .now) (A .used .now) (A .waiting .now) (A .dropped .now) a)) E) ∙ c .before .before .before .before .before .before .before .if3 .left) (step-whole d t marks (A .finish) m (v .last .1 .1 .1 .1 .1 .1 .1 .1 .1 .1 .0) (v .last .1 .1 .1 .1 .1 .1 .1 .1 .1 .1 .1 .1 .0) (v .last .1 .1 .1 .1 .1 .1 .1 .1 .1 .1 .1 .1 .1 .0) (v .last .1 .1 .1 .1 .1 .1 .1 .1 .1 .1 .1 .0) (v .last .1 .1 .1 .1 .1 .1 .1 .1 .1 .1 .1 .1 .1 .1 .0) (v .ensures .0 d (r .placed) (r .as-many) (r .same-runs) (r .as-wide) ∙ ap (λ a. acted d marks (A .finish) (parts (A .awake .now) (A .used .now) (A .waiting .now) (A .dropped .now) a)) E)));
+          let K = known d (A .mask) (A .sources) (c .before .before .before .before .before .before .before .before .before .before .before .before .above .result) (r .as-wide) (S .pre .0 .few-sources) (c .before .before .before .before .before .before .before .before .before .before .before .before .above .ensures) (c .before .before .before .before .before .before .before .before .before .before .before .if2 .left) in
+          let E = c .before .before .before .before .before .before .before .before .before .age-all .ensures d t (r .as-wide) (r .spaced) in
+          let m′ = parts (v .last .1 .1 .1 .1 .1 .1 .1 .1 .1 .0) (v .last .1 .1 .1 .1 .1 .1 .1 .1 .1 .1 .0) (v .last .1 .1 .1 .1 .1 .1 .1 .1 .1 .1 .1 .0) (v .last .1 .1 .1 .1 .1 .1 .1 .1 .1 .1 .1 .1 .0) (older d t 1 (v .last .1 .1 .1 .1 .1 .1 .1 .1 .1 .1 .1 .1 .1 .0)) in
+          answer-coded d t (A .mask) (A .finish) m (record { outcome = Done; machine = m′ }) (tick-done d t m m′ (record { marks = marks }) (A .finish) e l (strangers-none d (A .mask) (d .«source_count») refl (K .1)) (sym (c .before .before .before .before .before .before .before .too-soon .ensures d t (A .awake .now) (A .waiting .now) (A .dropped .now) (A .used .now) (r .spaced) K ∙ ap (λ a. tooSoon d t marks (parts (A .awake .now) (A .used .now) (A .waiting .now) (A .dropped .now) a)) E) ∙ c .before .before .before .before .before .before .if3 .left) (step-whole d t marks (A .finish) m (v .last .1 .1 .1 .1 .1 .1 .1 .1 .1 .0) (v .last .1 .1 .1 .1 .1 .1 .1 .1 .1 .1 .1 .0) (v .last .1 .1 .1 .1 .1 .1 .1 .1 .1 .1 .1 .1 .0) (v .last .1 .1 .1 .1 .1 .1 .1 .1 .1 .1 .0) (v .last .1 .1 .1 .1 .1 .1 .1 .1 .1 .1 .1 .1 .1 .0) (v .ensures .0 d (r .placed) (r .as-many) (r .same-runs) K ∙ ap (λ a. acted d marks (A .finish) (parts (A .awake .now) (A .used .now) (A .waiting .now) (A .dropped .now) a)) E)));
       little = search needs;
       highest = v .ensures .1;
     }
@@ -100,7 +99,6 @@ advance-spec =
     returns
     above-requires
     returns-2
-    mark-requires
     age-all-requires
     too-soon-requires
     returns-3

@@ -17,8 +17,8 @@ use Rattle.model.specs.Verdicts.{judgeAt}
 use Rattle.model.specs.Machine.{idle, highestIn}
 use Rattle.model.specs.History.{left}
 use Rattle.theory.proofs.WellFormed.{WellFormed}
-use Rattle.steps.specs.Parts.{parts, PlanOf}
-use Rattle.machine.specs.Run.{marksIn, callsIn, page, lagging}
+use Rattle.steps.specs.Parts.{marksIn, parts, PlanOf}
+use Rattle.machine.specs.Run.{callsIn, page, lagging}
 use Rattle.machine.proofs.TickLaws.{planned-sound, lawful-countable}
 use Rattle.machine.proofs.RunLaws.{calls-length, calls-at, codes-length, run-turn, store-turn, ran-short, ran-whole, filled-short, filled-whole, kept, start-late, start-asleep}
 use Rattle.machine.proofs.run.run_planned.Statement.{statement}

@@ -3,11 +3,12 @@ use Prim.Native.Nat.{ℕ, zero, suc, _+_, _-_, _*_, _/_, _%_, _^_, _≤_, _<_, m
 use mathlib.Core.Path.{_≡_, refl, sym, ap, _∙_}
 use mathlib.Core.Bool.{Bool, true, false, _||_, _&&_}
 use native.Mathlib.Omega.{arith}
-use native.Mathlib.Nat.{div-eq-of-lt, mod-lt, lt-of-lt-of-le}
+use native.Mathlib.Nat.{div-eq-of-lt, div-one, pow-suc, mod-lt, lt-of-lt-of-le}
 use native.Mathlib.Decide.{decLt}
 use lib.Dec.{eqb, ltb}
 use lib.Bits.{bitOr, bitAnd, or-step, or-shr, and-mask, shifted-even}
-use lib.Pow.{pow-pos, pow-mono, pow-lt, pow-add, shl-shr, shl-exact, field, mod-mod-pow}
+use lib.Pow.{pow-pos, pow-mono, pow-lt, pow-add, shl-shr, shl-exact, shr-shr, field, mod-mod-pow}
+use lib.Count.{trailingZeros, under}
 use borrow.Author.Tests.{eq-eqb, eqb-true, lt-ltb, le-ltb}
 use Rattle.theory.proofs.Tests.{Cmp, less, same, more, cmp, false-of}
 use Rattle.loads.specs.Sets.{member}
@@ -114,3 +115,40 @@ one-pos k p =
 pub member-none : (k : ℕ) → member 0 k ≡ false
 unfolding member
 member-none k = ap (λ z. eqb (z % 2) 1) (div-eq-of-lt (pow-pos k))
+
+-- the set of a shifted word, and past a word's end
+pub member-shift : (s r k : ℕ) → member (s / 2 ^ r) k ≡ member s (r + k)
+unfolding member
+member-shift s r k = ap (λ z. eqb (z % 2) 1) (shr-shr s r k)
+
+pub member-past : (s n k : ℕ) → s < 2 ^ n → n ≤ k → member s k ≡ false
+unfolding member
+member-past s n k p q = let small : s < 2 ^ k = omega (arith, pow-mono q) in ap (λ z. eqb (z % 2) 1) (div-eq-of-lt small)
+
+-- the number 0, and the numbers above it
+member-zero : (s : ℕ) → member s 0 ≡ eqb (s % 2) 1
+unfolding member
+member-zero s = ap (λ z. eqb (z % 2) 1) (div-one s)
+
+member-half : (s k : ℕ) → member s (suc k) ≡ member (s / 2) k
+member-half s k = let e : suc k ≡ 1 + k = omega arith in ap (λ i. member s i) e ∙ sym (member-shift s 1 k)
+
+-- zeros below the lowest bit
+pub first-none : (n s k : ℕ) → k < trailingZeros n s → member s k ≡ false
+unfolding trailingZeros
+first-none zero s k p = absurd (omega arith)
+first-none (suc n) s k p = go (s % 2) refl k p (first-none n (s / 2))
+  where
+    go : (b : ℕ) → s % 2 ≡ b → (k : ℕ) → k < under b (trailingZeros n (s / 2)) → ((k : ℕ) → k < trailingZeros n (s / 2) → member (s / 2) k ≡ false) → member s k ≡ false
+    go zero e zero p ih = member-zero s ∙ ap (λ z. eqb z 1) e
+    go zero e (suc k) p ih = member-half s k ∙ ih k (omega arith)
+    go (suc b) e k p ih = absurd (omega arith)
+
+pub first-some : (n s : ℕ) → 0 < s → s < 2 ^ n → (trailingZeros n s < n) × (member s (trailingZeros n s) ≡ true)
+unfolding trailingZeros
+first-some zero s p q = absurd (omega arith)
+first-some (suc n) s p q = go (s % 2) refl (first-some n (s / 2))
+  where
+    go : (b : ℕ) → s % 2 ≡ b → (0 < s / 2 → s / 2 < 2 ^ n → (trailingZeros n (s / 2) < n) × (member (s / 2) (trailingZeros n (s / 2)) ≡ true)) → (under b (trailingZeros n (s / 2)) < suc n) × (member s (under b (trailingZeros n (s / 2))) ≡ true)
+    go zero e ih = let x = ih (omega arith) (omega (arith, pow-suc 2 n)) in (omega (arith, x .0), member-half s (trailingZeros n (s / 2)) ∙ x .1)
+    go (suc b) e ih = (omega arith, member-zero s ∙ eq-eqb (s % 2) 1 (omega arith))

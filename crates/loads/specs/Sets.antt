@@ -1,8 +1,15 @@
 -- Sets of numbers as the bits of a word.
-use Prim.Native.Nat.{ℕ, _/_, _%_, _^_}
-use mathlib.Core.Bool.{Bool}
+use Prim.Native.Nat.{ℕ, _/_, _%_, _^_, _<_}
+use mathlib.Core.Path.{_≡_}
+use mathlib.Core.Bool.{Bool, true, false}
 use lib.Dec.{eqb}
 
 -- whether k is in the set: bit k of the word
 unfoldable pub member : ℕ → ℕ → Bool
 member set k = eqb (set / 2 ^ k % 2) 1
+
+-- the least member
+pub record FirstIn (set r : ℕ) : Type 0 where
+  pub below : r < 64
+  pub in-set : member set r ≡ true
+  pub none-before : (k : ℕ) → k < r → member set k ≡ false

@@ -3,7 +3,7 @@ ghost use mathlib.Core.Path.{_≡_};
 ghost use mathlib.Core.Bool.{_||_, _&&_};
 ghost use Prim.Native.Nat.{ℕ, _<_};
 ghost use lib.Dec.{eqb, ltb};
-ghost use Rattle.loads.specs.Sets.{member};
+ghost use Rattle.loads.specs.Sets.{member, FirstIn};
 
 // Whether k is in the set.
 pub fn has(set: u64, k: usize) -> bool
@@ -34,4 +34,12 @@ pub fn below(set: u64, k: usize) -> u64
     ensures { λ r. ⌜ ((j : ℕ) → member r j ≡ (member set j && ltb j k)) ⌝ }
 {
     set & ((1 << k) - 1)
+}
+
+// The least member of a set that has one.
+pub fn first(set: u64) -> usize
+    requires { ⌜ 0 < set ⌝ }
+    ensures { λ r. ⌜ FirstIn set r ⌝ }
+{
+    u64::trailing_zeros(set) as usize
 }

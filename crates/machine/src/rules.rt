@@ -1,10 +1,10 @@
 // The rules of the machine's record, and the refusals of arrivals.
 
+use loads::sets::first;
 use model::Machine;
 use steps::plan::Plan;
 use steps::step::bits;
 use steps::step::number;
-use verdicts::into::first;
 ghost use mathlib.Core.Path.{_≡_};
 ghost use mathlib.Core.Bool.{_||_, _&&_, not, cond};
 ghost use Prim.Native.Nat.{_≤_, _<_, _/_, _^_};

@@ -9,8 +9,8 @@ use lib.ListN.{getD}
 use Rattle.theory.proofs.Tests.{Cmp, less, same, more, cmp, not-both}
 use Rattle.theory.proofs.Table.{getD-tab}
 use Rattle.loads.specs.Sets.{member}
-use Rattle.verdicts.specs.Into.{FirstIn}
-use Rattle.verdicts.proofs.IntoLaws.{member-shift}
+use Rattle.loads.specs.Sets.{FirstIn}
+use Rattle.loads.proofs.SetLaws.{member-shift}
 use Rattle.steps.specs.Parts.{heard, marksIn}
 
 -- all of a mask

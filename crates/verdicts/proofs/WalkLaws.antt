@@ -13,9 +13,10 @@ use Rattle.model.specs.Order.{failAt, meet, visit}
 use Rattle.theory.proofs.Tests.{Cmp, less, same, more, cmp, not-both}
 use Rattle.theory.proofs.Range.{upTo-more}
 use Rattle.theory.proofs.Walk.{stepTo, visit-source, visit-again, visit-low, visit-high, step-skip, step-into, step-stop}
-use Rattle.loads.specs.Sets.{member}
-use Rattle.verdicts.specs.Into.{linkInto, intoSystem, FirstIn, unmet, VisitIs}
-use Rattle.verdicts.proofs.IntoLaws.{rest-node, rest-link, member-none}
+use Rattle.loads.specs.Sets.{member, FirstIn}
+use Rattle.loads.proofs.SetLaws.{member-none}
+use Rattle.verdicts.specs.Into.{linkInto, intoSystem, unmet, VisitIs}
+use Rattle.verdicts.proofs.IntoLaws.{rest-node, rest-link}
 
 pub unmet-le : (l : List Bool) (x : ℕ) → unmet (set l x true) ≤ unmet l
 unfolding unmet

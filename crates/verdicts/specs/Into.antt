@@ -18,12 +18,6 @@ linkInto into p x = member (getD into (x - 1) 0) (p - 1)
 abbrev pub intoSystem : List ℕ → System
 intoSystem into = record { tasks = 0; sources = 0; run = λ j. 0; link = linkInto into }
 
--- the least number in a set
-pub record FirstIn (set r : ℕ) : Type 0 where
-  pub below : r < 64
-  pub in-set : member set r ≡ true
-  pub none-before : (k : ℕ) → k < r → member set k ≡ false
-
 -- how many tasks are not met yet
 unfoldable pub unmet : List Bool → ℕ
 unmet [] = 0

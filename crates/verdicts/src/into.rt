@@ -3,9 +3,8 @@
 use loads::sets::with;
 use model::Description;
 ghost use mathlib.Core.Path.{_≡_};
-ghost use Prim.Native.Nat.{_<_};
 ghost use Rattle.theory.proofs.Fielded.{Fielded};
-ghost use Rattle.verdicts.specs.Into.{FirstIn, IntoOf};
+ghost use Rattle.verdicts.specs.Into.{IntoOf};
 
 // A node's number as an index.
 fn number(x: u8) -> usize
@@ -28,12 +27,4 @@ pub fn predecessors(d: Description) -> [u64; 32]
         l += 1;
     }
     into
-}
-
-// The least number in a set that has one.
-pub fn first(set: u64) -> usize
-    requires { ⌜ 0 < set ⌝ }
-    ensures { λ r. ⌜ FirstIn set r ⌝ }
-{
-    u64::trailing_zeros(set) as usize
 }

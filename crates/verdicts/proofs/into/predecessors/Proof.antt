@@ -10,7 +10,8 @@ use Rattle.loads.specs.Sets.{member}
 use Rattle.loads.specs.Tables.{Linkable, linkedTo}
 use Rattle.loads.proofs.Tabled.{ends-inside}
 use Rattle.verdicts.specs.Into.{linkInto}
-use Rattle.verdicts.proofs.IntoLaws.{member-none, into-more}
+use Rattle.loads.proofs.SetLaws.{member-none}
+use Rattle.verdicts.proofs.IntoLaws.{into-more}
 use Rattle.verdicts.proofs.into.predecessors.Statement.{statement}
 use Rattle.verdicts.proofs.into.predecessors.Tie as tie
 use Rattle.verdicts.proofs.into.predecessors.Reads as reads

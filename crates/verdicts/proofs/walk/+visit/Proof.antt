@@ -11,13 +11,14 @@ use borrow.Fn.PlainCycle.{Measures, is, falls, and}
 use Rattle.model.specs.Basics.{upTo}
 use Rattle.model.specs.Order.{meet}
 use Rattle.theory.proofs.Walk.{stepTo}
-use Rattle.verdicts.specs.Into.{intoSystem, FirstIn, unmet}
+use Rattle.loads.specs.Sets.{FirstIn}
+use Rattle.verdicts.specs.Into.{intoSystem, unmet}
 use Rattle.verdicts.proofs.IntoLaws.{rest-node}
 use Rattle.verdicts.proofs.WalkLaws.{unmet-le, unmet-falls, visit-is-far, visit-is-again, visit-is-low, visit-is-high, turn-on, turn-none, turn-failed}
 use Rattle.verdicts.proofs.walk.visit.Reads as visit
 use Rattle.verdicts.proofs.walk.visit.Kinds as visit-kinds
 use Rattle.verdicts.proofs.walk.+visit.Lts-visit as visit-lts
-use Rattle.verdicts.proofs.into.first.Reads as first-reads
+use Rattle.loads.proofs.sets.first.Reads as first-reads
 use Rattle.verdicts.proofs.walk.+visit.{statement}
 use Rattle.verdicts.proofs.walk.+visit.Tie.{close}
 

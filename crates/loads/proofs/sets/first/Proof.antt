@@ -1,12 +1,10 @@
--- `first` meets its contract: as many zeros stand below the lowest bit. Assumes nothing.
+-- `loads::sets::first` meets its contract: as many zeros stand below the lowest bit. Assumes nothing.
 use native.Mathlib.Omega.{arith}
 use lib.Count.{trailing-le}
 use borrow.Author.Needs.{needs}
-use Rattle.verdicts.proofs.IntoLaws.{first-none, first-some}
-use Rattle.verdicts.proofs.into.first.Statement.{statement}
-use Rattle.verdicts.proofs.into.first.Tie as tie
-use Rattle.verdicts.proofs.into.first.Reads as reads
-use Rattle.verdicts.proofs.into.first.Lts as lts
+use Rattle.loads.proofs.SetLaws.{first-none, first-some}
+use Rattle.loads.proofs.sets.first.Statement.{statement}
+use Rattle.loads.proofs.sets.first.Tie as tie
 
 cast-result : tie.Need-cast-result
 cast-result c = omega (arith, trailing-le 64 (c .args .set))

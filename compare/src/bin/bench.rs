@@ -58,7 +58,7 @@ fn cases() -> Vec<Case> {
         ticks("tick, small", small),
         ticks("tick, typical", typical),
         ticks("tick, full", full),
-        ticks("tick, a source in every tick", busy()),
+        ticks("tick, a source in every second tick", busy()),
     ]
 }
 

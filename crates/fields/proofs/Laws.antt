@@ -21,7 +21,7 @@ use Rattle.model.specs.declared.Check.the-variants.{Fine, Unfit}
 use Rattle.model.specs.declared.Reading.{Reading}
 use Rattle.model.specs.Field.{bodyLength, takeField, checkField, passed, withField}
 use Rattle.model.specs.File.{parseFrom}
-use Rattle.theory.proofs.Tests.{same-test}
+use Rattle.lemmas.proofs.Tests.{same-test}
 use Rattle.theory.proofs.FieldLaws.{length-field, take-took, took-length, took-inside}
 use Rattle.theory.proofs.RecordLaws.{parse-fine, parse-unfit, parse-broken, parse-end}
 use Rattle.fields.specs.Steps.{checkedTaken, stoppedAt}

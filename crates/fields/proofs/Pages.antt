@@ -11,7 +11,7 @@ use Rattle.model.specs.declared.Field.{Field}
 use Rattle.model.specs.Basics.{joined}
 use Rattle.model.specs.Field.{fieldBytes, fieldOf, fieldCount}
 use Rattle.model.specs.File.{fileOf}
-use Rattle.theory.proofs.Table.{joined-more}
+use Rattle.lemmas.proofs.Table.{joined-more}
 use Rattle.theory.proofs.RecordLaws.{offset}
 
 -- two runs of stores, one after the other, are one run

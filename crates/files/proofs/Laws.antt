@@ -15,7 +15,7 @@ use Rattle.model.specs.Refusals.{onDone}
 use Rattle.model.specs.Graph.{system}
 use Rattle.model.specs.Loads.{sheet, noRow}
 use Rattle.model.specs.File.{Widths, fileOf, parseFile, lastChecks, readFile, finished, refusedReading, judge, overfull, loadSheet}
-use Rattle.theory.proofs.Tests.{not-both}
+use Rattle.lemmas.proofs.Tests.{not-both}
 use Rattle.theory.proofs.Fielded.{Fielded}
 use Rattle.theory.proofs.FileLaws.{judge-steps, record-fielded}
 use Rattle.fields.specs.Steps.{recordChecks, parseAt}

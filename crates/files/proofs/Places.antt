@@ -23,7 +23,7 @@ use Rattle.model.specs.declared.Reading.{Reading}
 use Rattle.model.specs.Refusals.{blank}
 use Rattle.model.specs.Field.{bodyLength, numberIn, fieldIn, takeField, checkField, passed, withField, noProgress}
 use Rattle.model.specs.File.{refusedReading, parseFrom, parseFile}
-use Rattle.theory.proofs.Tests.{same-test}
+use Rattle.lemmas.proofs.Tests.{same-test}
 use Rattle.theory.proofs.NumberBytes.{Bytes}
 use Rattle.theory.proofs.Fielded.{Fielded}
 use Rattle.theory.proofs.RecordLaws.{parse-fine, parse-unfit, parse-broken, parse-end}

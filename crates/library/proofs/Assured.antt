@@ -12,7 +12,7 @@ use Rattle.model.specs.File.{readFile}
 use Rattle.model.specs.Verdicts.{quoteOf}
 use Rattle.theory.proofs.NumberBytes.{Bytes as AllBytes}
 use Rattle.theory.proofs.ReadBack.{read-whence}
-use Rattle.theory.proofs.PlainCalls.{AssuredOf, plain-assured}
+use Rattle.assurance.proofs.PlainCalls.{AssuredOf, plain-assured}
 use Rattle.machine.specs.Run.{callsIn}
 use Rattle.library.specs.Replies.{quotedFile}
 

@@ -27,7 +27,7 @@ use Rattle.model.specs.Refusals.{numberOf, onDone}
 use Rattle.model.specs.File.{parseFile, readFile, fillWith, judge, lastChecks}
 use Rattle.model.specs.Report.{reportOf, reported}
 use Rattle.model.specs.Verdicts.{quoteOf, largestBelow, allHeld}
-use Rattle.theory.proofs.Table.{length-tab, getD-tab}
+use Rattle.lemmas.proofs.Table.{length-tab, getD-tab}
 use Rattle.theory.proofs.NumberBytes.{Bytes as AllBytes}
 use Rattle.theory.proofs.FileLength.{placeIn, read-place}
 use Rattle.theory.proofs.ReadBack.{read-judged}

@@ -20,7 +20,7 @@ use Rattle.model.specs.File.{readFile, filledBy}
 use Rattle.model.specs.Verdicts.{judgeAt}
 use Rattle.model.specs.Machine.{idle}
 use Rattle.model.specs.History.{left}
-use Rattle.theory.proofs.Tests.{and-false-left, and-false-right, both, or-left, or-right, or-false}
+use Rattle.lemmas.proofs.Tests.{and-false-left, and-false-right, both, or-left, or-right, or-false}
 use Rattle.theory.proofs.WellFormed.{WellFormed}
 use Rattle.theory.proofs.NumberBytes.{Bytes as AllBytes}
 use Rattle.theory.proofs.FileLength.{placeIn, read-place}

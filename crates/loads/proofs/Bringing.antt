@@ -9,12 +9,12 @@ use Rattle.model.specs.Basics.{sumTo, topTo, given}
 use Rattle.model.specs.Graph.{System, Reaches, cyclic}
 use Rattle.model.specs.Graph.Reaches.{one as link, more as on}
 use Rattle.model.specs.Loads.{work, added, load}
-use Rattle.theory.proofs.Tests.{not-both, false-of, true-of, same-test}
-use Rattle.theory.proofs.Range.{Found, any-at, any-found, le-topTo, topTo-le, le-given, given-le, sumTo-cong}
+use Rattle.lemmas.proofs.Tests.{not-both, false-of, true-of, same-test}
+use Rattle.lemmas.proofs.Range.{Found, any-at, any-found, le-topTo, topTo-le, le-given, given-le, sumTo-cong}
 use Rattle.theory.proofs.Rank.{rankOf, ends-fall, reach-falls, cycle-is}
 use Rattle.theory.proofs.LoadLaws.{added-le}
 use Rattle.theory.proofs.WellFormed.{Loaded}
-use Rattle.loads.specs.Sets.{member}
+use Rattle.sets.specs.Sets.{member}
 use Rattle.loads.specs.Paths.{Through}
 use Rattle.loads.specs.Paths.Through.{one, more}
 use Rattle.loads.specs.Tables.{linkBy, rowOf, graph, NodeOf, TaskOf, Ready, Closed, WorksOf, selfIn, loadBy}

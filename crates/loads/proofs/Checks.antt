@@ -17,9 +17,9 @@ use Rattle.model.specs.Graph.{system, cyclic}
 use Rattle.model.specs.Basics.{tab}
 use Rattle.model.specs.Loads.{load, tooHeavy, sheet, noRow}
 use Rattle.model.specs.File.{lastChecks, judge, loadSheet}
-use Rattle.theory.proofs.Tests.{not-both, same-test}
-use Rattle.theory.proofs.Range.{Found, any-at, any-found}
-use Rattle.theory.proofs.Table.{is-tab}
+use Rattle.lemmas.proofs.Tests.{not-both, same-test}
+use Rattle.lemmas.proofs.Range.{Found, any-at, any-found}
+use Rattle.lemmas.proofs.Table.{is-tab}
 use Rattle.theory.proofs.Fielded.{Fielded}
 use Rattle.loads.specs.declared.Worked.{Worked}
 use Rattle.loads.specs.Tables.{SuccessorsOf, Closed, graph, selfIn, Ready, WorksOf, Scaled, loadBy, heavyBy, LoadsOf, SheetBy, RowsAre, WorkedOf, checkedLoads, refusedLoads}

@@ -10,9 +10,9 @@ use lib.Seq.{getD-set-same, getD-set-other}
 use lib.Dec.{ltb}
 use borrow.Author.Tests.{lt-ltb, le-ltb}
 use Rattle.model.specs.Basics.{sumN, sumTo, topN, given}
-use Rattle.theory.proofs.Tests.{Cmp, less, same, more, cmp}
-use Rattle.theory.proofs.Range.{sumTo-le, given-le, any-at, any-none, top-more}
-use Rattle.loads.specs.Sets.{member}
+use Rattle.lemmas.proofs.Tests.{Cmp, less, same, more, cmp}
+use Rattle.lemmas.proofs.Range.{sumTo-le, given-le, any-at, any-none, top-more}
+use Rattle.sets.specs.Sets.{member}
 use Rattle.loads.specs.Tables.{Column, loadBy, heavyBy}
 use Rattle.loads.proofs.Working.{loadBy-step, loadBy-none}
 

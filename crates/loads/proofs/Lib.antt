@@ -3,7 +3,6 @@ pub mod Fill
 pub mod Tabled
 pub mod Working
 pub mod Columns
-pub mod SetLaws
 pub mod PathLaws
 pub mod Bringing
 pub mod Checks

@@ -9,12 +9,12 @@ use native.Mathlib.Decide.{decLt}
 use lib.ListN.{getD}
 use lib.Dec.{ltb}
 use borrow.Author.Tests.{lt-ltb, le-ltb}
-use Rattle.theory.proofs.Tests.{Cmp, less, same, more, cmp, not-both, false-of, or-left, or-right, or-new, and-left, and-right, both}
+use Rattle.lemmas.proofs.Tests.{Cmp, less, same, more, cmp, not-both, false-of, or-left, or-right, or-new, and-left, and-right, both}
 use Rattle.loads.specs.Paths.{Through}
 use Rattle.loads.specs.Paths.Through.{one, more as on}
-use Rattle.loads.specs.Sets.{member}
+use Rattle.sets.specs.Sets.{member}
 use Rattle.loads.specs.Tables.{linkBy, rowOf, NodeOf, TaskOf, Grown, Allowed, Absent, Closed}
-use Rattle.loads.proofs.SetLaws.{and-off}
+use Rattle.sets.proofs.SetLaws.{and-off}
 use Rattle.loads.proofs.Tabled.{link-is, link-inside}
 
 module _ (link : ℕ → ℕ → Bool) where

@@ -14,15 +14,15 @@ use Rattle.model.specs.declared.Description.{Description}
 use Rattle.model.specs.Basics.{anyN}
 use Rattle.model.specs.Graph.{system, linked, linkAt, cyclic}
 use Rattle.model.specs.Loads.{work, load}
-use Rattle.theory.proofs.Tests.{false-of, same-test, or-right, and-left, and-right, both}
-use Rattle.theory.proofs.Range.{any-more}
+use Rattle.lemmas.proofs.Tests.{false-of, same-test, or-right, and-left, and-right, both}
+use Rattle.lemmas.proofs.Range.{any-more}
 use Rattle.theory.proofs.WellFormed.{Loaded}
 use Rattle.theory.proofs.Fielded.{Fielded, shaped-fields}
 use Rattle.theory.proofs.Rank.{Ends}
 use Rattle.theory.proofs.LoadLaws.{loaded-ends}
 use Rattle.theory.proofs.LoadBounds.{work-most}
 use Rattle.theory.proofs.Alike.{SameLinks, same-cyclic, same-load}
-use Rattle.loads.specs.Sets.{member}
+use Rattle.sets.specs.Sets.{member}
 use Rattle.loads.specs.Tables.{Linkable, SuccessorsOf, linkedTo, linkBy, rowOf, graph, NodeOf, TaskOf, Ready, Absent}
 
 or-off : (a b : Bool) → b ≡ false → (a || b) ≡ a

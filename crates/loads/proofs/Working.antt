@@ -10,11 +10,11 @@ use lib.Seq.{getD-set-same, getD-set-other}
 use Rattle.model.specs.Basics.{sumN, given}
 use Rattle.model.specs.Graph.{System}
 use Rattle.model.specs.Loads.{work, added}
-use Rattle.theory.proofs.Tests.{Cmp, less, same, more, cmp}
-use Rattle.theory.proofs.Range.{sumN-more, sumN-first, given-le}
+use Rattle.lemmas.proofs.Tests.{Cmp, less, same, more, cmp}
+use Rattle.lemmas.proofs.Range.{sumN-more, sumN-first, given-le}
 use Rattle.theory.proofs.Rank.{rankOf, ends-fall}
 use Rattle.theory.proofs.LoadBounds.{sumN-part}
-use Rattle.loads.specs.Sets.{member}
+use Rattle.sets.specs.Sets.{member}
 use Rattle.loads.specs.Tables.{rowOf, graph, NodeOf, TaskOf, Ready, Memo, Scaled, WorksOf, loadBy}
 use Rattle.loads.proofs.Tabled.{link-is, ends, run-is, graph-loaded, graph-work}
 use Rattle.loads.proofs.Bringing.{ready-brought}

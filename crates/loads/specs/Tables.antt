@@ -17,7 +17,7 @@ use Rattle.model.specs.Graph.{System, system, linked, linkAt, cyclic}
 use Rattle.model.specs.Loads.{work, added, load, tooHeavy, sheet, noRow}
 use Rattle.model.specs.File.{lastChecks}
 use Rattle.loads.specs.declared.Worked.{Worked}
-use Rattle.loads.specs.Sets.{member}
+use Rattle.sets.specs.Sets.{member}
 use Rattle.loads.specs.Paths.{Through}
 
 -- a node and a task that sets of links have room for

@@ -8,7 +8,6 @@ use model::Row;
 pub mod levels;
 mod paths;
 mod rows;
-pub mod sets;
 mod work;
 
 ghost use mathlib.Core.Path.{_≡_};

@@ -1,8 +1,8 @@
 // The tasks that each node brings in: those that a path reaches through higher tasks alone. Tasks are let in from the highest down.
-use crate::sets::below;
-use crate::sets::has;
-use crate::sets::union;
-use crate::sets::with;
+use sets::below;
+use sets::has;
+use sets::union;
+use sets::with;
 use model::Description;
 ghost use mathlib.Core.Path.{_≡_};
 ghost use Prim.Native.Nat.{_≤_, _<_};

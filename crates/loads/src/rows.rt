@@ -1,10 +1,10 @@
 // Loads as sums of works: one node's, a row of them, the sheet.
-use crate::sets::has;
+use sets::has;
 ghost use mathlib.Core.Path.{_≡_};
 ghost use Prim.Native.Nat.{ℕ, _-_, _≤_, _<_};
 ghost use lib.ListN.{getD};
 ghost use Rattle.model.specs.Basics.{given, sumTo};
-ghost use Rattle.loads.specs.Sets.{member};
+ghost use Rattle.sets.specs.Sets.{member};
 ghost use Rattle.loads.specs.Tables.{Scaled, loadBy, RowBy, SheetBy, heavyBy};
 
 // What one task's work adds to a node's load.

@@ -1,6 +1,6 @@
 // The work of a task and the added load of a node, each stated through the other, over the sets of tasks that nodes bring in. A falling
 // rank along these sets ends the calls, and the memo lets each work be worked out once.
-use crate::sets::has;
+use sets::has;
 ghost use mathlib.Core.Path.{_≡_};
 ghost use Rattle.loads.specs.Tables.{Ready, NodeOf, TaskOf, Memo, WorkIs, AddedIs, WorksOf, Scaled, graph};
 

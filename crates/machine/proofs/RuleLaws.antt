@@ -13,8 +13,8 @@ use Rattle.model.specs.Basics.{allN}
 use Rattle.model.specs.Graph.{linkAt}
 use Rattle.model.specs.Delays.{spacingOf}
 use Rattle.model.specs.Machine.{taskRule, linkRule, sourceRule, tooSoon}
-use Rattle.theory.proofs.Tests.{same-test, false-of, not-both, both, and-false-left, and-false-right}
-use Rattle.theory.proofs.Range.{all-at, any-at, any-none}
+use Rattle.lemmas.proofs.Tests.{same-test, false-of, not-both, both, and-false-left, and-false-right}
+use Rattle.lemmas.proofs.Range.{all-at, any-at, any-none}
 use Rattle.steps.specs.Parts.{parts, heard, marksIn, Known, LinksOf, GapsOf}
 use Rattle.steps.proofs.MaskLaws.{mark-in, heard-under}
 

@@ -30,13 +30,13 @@ use Rattle.model.specs.Basics.{upTo, anyN}
 use Rattle.model.specs.Delays.{spacingOf}
 use Rattle.model.specs.Machine.{idle, blankMachine, lawful, arriveOne, arrive, highestIn, runTask, endRun, strangers, tooSoon, plainTick}
 use Rattle.model.specs.History.{Call, answers, left, isDone}
-use Rattle.theory.proofs.Tests.{not-both, true-of, and-left, and-right, and-false-left, and-false-right}
-use Rattle.theory.proofs.Range.{any-none, none-any}
-use Rattle.theory.proofs.Machine.{getD-same}
+use Rattle.lemmas.proofs.Tests.{not-both, true-of, and-left, and-right, and-false-left, and-false-right}
+use Rattle.lemmas.proofs.Range.{any-none, none-any}
+use Rattle.assurance.proofs.Machine.{getD-same}
 use Rattle.theory.proofs.WellFormed.{WellFormed}
-use Rattle.theory.proofs.Table.{length-tab, getD-tab}
-use Rattle.theory.proofs.Replay.{callAt, quietCall}
-use Rattle.theory.proofs.Lawful.{rules-kept}
+use Rattle.lemmas.proofs.Table.{length-tab, getD-tab}
+use Rattle.assurance.proofs.Replay.{callAt, quietCall}
+use Rattle.assurance.proofs.Lawful.{rules-kept}
 use Rattle.steps.specs.Parts.{heard, marksIn, Known, parts, older}
 use Rattle.steps.proofs.MaskLaws.{none-above, mark-in}
 use Rattle.steps.proofs.StepLaws.{arrive-off, older-more, older-none, act-whole, step-whole}

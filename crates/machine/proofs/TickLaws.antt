@@ -15,10 +15,10 @@ use Rattle.model.specs.Basics.{allN}
 use Rattle.model.specs.Graph.{runOf}
 use Rattle.model.specs.Verdicts.{judgeAt}
 use Rattle.model.specs.Machine.{awakeAt, usedAt, taskRule, lawful, stepped, strangers, tooSoon, judgeTick, plainTick}
-use Rattle.theory.proofs.Tests.{and-left, and-right}
-use Rattle.theory.proofs.Range.{all-at}
+use Rattle.lemmas.proofs.Tests.{and-left, and-right}
+use Rattle.lemmas.proofs.Range.{all-at}
 use Rattle.theory.proofs.WellFormed.{WellFormed}
-use Rattle.theory.proofs.Firing.{to-some, to-most}
+use Rattle.assurance.proofs.Firing.{to-some, to-most}
 use Rattle.steps.specs.declared.plan.Plan.{Plan}
 use Rattle.steps.specs.Parts.{Enters, PlanOf, Sound, Countable}
 use Rattle.machine.specs.Judged.{Planned}

@@ -1,6 +1,6 @@
 // The rules of the machine's record, and the refusals of arrivals.
 
-use loads::sets::first;
+use sets::first;
 use model::Machine;
 use steps::plan::Plan;
 use steps::step::bits;

@@ -101,14 +101,14 @@ servedBefore h j x y = endsWithin h j (partDone (tickAt h x) j) x (y - x)
 
 -- "a link has been dropped if its from fired in some tick and its event before that one was not served in an earlier tick"
 pub record Dropped (h : List Tick) (i j : ℕ) : Type 0 where
-  pub again : ℕ
+  pub second : ℕ
   pub before : ℕ
-  pub earlier : before < again
-  pub in-list : again < length h
-  pub fired-again : fires (tickAt h again) i ≡ true
+  pub earlier : before < second
+  pub in-list : second < length h
+  pub fired-second : fires (tickAt h second) i ≡ true
   pub fired-before : fires (tickAt h before) i ≡ true
-  pub none-between : (x : ℕ) → before < x → x < again → fires (tickAt h x) i ≡ false
-  pub not-served : servedBefore h j before again ≡ false
+  pub none-between : (x : ℕ) → before < x → x < second → fires (tickAt h x) i ≡ false
+  pub not-served : servedBefore h j before second ≡ false
 
 -- "a wait counts the ticks from the event's own, as the first, to the one that serves it, or else to the last of the list"
 unfoldable pub waitOf : List Tick → ℕ → ℕ → ℕ

@@ -11,7 +11,7 @@ use Rattle.model.specs.declared.Refusal.the-variants.{NoTempo}
 use Rattle.model.specs.declared.Quote.the-variants.{Tempo, Unquoted}
 use Rattle.model.specs.File.{judge}
 use Rattle.model.specs.Verdicts.{allHeld, largestBelow, quoteOf}
-use Rattle.theory.proofs.Tests.{Cmp, less, same, more, cmp, not-both}
+use Rattle.lemmas.proofs.Tests.{Cmp, less, same, more, cmp, not-both}
 use Rattle.theory.proofs.WellFormed.{WellFormed}
 use Rattle.theory.proofs.Quotes.{quote-at, quote-none}
 use Rattle.verdicts.specs.Plan.{Tables}

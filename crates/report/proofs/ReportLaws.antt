@@ -24,7 +24,7 @@ use Rattle.theory.proofs.JudgeLaws.{LastPasses, last-passes}
 use Rattle.theory.proofs.ReadBack.{parsed-fielded}
 use Rattle.theory.proofs.RecordLaws.{joined-cut}
 use Rattle.theory.proofs.FileLength.{read-first}
-use Rattle.theory.proofs.Table.{getD-tab, joined-more}
+use Rattle.lemmas.proofs.Table.{getD-tab, joined-more}
 use Rattle.theory.proofs.WellFormed.{WellFormed}
 use Rattle.files.proofs.Laws.{file-refused, file-unchecked, file-checked}
 use Rattle.report.specs.Listing.{lineAt, listing}

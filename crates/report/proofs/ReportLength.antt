@@ -19,7 +19,7 @@ use Rattle.model.specs.Delays.{Settled, unchanged, reached, delayOf, spacingOf,
 use Rattle.model.specs.Order.{inOrder}
 use Rattle.model.specs.Verdicts.{verdictAt, verdictOf, sourceVerdict, settledVerdict, orderVerdict, largestBelow}
 use Rattle.model.specs.Report.{decimal, verdictText, linkLine, linkLines, tempoLine, refusedLine, reportFor, shownTempo}
-use Rattle.theory.proofs.Tests.{Cmp, less, same, more, cmp}
+use Rattle.lemmas.proofs.Tests.{Cmp, less, same, more, cmp}
 use Rattle.theory.proofs.WellFormed.{WellFormed, IsTask, IsSource}
 use Rattle.theory.proofs.Spacing.{spacing-most}
 use Rattle.theory.proofs.Rounds.{settle-fixed}

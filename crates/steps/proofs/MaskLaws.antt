@@ -6,11 +6,11 @@ use native.Mathlib.Omega.{arith}
 use native.Mathlib.Nat.{div-div-eq-div-mul, div-eq-of-lt, div-one, zero-div, add-sub-of-le}
 use lib.Pow.{pow-add, shr-shr}
 use lib.ListN.{getD}
-use Rattle.theory.proofs.Tests.{Cmp, less, same, more, cmp, not-both}
-use Rattle.theory.proofs.Table.{getD-tab}
-use Rattle.loads.specs.Sets.{member}
-use Rattle.loads.specs.Sets.{FirstIn}
-use Rattle.loads.proofs.SetLaws.{member-shift}
+use Rattle.lemmas.proofs.Tests.{Cmp, less, same, more, cmp, not-both}
+use Rattle.lemmas.proofs.Table.{getD-tab}
+use Rattle.sets.specs.Sets.{member}
+use Rattle.sets.specs.Sets.{FirstIn}
+use Rattle.sets.proofs.SetLaws.{member-shift}
 use Rattle.steps.specs.Parts.{heard, marksIn}
 
 -- all of a mask

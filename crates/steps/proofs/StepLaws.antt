@@ -15,9 +15,9 @@ use Rattle.model.specs.Basics.{upTo}
 use Rattle.model.specs.Graph.{linkAt}
 use Rattle.model.specs.Delays.{spacingOf}
 use Rattle.model.specs.Machine.{arrive, ageAll, endRun, stepped, clearInto, setAwake, fireLink, fire, arriveOne, highestIn, runTask, setUsed, usedAt, setAge, clearLink, ageOne}
-use Rattle.theory.proofs.Tests.{Cmp, less, same, more, cmp}
-use Rattle.theory.proofs.Range.{upTo-more}
-use Rattle.theory.proofs.Firing.{getD-set}
+use Rattle.lemmas.proofs.Tests.{Cmp, less, same, more, cmp}
+use Rattle.lemmas.proofs.Range.{upTo-more}
+use Rattle.assurance.proofs.Firing.{getD-set}
 use Rattle.steps.specs.Parts.{parts, PlacesOf, heard, marksIn, acted, each, risen, older}
 use Rattle.steps.proofs.MaskLaws.{none-above, mark-in}
 

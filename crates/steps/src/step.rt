@@ -85,7 +85,7 @@ pub fn arrive<'a>(
     let mut rest = bits(mask);
     let mut r: usize = 0;
     while rest != 0 {
-        let k = loads::sets::first(rest);
+        let k = sets::first(rest);
         let u = r + k;
         fire(
             from,

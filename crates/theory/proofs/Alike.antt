@@ -5,7 +5,7 @@ use mathlib.Core.Bool.{Bool, true, false, _&&_}
 use Rattle.model.specs.Basics.{sumTo, given}
 use Rattle.model.specs.Graph.{System, walks, cyclic}
 use Rattle.model.specs.Loads.{workF, addedF, work, added, load}
-use Rattle.theory.proofs.Range.{any-cong, sumTo-cong, topTo-cong}
+use Rattle.lemmas.proofs.Range.{any-cong, sumTo-cong, topTo-cong}
 use Rattle.theory.proofs.LoadLaws.{addedF-direct, addedF-through}
 
 -- a system by its parts

@@ -17,7 +17,7 @@ use Rattle.model.specs.declared.Refusal.{Refusal}
 use Rattle.model.specs.declared.Refusal.the-variants.{CutShort, StrangeTag, WrongLength}
 use Rattle.model.specs.declared.Taken.the-variants.{Whole, Broken, End}
 use Rattle.model.specs.Field.{bytesOf, numberIn, tagOf, bodyLength, bodyOf, fieldBytes, fieldIn, takeField}
-use Rattle.theory.proofs.Tests.{or-false, or-false-left, or-false-right}
+use Rattle.lemmas.proofs.Tests.{or-false, or-false-left, or-false-right}
 pub use Rattle.model.specs.File.{SourceFits}
 use Rattle.theory.proofs.NumberBytes.{Bytes, length-bytesOf, number-bytes, number-fits, bytes-number, number-same}
 

@@ -11,8 +11,8 @@ use Rattle.model.specs.declared.Field.the-variants.{OfSource}
 use Rattle.model.specs.Field.{onScale}
 use Rattle.model.specs.Graph.{system, linked, runOf, linkAt, sourceAt, cyclic}
 use Rattle.model.specs.Loads.{tooHeavy}
-use Rattle.theory.proofs.Tests.{and-left, and-right}
-use Rattle.theory.proofs.Range.{Found, any-found}
+use Rattle.lemmas.proofs.Tests.{and-left, and-right}
+use Rattle.lemmas.proofs.Range.{Found, any-found}
 use Rattle.theory.proofs.WellFormed.{IsTask, IsSource, rises, WellFormed, Shaped}
 
 -- counts within their limits, runs and sources on scale, links that rise and end at nodes of the file

@@ -18,7 +18,7 @@ use Rattle.model.specs.Graph.{System, system, linkAt, runOf, cyclic}
 use Rattle.model.specs.Loads.{tooHeavy}
 use Rattle.model.specs.Field.{fieldOf, fieldCount, isTask, isSource}
 use Rattle.model.specs.File.{fileOf, parseFile, lastChecks, finished, readFile, overfull, judge}
-use Rattle.theory.proofs.Tests.{or-new, or-cases, and-left, and-right}
+use Rattle.lemmas.proofs.Tests.{or-new, or-cases, and-left, and-right}
 use Rattle.theory.proofs.WellFormed.{WellFormed, rises}
 use Rattle.theory.proofs.Fielded.{Fielded, well-formed}
 use Rattle.theory.proofs.RecordLaws.{Widths, copyAt, progressAt, read-start, field-task, field-source, field-link}

@@ -29,7 +29,7 @@ use Rattle.model.specs.Graph.{system, cyclic}
 use Rattle.model.specs.Loads.{tooHeavy}
 use Rattle.model.specs.Field.{numberIn, bodyLength, fieldBytes, fieldIn, takeField, checkField, withField, passed, noProgress, fieldOf}
 use Rattle.model.specs.File.{fileOf, parseFrom, parseFile, lastChecks, finished, refusedReading, readFile}
-use Rattle.theory.proofs.Tests.{Cmp, less, same, more, cmp}
+use Rattle.lemmas.proofs.Tests.{Cmp, less, same, more, cmp}
 use Rattle.theory.proofs.NumberBytes.{number-same}
 use Rattle.theory.proofs.FieldLaws.{length-field, body-most, take-took, took-length}
 use Rattle.theory.proofs.RecordLaws.{offset, offset-more, field-task, field-source, field-link, parse-fine, parse-unfit, parse-broken, parse-end}

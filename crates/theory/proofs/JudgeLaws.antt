@@ -20,8 +20,8 @@ use Rattle.model.specs.Graph.{system, linked, linkAt, runOf, cyclic}
 use Rattle.model.specs.Loads.{tooHeavy}
 use Rattle.model.specs.Field.{checkField, inTurn, hasRoom, onScale, hasEnds, fieldOf, fieldCount}
 use Rattle.model.specs.File.{fileOf, parseFile, lastChecks, finished, readFile, overfull, judge}
-use Rattle.theory.proofs.Tests.{Cmp, less, same, more, cmp, at-or-not, or-false-left, or-false-right}
-use Rattle.theory.proofs.Range.{any-cong}
+use Rattle.lemmas.proofs.Tests.{Cmp, less, same, more, cmp, at-or-not, or-false-left, or-false-right}
+use Rattle.lemmas.proofs.Range.{any-cong}
 use Rattle.theory.proofs.FieldLaws.{length-field}
 use Rattle.theory.proofs.RecordLaws.{Widths, offset, offset-more, progressAt, copyAt, readAt, read-fine, read-unfit, read-end}
 use Rattle.theory.proofs.RecordState.{filled, getD-filled, copy-links}

@@ -14,8 +14,8 @@ use Rattle.model.specs.Graph.{System}
 use Rattle.model.specs.Loads.{load}
 use Rattle.model.specs.Delays.{spacings, startOf, roundOf, Settled, unchanged, reached, settle, delayOf}
 use Rattle.model.specs.Verdicts.{settledVerdict, sourceVerdict}
-use Rattle.theory.proofs.Tests.{Cmp, less, same, more, cmp}
-use Rattle.theory.proofs.Range.{Each, sumN-le, sumN-mul}
+use Rattle.lemmas.proofs.Tests.{Cmp, less, same, more, cmp}
+use Rattle.lemmas.proofs.Range.{Each, sumN-le, sumN-mul}
 use Rattle.theory.proofs.Rounds.{Spaced, spacings-some, held-fixed, round-mono, round-start, settle-fixed, settle-least, settle-finds, never-reached}
 
 -- a sum whose numbers are counted from 0

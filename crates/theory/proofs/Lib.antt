@@ -1,7 +1,4 @@
--- Theorems about the definitions of `model`, a file for each subject.
-pub mod Tests
-pub mod Range
-pub mod Table
+-- Theorems about files, loads, verdicts and quotes, a file for each subject.
 pub mod WellFormed
 pub mod Spacing
 pub mod Rounds
@@ -18,30 +15,9 @@ pub mod ReadLaws
 pub mod FileLength
 pub mod FileLaws
 pub mod ReadBack
-pub mod Pigeonhole
 pub mod Rank
 pub mod LoadLaws
 pub mod Fielded
 pub mod LoadBounds
 pub mod Alike
-pub mod Potential
-pub mod Count
-pub mod Window
-pub mod Trace
-pub mod PotentialSteps
-pub mod Response
-pub mod Token
-pub mod Firing
-pub mod Arriving
-pub mod Ending
-pub mod Stepping
-pub mod Replay
-pub mod Machine
-pub mod Marks
-pub mod Serving
-pub mod Assurance
-pub mod Demand3
-pub mod Lawful
 pub mod Typed
-pub mod PlainCalls
-pub mod Instances

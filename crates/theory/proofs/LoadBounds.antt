@@ -8,8 +8,8 @@ use borrow.Author.Tests.{ltb-false}
 use Rattle.model.specs.Basics.{sumN, sumTo}
 use Rattle.model.specs.Graph.{System}
 use Rattle.model.specs.Loads.{work, added, load, tooHeavy}
-use Rattle.theory.proofs.Tests.{Cmp, less, same, more, cmp, false-of}
-use Rattle.theory.proofs.Range.{All, Each, sumN-split, sumN-first, none-any}
+use Rattle.lemmas.proofs.Tests.{Cmp, less, same, more, cmp, false-of}
+use Rattle.lemmas.proofs.Range.{All, Each, sumN-split, sumN-first, none-any}
 use Rattle.theory.proofs.WellFormed.{IsTask, IsSource, Shaped, Loaded}
 use Rattle.theory.proofs.LoadLaws.{added-le, no-link-load}
 

@@ -6,8 +6,8 @@ use native.Mathlib.Omega.{arith}
 use Rattle.model.specs.Basics.{sumTo, topTo, given}
 use Rattle.model.specs.Graph.{System, cyclic}
 use Rattle.model.specs.Loads.{workF, addedF, work, added, load}
-use Rattle.theory.proofs.Tests.{not-both}
-use Rattle.theory.proofs.Range.{All, sumTo-cong, sumTo-zero, le-sumTo, topTo-cong, topTo-le, le-topTo, given-le, le-given, given-cong}
+use Rattle.lemmas.proofs.Tests.{not-both}
+use Rattle.lemmas.proofs.Range.{All, sumTo-cong, sumTo-zero, le-sumTo, topTo-cong, topTo-le, le-topTo, given-le, le-given, given-cong}
 use Rattle.theory.proofs.WellFormed.{Shaped, Loaded}
 use Rattle.theory.proofs.Rank.{Ends, rankOf, ends-fall, rank-most}
 

@@ -11,7 +11,7 @@ use Rattle.model.specs.declared.Walk.{Walk}
 use Rattle.model.specs.Basics.{upTo}
 use Rattle.model.specs.Graph.{System}
 use Rattle.model.specs.Order.{Set, Neighbourhood, InOrder, meet, visit, walk, inOrder}
-use Rattle.theory.proofs.Tests.{Cmp, less, same, more, cmp, at-or-not, not-both, false-of, or-left, or-right, or-cases, and-left, and-right, both}
+use Rattle.lemmas.proofs.Tests.{Cmp, less, same, more, cmp, at-or-not, not-both, false-of, or-left, or-right, or-cases, and-left, and-right, both}
 use Rattle.theory.proofs.WellFormed.{Shaped, Loaded, IsTask, IsSource}
 use Rattle.theory.proofs.Walk.{M, New, Sized, meet-sized, meet-at, meet-other, met-place, stepTo, visit-low, visit-high, step-skip, step-into, place-of, Up, Grown, Part, part, grown}
 

@@ -23,8 +23,8 @@ use Rattle.model.specs.Graph.{System, system, linkAt}
 use Rattle.model.specs.File.{judge}
 use Rattle.model.specs.Delays.{Settled, unchanged, reached, delayOf, spacingOf}
 use Rattle.model.specs.Verdicts.{settledVerdict, sourceVerdict, orderVerdict, verdictOf, verdictAt, doubtful, allHeld, largestBelow, quoteOf}
-use Rattle.theory.proofs.Tests.{Cmp, less, same, more, cmp, not-both, false-of, true-of}
-use Rattle.theory.proofs.Range.{Each, all-at, all-of}
+use Rattle.lemmas.proofs.Tests.{Cmp, less, same, more, cmp, not-both, false-of, true-of}
+use Rattle.lemmas.proofs.Range.{Each, all-at, all-of}
 use Rattle.theory.proofs.WellFormed.{WellFormed, IsTask, IsSource}
 use Rattle.theory.proofs.Spacing.{gap-anti, gap-some}
 use Rattle.theory.proofs.Rounds.{Spaced, Wider, Kept, held-wider}

@@ -7,9 +7,9 @@ use native.Mathlib.Nat.{zero-add}
 use Rattle.model.specs.Basics.{sumN, given}
 use Rattle.model.specs.Graph.{System, Reaches, Cycle, walks, cyclic}
 use Rattle.model.specs.Graph.Reaches.{one, more}
-use Rattle.theory.proofs.Tests.{not-both, true-of, and-left, and-right, both}
-use Rattle.theory.proofs.Range.{Found, any-at, any-found, none-any, sumN-le, sumN-first, given-le}
-use Rattle.theory.proofs.Pigeonhole.{Twice, pigeonhole}
+use Rattle.lemmas.proofs.Tests.{not-both, true-of, and-left, and-right, both}
+use Rattle.lemmas.proofs.Range.{Found, any-at, any-found, none-any, sumN-le, sumN-first, given-le}
+use Rattle.lemmas.proofs.Pigeonhole.{Twice, pigeonhole}
 use Rattle.theory.proofs.WellFormed.{Shaped, IsTask}
 
 -- links that end at tasks: all that a rank asks of a system

@@ -18,7 +18,7 @@ use Rattle.model.specs.Refusals.{noLink, noSource}
 use Rattle.model.specs.Graph.{system}
 use Rattle.model.specs.Field.{fieldCount, onScale}
 use Rattle.model.specs.File.{fileOf, parseFile, readFile, Accepted, overfull, judge, trimmed}
-use Rattle.theory.proofs.Tests.{Cmp, less, same, more, cmp, not-both, or-false}
+use Rattle.lemmas.proofs.Tests.{Cmp, less, same, more, cmp, not-both, or-false}
 use Rattle.theory.proofs.WellFormed.{WellFormed}
 use Rattle.theory.proofs.NumberBytes.{Bytes}
 use Rattle.theory.proofs.RecordLaws.{Widths, copyAt}

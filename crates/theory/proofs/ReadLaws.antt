@@ -23,7 +23,7 @@ use Rattle.model.specs.Basics.{joined}
 use Rattle.model.specs.Refusals.{noLink, noSource, blank}
 use Rattle.model.specs.Field.{fieldBytes, takeField, checkField, withField, passed, noProgress, fieldOf, fieldCount}
 use Rattle.model.specs.File.{fileOf, parseFrom}
-use Rattle.theory.proofs.Tests.{at-or-not, and-left, and-right}
+use Rattle.lemmas.proofs.Tests.{at-or-not, and-left, and-right}
 use Rattle.theory.proofs.NumberBytes.{Bytes}
 use Rattle.theory.proofs.FieldLaws.{SourceFits, FieldFits, Took, take-took, take-end, took-fits, took-bytes, took-inside}
 use Rattle.theory.proofs.RecordLaws.{Widths, parse-fine, parse-unfit, parse-broken, parse-end, field-task, field-source, field-link, by-place}

@@ -20,7 +20,7 @@ use Rattle.model.specs.Refusals.{blank, noLink, noSource}
 use Rattle.model.specs.Field.{fieldBytes, takeField, checkField, withField, passed, noProgress, fieldOf, fieldCount}
 use Rattle.model.specs.File.{fileOf, parseFrom, parseFile, refusedReading}
 pub use Rattle.model.specs.File.{Widths}
-use Rattle.theory.proofs.Tests.{Cmp, less, same, more, cmp}
+use Rattle.lemmas.proofs.Tests.{Cmp, less, same, more, cmp}
 use Rattle.theory.proofs.FieldLaws.{FieldFits, take-written}
 
 -- the steps of a reading

@@ -12,7 +12,7 @@ use Rattle.model.specs.Basics.{upTo}
 use Rattle.model.specs.Graph.{linkAt}
 use Rattle.model.specs.Refusals.{blank, noLink, noSource}
 use Rattle.model.specs.Field.{noProgress}
-use Rattle.theory.proofs.Tests.{Cmp, less, same, more, cmp}
+use Rattle.lemmas.proofs.Tests.{Cmp, less, same, more, cmp}
 use Rattle.theory.proofs.RecordLaws.{progressAt, copyAt, progress-more, copy-more, field-task, field-source, field-link}
 
 -- the ends of the last of the first l links

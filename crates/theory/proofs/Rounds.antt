@@ -10,8 +10,8 @@ use Rattle.model.specs.Basics.{sumN}
 use Rattle.model.specs.Graph.{System}
 use Rattle.model.specs.Loads.{load}
 use Rattle.model.specs.Delays.{spacings, startOf, roundOf, Settled, unchanged, reached, settle, delayOf}
-use Rattle.theory.proofs.Tests.{not-both}
-use Rattle.theory.proofs.Range.{Each, sumN-le}
+use Rattle.lemmas.proofs.Tests.{not-both}
+use Rattle.lemmas.proofs.Range.{Each, sumN-le}
 
 -- how many spacings a stretch holds: at least 1, more in a longer stretch, fewer of longer ones
 pub spacings-some : (d m : ℕ) → 1 ≤ spacings d m

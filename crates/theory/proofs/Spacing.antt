@@ -13,7 +13,7 @@ use Rattle.model.specs.declared.Field.the-variants.{OfSource}
 use Rattle.model.specs.Field.{onScale}
 use Rattle.model.specs.Graph.{sourceAt}
 use Rattle.model.specs.Delays.{spacing, spacingOf}
-use Rattle.theory.proofs.Tests.{and-left, and-right}
+use Rattle.lemmas.proofs.Tests.{and-left, and-right}
 use Rattle.theory.proofs.WellFormed.{WellFormed}
 
 -- a number from 1 to a limit, as the scale tests it

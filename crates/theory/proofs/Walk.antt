@@ -12,8 +12,8 @@ use Rattle.model.specs.declared.Walk.{Walk}
 use Rattle.model.specs.Basics.{upTo}
 use Rattle.model.specs.Graph.{System}
 use Rattle.model.specs.Order.{Neighbourhood, InOrder, failAt, meet, visit, walk, inOrder}
-use Rattle.theory.proofs.Tests.{Cmp, less, same, more, cmp, at-or-not, not-both, false-of, or-left, or-right, or-cases, and-left, and-right, both}
-use Rattle.theory.proofs.Range.{upTo-alike}
+use Rattle.lemmas.proofs.Tests.{Cmp, less, same, more, cmp, at-or-not, not-both, false-of, or-left, or-right, or-cases, and-left, and-right, both}
+use Rattle.lemmas.proofs.Range.{upTo-alike}
 use Rattle.theory.proofs.WellFormed.{Shaped, IsTask, IsSource}
 
 -- whether a walk has met task k

@@ -11,7 +11,7 @@ use Rattle.model.specs.Basics.{sumTo, topTo, given}
 use Rattle.model.specs.Field.{onScale}
 use Rattle.model.specs.Graph.{System, system, runOf, linkAt, sourceAt, cyclic}
 use Rattle.model.specs.Loads.{work, added, tooHeavy}
-use Rattle.theory.proofs.Range.{All}
+use Rattle.lemmas.proofs.Range.{All}
 
 -- a task or a source of the system
 abbrev pub IsTask : System → ℕ → Type 0

@@ -19,7 +19,7 @@ use Rattle.model.specs.File.{Widths, judge}
 use Rattle.model.specs.Verdicts.{judgeAt, onKnob}
 use Rattle.model.specs.Machine.{idle, started, judgeTick, plainTick}
 use Rattle.model.specs.History.{Call}
-use Rattle.theory.proofs.Tests.{not-both, and-left, and-right, both, and-false-left, and-false-right}
+use Rattle.lemmas.proofs.Tests.{not-both, and-left, and-right, both, and-false-left, and-false-right}
 use Rattle.theory.proofs.WellFormed.{WellFormed}
 use Rattle.theory.proofs.FileLaws.{judge-well-formed}
 use Rattle.machine.specs.Run.{RunOf}

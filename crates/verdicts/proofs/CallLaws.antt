@@ -14,7 +14,7 @@ use Rattle.model.specs.declared.Verdicts.{Verdicts}
 use Rattle.model.specs.Basics.{tab}
 use Rattle.model.specs.File.{judge}
 use Rattle.model.specs.Verdicts.{judgeAt, verdicts, onKnob, slotAt}
-use Rattle.theory.proofs.Tests.{and-false-left, and-false-right, both}
+use Rattle.lemmas.proofs.Tests.{and-false-left, and-false-right, both}
 use Rattle.verdicts.specs.Decide.{refusedVerdicts}
 
 module _ (d : Description) (t : ℕ) where

@@ -16,9 +16,9 @@ use Rattle.model.specs.declared.VerdictSlot.{VerdictSlot}
 use Rattle.model.specs.Basics.{tab, allN}
 use Rattle.model.specs.Graph.{linkAt}
 use Rattle.model.specs.Verdicts.{freeSlot, doubtful}
-use Rattle.theory.proofs.Tests.{Cmp, less, same, more, cmp}
-use Rattle.theory.proofs.Table.{stored, is-tab}
-use Rattle.theory.proofs.Range.{all-at, all-of}
+use Rattle.lemmas.proofs.Tests.{Cmp, less, same, more, cmp}
+use Rattle.lemmas.proofs.Table.{stored, is-tab}
+use Rattle.lemmas.proofs.Range.{all-at, all-of}
 use Rattle.verdicts.specs.Decide.{verdictBy, gapBy, byTables, slotBy}
 
 module _ (l : Link) (order : Bool) (gap reach : ℕ) where

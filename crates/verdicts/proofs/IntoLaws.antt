@@ -11,10 +11,10 @@ use lib.Pow.{field, mod-mod-pow}
 use borrow.Author.Tests.{eq-eqb, ne-eqb, eqb-true}
 use Rattle.model.specs.declared.Description.{Description}
 use Rattle.model.specs.Graph.{linkAt}
-use Rattle.theory.proofs.Tests.{Cmp, less, same, more, cmp, at-or-not, not-both, and-left, and-false-right, both, same-test}
-use Rattle.theory.proofs.Range.{any-more}
-use Rattle.loads.specs.Sets.{member}
-use Rattle.loads.proofs.SetLaws.{member-shift, member-past}
+use Rattle.lemmas.proofs.Tests.{Cmp, less, same, more, cmp, at-or-not, not-both, and-left, and-false-right, both, same-test}
+use Rattle.lemmas.proofs.Range.{any-more}
+use Rattle.sets.specs.Sets.{member}
+use Rattle.sets.proofs.SetLaws.{member-shift, member-past}
 use Rattle.loads.specs.Tables.{Linkable, linkedTo}
 use Rattle.verdicts.specs.Into.{linkInto}
 

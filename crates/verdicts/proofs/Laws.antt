@@ -15,10 +15,10 @@ use Rattle.model.specs.declared.Field.the-variants.{OfSource}
 use Rattle.model.specs.Field.{onScale}
 use Rattle.model.specs.Basics.{sumN}
 use Rattle.model.specs.Delays.{spacings, Settled, unchanged, reached, settle}
-use Rattle.theory.proofs.Tests.{and-left, and-right, Cmp, less, same, more, cmp, at-or-not}
+use Rattle.lemmas.proofs.Tests.{and-left, and-right, Cmp, less, same, more, cmp, at-or-not}
 use Rattle.theory.proofs.Levels.{reachOf, rising, never-unchanged}
 use Rattle.theory.proofs.Rounds.{settle-full, settle-same, settle-next, spacings-some, spacings-mono}
-use Rattle.theory.proofs.Range.{sumN-le}
+use Rattle.lemmas.proofs.Range.{sumN-le}
 use Rattle.verdicts.specs.Level.{Level, roundIn, reachIn, shareIn, endOf, Counted, moreBy, CountsOn}
 
 -- a paced source's product of tempo and pulses

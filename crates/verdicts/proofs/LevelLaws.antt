@@ -12,8 +12,8 @@ use Rattle.model.specs.Graph.{system, linkAt}
 use Rattle.model.specs.Delays.{spacingOf}
 use Rattle.model.specs.Order.{inOrder}
 use Rattle.model.specs.Verdicts.{sourceVerdict, orderVerdict, verdictOf, verdictAt, doubtful, allHeld}
-use Rattle.theory.proofs.Tests.{Cmp, less, same, more, cmp, both, and-left, and-right, not-both, false-of}
-use Rattle.theory.proofs.Range.{all-at, all-of}
+use Rattle.lemmas.proofs.Tests.{Cmp, less, same, more, cmp, both, and-left, and-right, not-both, false-of}
+use Rattle.lemmas.proofs.Range.{all-at, all-of}
 use Rattle.theory.proofs.WellFormed.{WellFormed}
 use Rattle.theory.proofs.Quotes.{held-slower}
 use Rattle.verdicts.specs.ByLevel.{betweenTasks, fromSource, orderHeld, ordersHeld, levelHeld}

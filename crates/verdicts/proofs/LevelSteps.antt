@@ -19,11 +19,11 @@ use Rattle.model.specs.Field.{onScale}
 use Rattle.model.specs.Graph.{system, linkAt}
 use Rattle.model.specs.Delays.{spacing}
 use Rattle.model.specs.Order.{inOrder}
-use Rattle.theory.proofs.Tests.{Cmp, less, same, more, cmp, at-or-not, not-both}
-use Rattle.theory.proofs.Range.{any-more}
-use Rattle.theory.proofs.Table.{stored}
+use Rattle.lemmas.proofs.Tests.{Cmp, less, same, more, cmp, at-or-not, not-both}
+use Rattle.lemmas.proofs.Range.{any-more}
+use Rattle.lemmas.proofs.Table.{stored}
 use Rattle.theory.proofs.Spacing.{spacing-most}
-use Rattle.loads.specs.Sets.{member}
+use Rattle.sets.specs.Sets.{member}
 use Rattle.verdicts.specs.Plan.{OrdersOf}
 use Rattle.verdicts.specs.ByLevel.{betweenTasks, orderHeld, criticalLink, criticalTo, sourceBy, figureOf, pacedOf, sourceIn, SpacingsBy, narrowerOf, NarrowestIn}
 use Rattle.verdicts.proofs.LevelLaws.{is-between}

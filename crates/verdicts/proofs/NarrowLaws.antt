@@ -20,13 +20,13 @@ use Rattle.model.specs.Field.{onScale}
 use Rattle.model.specs.Graph.{System, system, linkAt}
 use Rattle.model.specs.Delays.{spacing, spacingOf}
 use Rattle.model.specs.Verdicts.{sourceVerdict, verdictAt, doubtful}
-use Rattle.theory.proofs.Tests.{both, and-left, and-right, not-both, same-test}
-use Rattle.theory.proofs.Range.{Found, any-at, any-found}
+use Rattle.lemmas.proofs.Tests.{both, and-left, and-right, not-both, same-test}
+use Rattle.lemmas.proofs.Range.{Found, any-at, any-found}
 use Rattle.theory.proofs.WellFormed.{WellFormed, IsTask, IsSource}
 use Rattle.theory.proofs.Rounds.{Spaced}
 use Rattle.theory.proofs.Quotes.{spaced}
 use Rattle.theory.proofs.Levels.{levelReach, level-verdict}
-use Rattle.loads.specs.Sets.{member}
+use Rattle.sets.specs.Sets.{member}
 use Rattle.verdicts.specs.Level.{Level, reachIn}
 use Rattle.verdicts.specs.Plan.{GapsOf}
 use Rattle.verdicts.specs.ByLevel.{fromSource, levelHeld, criticalLink, criticalTo, SourcesOf, Scaled, SpacingsBy, NarrowestIn, LevelTables}

@@ -16,8 +16,8 @@ use Rattle.model.specs.Graph.{System, system, linkAt}
 use Rattle.model.specs.declared.Walk.{Walk}
 use Rattle.model.specs.Delays.{spacing, spacingOf}
 use Rattle.model.specs.Order.{walk, inOrder}
-use Rattle.theory.proofs.Tests.{Cmp, less, same, more, cmp, at-or-not}
-use Rattle.theory.proofs.Table.{stored}
+use Rattle.lemmas.proofs.Tests.{Cmp, less, same, more, cmp, at-or-not}
+use Rattle.lemmas.proofs.Table.{stored}
 use Rattle.theory.proofs.Spacing.{gap-most}
 use Rattle.theory.proofs.WellFormed.{WellFormed, IsTask, IsSource}
 use Rattle.verdicts.specs.Into.{intoSystem}

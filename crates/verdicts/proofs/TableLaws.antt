@@ -20,9 +20,9 @@ use Rattle.model.specs.Loads.{load, sheet}
 use Rattle.model.specs.Delays.{startOf, roundOf, spacings, spacingOf, settle}
 use Rattle.model.specs.Order.{inOrder}
 use Rattle.model.specs.Verdicts.{sourceVerdict, orderVerdict, verdictOf, verdictAt, slotAt, freeSlot}
-use Rattle.theory.proofs.Tests.{Cmp, less, same, more, cmp}
-use Rattle.theory.proofs.Range.{sumN-cong, topTo-le}
-use Rattle.theory.proofs.Table.{tab-cong, getD-tab}
+use Rattle.lemmas.proofs.Tests.{Cmp, less, same, more, cmp}
+use Rattle.lemmas.proofs.Range.{sumN-cong, topTo-le}
+use Rattle.lemmas.proofs.Table.{tab-cong, getD-tab}
 use Rattle.theory.proofs.WellFormed.{WellFormed, Shaped, Loaded, IsTask, IsSource}
 use Rattle.theory.proofs.Fielded.{shaped}
 use Rattle.theory.proofs.LoadLaws.{loaded}

@@ -10,11 +10,11 @@ use borrow.Author.Tests.{ne-eqb}
 use Rattle.model.specs.declared.Walk.{Walk}
 use Rattle.model.specs.Basics.{upTo}
 use Rattle.model.specs.Order.{failAt, meet, visit}
-use Rattle.theory.proofs.Tests.{Cmp, less, same, more, cmp, not-both}
-use Rattle.theory.proofs.Range.{upTo-more}
+use Rattle.lemmas.proofs.Tests.{Cmp, less, same, more, cmp, not-both}
+use Rattle.lemmas.proofs.Range.{upTo-more}
 use Rattle.theory.proofs.Walk.{stepTo, visit-source, visit-again, visit-low, visit-high, step-skip, step-into, step-stop}
-use Rattle.loads.specs.Sets.{member, FirstIn}
-use Rattle.loads.proofs.SetLaws.{member-none}
+use Rattle.sets.specs.Sets.{member, FirstIn}
+use Rattle.sets.proofs.SetLaws.{member-none}
 use Rattle.verdicts.specs.Into.{linkInto, intoSystem, unmet, VisitIs}
 use Rattle.verdicts.proofs.IntoLaws.{rest-node, rest-link}
 

@@ -18,7 +18,7 @@ use Rattle.model.specs.Delays.{spacing}
 use Rattle.model.specs.Order.{inOrder}
 use Rattle.model.specs.Verdicts.{verdictAt, doubtful}
 use Rattle.theory.proofs.WellFormed.{WellFormed}
-use Rattle.loads.specs.Sets.{member}
+use Rattle.sets.specs.Sets.{member}
 use Rattle.verdicts.specs.Plan.{LevelsOf, StartsOf}
 
 -- whether a link is critical and between tasks

@@ -8,7 +8,7 @@ use Rattle.model.specs.declared.Walk.{Walk}
 use Rattle.model.specs.declared.Description.{Description}
 use Rattle.model.specs.Graph.{System, linked}
 use Rattle.model.specs.Order.{visit}
-use Rattle.loads.specs.Sets.{member}
+use Rattle.sets.specs.Sets.{member}
 
 -- whether node p has a link to task x
 abbrev pub linkInto : List ℕ → ℕ → ℕ → Bool

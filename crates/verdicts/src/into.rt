@@ -1,6 +1,6 @@
 // For each task the set of nodes with a link to it.
 
-use loads::sets::with;
+use sets::with;
 use model::Description;
 ghost use mathlib.Core.Path.{_≡_};
 ghost use Rattle.theory.proofs.Fielded.{Fielded};

@@ -1,8 +1,8 @@
 // One level at a time: whether every critical link from a source to one task is held. The search for a tempo goes by this.
 
 use crate::rounds::level_reach;
-use loads::sets::has;
-use loads::sets::with;
+use sets::has;
+use sets::with;
 use model::Description;
 use model::Link;
 use model::Source;
@@ -17,7 +17,7 @@ ghost use Rattle.model.specs.declared.Field.the-variants.{OfSource};
 ghost use Rattle.model.specs.Field.{onScale};
 ghost use Rattle.model.specs.Delays.{spacing};
 ghost use Rattle.theory.proofs.WellFormed.{WellFormed};
-ghost use Rattle.loads.specs.Sets.{member};
+ghost use Rattle.sets.specs.Sets.{member};
 ghost use Rattle.verdicts.specs.Level.{Level};
 ghost use Rattle.verdicts.specs.Plan.{GapsOf, OrdersOf};
 ghost use Rattle.verdicts.specs.ByLevel.{ordersHeld, orderHeld, levelHeld, CriticalOf, sourceBy, figureOf, pacedOf, SourcesOf, Scaled, SpacingsBy, narrowerOf, NarrowestIn, LevelTables, SearchTables};

@@ -1,6 +1,6 @@
 // The backward walk from a task against the links.
 
-use loads::sets::first;
+use sets::first;
 use model::Walk;
 ghost use mathlib.Core.Path.{_≡_};
 ghost use Prim.Native.Nat.{_≤_};

@@ -4,7 +4,7 @@ use mathlib.Core.Path.{_≡_, refl, sym, ap, _∙_}
 use native.Mathlib.Omega.{arith}
 use lib.ListN.{length, getD, length-set}
 use Rattle.model.specs.Delays.{spacingOf}
-use Rattle.theory.proofs.Table.{stored}
+use Rattle.lemmas.proofs.Table.{stored}
 use Rattle.verdicts.proofs.PlanLaws.{gap-place}
 use Rattle.ticks.proofs.gaps_of.Statement.{statement}
 use Rattle.ticks.proofs.gaps_of.Tie as tie

@@ -5,8 +5,8 @@ use Prim.Native.Nat.{ℕ, suc, _+_, _≤_, _<_, _-_, max}
 use mathlib.Core.Path.{_≡_, refl, sym, ap, _∙_}
 use lib.ListN.{length, getD}
 use Rattle.model.specs.Basics.{given, topN}
-use Rattle.theory.proofs.Range.{given-le}
-use Rattle.loads.specs.Sets.{member}
+use Rattle.lemmas.proofs.Range.{given-le}
+use Rattle.sets.specs.Sets.{member}
 use Rattle.loads.specs.Tables.{Column}
 use Rattle.loads.proofs.Columns.{column-none, column-more, top-set}
 use Rattle.loads.proofs.levels.task_column.Statement.{statement}

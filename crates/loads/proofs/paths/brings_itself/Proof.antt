@@ -5,8 +5,8 @@ use Prim.Native.Nat.{ℕ, _≤_, _<_, _-_}
 use mathlib.Core.Path.{_≡_, sym, _∙_}
 use mathlib.Core.Bool.{false}
 use lib.ListN.{getD}
-use Rattle.theory.proofs.Range.{any-at, any-none}
-use Rattle.loads.specs.Sets.{member}
+use Rattle.lemmas.proofs.Range.{any-at, any-none}
+use Rattle.sets.specs.Sets.{member}
 use Rattle.loads.specs.Tables.{selfIn}
 use Rattle.loads.proofs.Fill.{under}
 use Rattle.loads.proofs.paths.brings_itself.Statement.{statement}

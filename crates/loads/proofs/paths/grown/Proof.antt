@@ -2,7 +2,7 @@
 use borrow.Author.Needs.{needs}
 use mathlib.Core.Path.{sym, ap, _∙_}
 use mathlib.Core.Bool.{_||_, _&&_}
-use Rattle.loads.specs.Sets.{member}
+use Rattle.sets.specs.Sets.{member}
 use Rattle.loads.proofs.PathLaws.{same-grown}
 use Rattle.loads.proofs.paths.grown.Statement.{statement}
 use Rattle.loads.proofs.paths.grown.Tie as tie

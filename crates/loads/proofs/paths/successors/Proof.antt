@@ -6,9 +6,9 @@ use mathlib.Core.Path.{_≡_, refl, ap, _∙_}
 use lib.ListN.{length, getD, length-set, getD-replicate, replicate}
 use Rattle.model.specs.Basics.{anyN}
 use Rattle.model.specs.Graph.{linked, linkAt}
-use Rattle.loads.specs.Sets.{member}
+use Rattle.sets.specs.Sets.{member}
 use Rattle.loads.specs.Tables.{Linkable, linkedTo, rowOf}
-use Rattle.loads.proofs.SetLaws.{member-none}
+use Rattle.sets.proofs.SetLaws.{member-none}
 use Rattle.loads.proofs.Tabled.{sets-more, ends-inside}
 use Rattle.loads.proofs.paths.successors.Statement.{statement}
 use Rattle.loads.proofs.paths.successors.Tie as tie

@@ -5,7 +5,7 @@ use Prim.Native.Nat.{ℕ, suc, _+_, _≤_, _<_, _-_}
 use mathlib.Core.Path.{_≡_, refl, sym, ap, _∙_}
 use lib.ListN.{getD}
 use Rattle.model.specs.Basics.{sumN}
-use Rattle.theory.proofs.Range.{sumN-more}
+use Rattle.lemmas.proofs.Range.{sumN-more}
 use Rattle.loads.proofs.Working.{sum-most}
 use Rattle.loads.proofs.rows.sum_of.Statement.{statement}
 use Rattle.loads.proofs.rows.sum_of.Tie as tie

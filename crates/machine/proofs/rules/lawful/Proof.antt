@@ -4,7 +4,7 @@ use mathlib.Core.Bool.{_&&_}
 use borrow.Author.Tests.{not-true, not-false}
 use Rattle.model.specs.Basics.{allN}
 use Rattle.model.specs.Machine.{taskRule, linkRule, sourceRule, lawful}
-use Rattle.theory.proofs.Tests.{and-false-left, and-false-right}
+use Rattle.lemmas.proofs.Tests.{and-false-left, and-false-right}
 use Rattle.machine.proofs.RuleLaws.{and-true}
 use borrow.Author.Needs.{needs}
 use Rattle.machine.proofs.rules.lawful.Statement.{statement}

@@ -1,5 +1,5 @@
 -- `run_judged` meets its contract: a run of its plan, of which demand 3 speaks. Assumes nothing.
-use Rattle.theory.proofs.PlainCalls.{plain-assured}
+use Rattle.assurance.proofs.PlainCalls.{plain-assured}
 use Rattle.machine.specs.Run.{callsIn}
 use Rattle.machine.proofs.RunLaws.{on-knob, widths}
 use borrow.Author.Needs.{needs}

@@ -6,7 +6,7 @@ use native.Mathlib.Omega.{arith}
 use lib.ListN.{getD}
 use lib.Pow.{pow-mono}
 use borrow.Author.Needs.{needs}
-use Rattle.theory.proofs.Table.{is-tab}
+use Rattle.lemmas.proofs.Table.{is-tab}
 use Rattle.steps.specs.Parts.{heard, marksIn}
 use Rattle.machine.proofs.RunLaws.{bit-below, bit-turn}
 use Rattle.machine.proofs.tick.mask_of.Statement.{statement}

@@ -4,7 +4,7 @@ use mathlib.Core.Path.{_≡_, refl, _∙_}
 use native.Mathlib.Omega.{arith}
 use borrow.Author.Needs.{needs}
 use lib.ListN.{getD, length, length-set}
-use Rattle.theory.proofs.Machine.{getD-same}
+use Rattle.assurance.proofs.Machine.{getD-same}
 use Rattle.steps.proofs.StepLaws.{set-below, first-turn}
 use Rattle.steps.proofs.plan.firsts.Statement.{statement}
 use Rattle.steps.proofs.plan.firsts.Tie as tie

@@ -11,10 +11,10 @@ use lib.Dec.{ltb}
 use borrow.Author.Tests.{ltb-true, ltb-false}
 use Rattle.model.specs.Basics.{tab}
 use Rattle.model.specs.Delays.{spacingOf}
-use Rattle.theory.proofs.Machine.{getD-same}
+use Rattle.assurance.proofs.Machine.{getD-same}
 use Rattle.steps.specs.declared.plan.Plan.{Plan}
 use Rattle.model.specs.Machine.{idle}
-use Rattle.theory.proofs.Table.{stored, is-tab}
+use Rattle.lemmas.proofs.Table.{stored, is-tab}
 use Rattle.steps.specs.Parts.{PlanOf, parts}
 use Rattle.steps.proofs.plan.idle_of.Statement.{statement}
 use Rattle.steps.proofs.plan.idle_of.Tie as tie

@@ -4,7 +4,7 @@ use mathlib.Core.Path.{_≡_, refl, _∙_}
 use native.Mathlib.Omega.{arith}
 use borrow.Author.Needs.{needs}
 use lib.ListN.{getD, length, length-set}
-use Rattle.theory.proofs.Machine.{getD-same}
+use Rattle.assurance.proofs.Machine.{getD-same}
 use Rattle.steps.proofs.StepLaws.{set-below, last-turn}
 use Rattle.steps.proofs.plan.lasts.Statement.{statement}
 use Rattle.steps.proofs.plan.lasts.Tie as tie

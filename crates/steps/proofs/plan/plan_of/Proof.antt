@@ -5,7 +5,7 @@ use native.Mathlib.Omega.{arith}
 use borrow.Author.Needs.{needs}
 use lib.ListN.{getD, length, length-set}
 use Rattle.model.specs.Graph.{linkAt}
-use Rattle.theory.proofs.Table.{stored}
+use Rattle.lemmas.proofs.Table.{stored}
 use Rattle.steps.proofs.plan.plan_of.Statement.{statement}
 use Rattle.steps.proofs.plan.plan_of.Tie as tie
 

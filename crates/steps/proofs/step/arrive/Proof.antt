@@ -7,7 +7,7 @@ use native.Mathlib.Omega.{arith}
 use borrow.Author.Needs.{needs}
 use Rattle.model.specs.declared.Description.{Description}
 use Rattle.model.specs.Basics.{upTo}
-use Rattle.theory.proofs.Range.{upTo-more}
+use Rattle.lemmas.proofs.Range.{upTo-more}
 use Rattle.model.specs.Machine.{arriveOne, arrive}
 use Rattle.steps.specs.Parts.{parts, PlacesOf, marksIn}
 use Rattle.steps.proofs.MaskLaws.{whole-mask, mark-in, turn}

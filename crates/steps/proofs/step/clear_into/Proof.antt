@@ -8,7 +8,7 @@ use borrow.Author.Needs.{needs}
 use lib.ListN.{getD}
 use Rattle.model.specs.declared.Description.{Description}
 use Rattle.model.specs.Basics.{upTo}
-use Rattle.theory.proofs.Range.{upTo-more}
+use Rattle.lemmas.proofs.Range.{upTo-more}
 use Rattle.model.specs.Machine.{clearLink, clearInto}
 use Rattle.steps.specs.Parts.{parts, LinksOf}
 use Rattle.steps.proofs.StepLaws.{clear-turn}

@@ -5,7 +5,7 @@ use mathlib.Core.Bool.{false}
 use native.Mathlib.Omega.{arith}
 use borrow.Author.Tests.{ne-eqb}
 use lib.ListN.{set}
-use Rattle.theory.proofs.Tests.{not-both}
+use Rattle.lemmas.proofs.Tests.{not-both}
 use Rattle.steps.specs.Parts.{parts}
 use Rattle.steps.proofs.StepLaws.{end-none, end-whole, end-off}
 use borrow.Author.Needs.{needs}

@@ -10,7 +10,7 @@ use Rattle.model.specs.declared.Description.{Description}
 use Rattle.model.specs.Basics.{upTo}
 use Rattle.model.specs.Graph.{linkAt}
 use Rattle.model.specs.Machine.{fireLink, fire}
-use Rattle.theory.proofs.Range.{upTo-more}
+use Rattle.lemmas.proofs.Range.{upTo-more}
 use Rattle.steps.specs.Parts.{parts, PlacesOf}
 use Rattle.steps.proofs.StepLaws.{cases, fire-on, fire-off, fire-before, fire-after}
 use Rattle.steps.proofs.step.fire.Statement.{statement}

@@ -3,7 +3,7 @@ use mathlib.Core.Path.{sym, ap, _∙_}
 use native.Mathlib.Omega.{arith}
 use borrow.Author.Needs.{needs}
 use Rattle.model.specs.Machine.{highestIn, endRun}
-use Rattle.theory.proofs.Ending.{highest-le}
+use Rattle.assurance.proofs.Ending.{highest-le}
 use Rattle.steps.proofs.step.serve.Statement.{statement}
 use Rattle.steps.proofs.step.serve.Tie as tie
 

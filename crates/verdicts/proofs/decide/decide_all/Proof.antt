@@ -5,7 +5,7 @@ use native.Mathlib.Omega.{arith}
 use lib.ListN.{length, getD, replicate, getD-replicate, List·getD-eq-default}
 use Rattle.model.specs.declared.VerdictSlot.{VerdictSlot}
 use Rattle.model.specs.Verdicts.{freeSlot}
-use Rattle.theory.proofs.Tests.{Cmp, less, same, more, cmp}
+use Rattle.lemmas.proofs.Tests.{Cmp, less, same, more, cmp}
 use Rattle.verdicts.proofs.PlanLaws.{from-most, to-most}
 use Rattle.verdicts.proofs.DecideLaws.{SlotsTo, slot-in, slots-more, slots-done}
 use Rattle.verdicts.proofs.decide.decide_all.Statement.{statement}

@@ -6,11 +6,11 @@ use lib.ListN.{length, length-set, getD-replicate}
 use borrow.Author.Needs.{needs}
 use Rattle.model.specs.Basics.{anyN}
 use Rattle.model.specs.Graph.{linked, linkAt}
-use Rattle.loads.specs.Sets.{member}
+use Rattle.sets.specs.Sets.{member}
 use Rattle.loads.specs.Tables.{Linkable, linkedTo}
 use Rattle.loads.proofs.Tabled.{ends-inside}
 use Rattle.verdicts.specs.Into.{linkInto}
-use Rattle.loads.proofs.SetLaws.{member-none}
+use Rattle.sets.proofs.SetLaws.{member-none}
 use Rattle.verdicts.proofs.IntoLaws.{into-more}
 use Rattle.verdicts.proofs.into.predecessors.Statement.{statement}
 use Rattle.verdicts.proofs.into.predecessors.Tie as tie

@@ -1,7 +1,7 @@
 -- `level_held` meets its contract: the link of the source with the narrowest spacing decides. Assumes nothing.
 use mathlib.Core.Path.{ap, _∙_}
 use lib.Dec.{ltb}
-use Rattle.loads.specs.Sets.{member}
+use Rattle.sets.specs.Sets.{member}
 use Rattle.verdicts.proofs.NarrowLaws.{member-none, level-empty, level-beyond, level-narrow}
 use borrow.Author.Needs.{needs}
 use borrow.Author.Needs.{needs}

@@ -8,8 +8,8 @@ use Rattle.model.specs.declared.Description.{Description}
 use Rattle.model.specs.Basics.{allN}
 use Rattle.model.specs.Graph.{system, linkAt}
 use Rattle.model.specs.Order.{inOrder}
-use Rattle.theory.proofs.Tests.{not-both, false-of, both}
-use Rattle.theory.proofs.Range.{all-at, all-more}
+use Rattle.lemmas.proofs.Tests.{not-both, false-of, both}
+use Rattle.lemmas.proofs.Range.{all-at, all-more}
 use Rattle.verdicts.specs.ByLevel.{orderHeld, ordersHeld}
 use Rattle.verdicts.proofs.LevelSteps.{order-by}
 use Rattle.verdicts.proofs.level.orders_held.Statement.{statement}

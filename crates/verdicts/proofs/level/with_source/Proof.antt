@@ -4,7 +4,7 @@ use mathlib.Core.Path.{ap, _∙_}
 use mathlib.Core.Bool.{_||_}
 use lib.Dec.{eqb}
 use native.Mathlib.Omega.{arith}
-use Rattle.loads.specs.Sets.{member}
+use Rattle.sets.specs.Sets.{member}
 use Rattle.verdicts.proofs.LevelSteps.{comes-free, comes-task, comes-source}
 use borrow.Author.Needs.{needs}
 use borrow.Author.Needs.{needs}

@@ -6,7 +6,7 @@ use native.Mathlib.Omega.{arith}
 use lib.ListN.{length, getD, length-set}
 use borrow.Author.Needs.{needs}
 use Rattle.model.specs.Graph.{linkAt}
-use Rattle.theory.proofs.Table.{stored}
+use Rattle.lemmas.proofs.Table.{stored}
 use Rattle.verdicts.specs.Plan.{orderBy}
 use Rattle.verdicts.proofs.PlanLaws.{from-some}
 use Rattle.verdicts.proofs.plan.orders_by.Statement.{statement}

@@ -5,7 +5,7 @@ use mathlib.Core.List.{[]}
 use native.Mathlib.Omega.{arith}
 use lib.ListN.{length, getD, length-set}
 use borrow.Author.Needs.{needs}
-use Rattle.theory.proofs.Table.{stored}
+use Rattle.lemmas.proofs.Table.{stored}
 use Rattle.verdicts.specs.Level.{reachIn}
 use Rattle.verdicts.proofs.plan.reaches_at.Statement.{statement}
 use Rattle.verdicts.proofs.plan.reaches_at.Tie as tie

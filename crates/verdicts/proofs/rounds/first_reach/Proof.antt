@@ -3,7 +3,7 @@ use Prim.Native.Nat.{_≤_, _<_, _+_, _-_, _*_}
 use mathlib.Core.Path.{_≡_, ap, _∙_}
 use native.Mathlib.Omega.{arith}
 use lib.ListN.{getD, length-set}
-use Rattle.theory.proofs.Table.{stored}
+use Rattle.lemmas.proofs.Table.{stored}
 use Rattle.verdicts.specs.Level.{roundIn, endOf, Counted}
 use Rattle.verdicts.proofs.Laws.{round-none, round-more, term-most, spacings-most}
 use Rattle.verdicts.proofs.rounds.first_reach.Statement.{statement}

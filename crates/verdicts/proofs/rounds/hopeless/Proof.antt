@@ -1,6 +1,6 @@
 -- `hopeless` meets its contract. Assumes nothing.
 use mathlib.Core.Path.{refl}
-use Rattle.theory.proofs.Tests.{not-both}
+use Rattle.lemmas.proofs.Tests.{not-both}
 use borrow.Author.Needs.{needs}
 use Rattle.verdicts.proofs.rounds.hopeless.Statement.{statement}
 use Rattle.verdicts.proofs.rounds.hopeless.Tie as tie

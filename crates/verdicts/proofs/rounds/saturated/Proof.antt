@@ -4,7 +4,7 @@ use mathlib.Core.Path.{_≡_, refl}
 use native.Mathlib.Omega.{arith}
 use native.Mathlib.Nat.{div-le-self}
 use lib.ListN.{getD}
-use Rattle.theory.proofs.Tests.{not-both}
+use Rattle.lemmas.proofs.Tests.{not-both}
 use Rattle.verdicts.specs.Level.{Level, shareIn}
 use Rattle.verdicts.proofs.Laws.{share-none, share-more, share-grows}
 use Rattle.verdicts.proofs.rounds.saturated.Statement.{statement}

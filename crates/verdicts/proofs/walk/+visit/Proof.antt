@@ -11,7 +11,7 @@ use borrow.Fn.PlainCycle.{Measures, is, falls, and}
 use Rattle.model.specs.Basics.{upTo}
 use Rattle.model.specs.Order.{meet}
 use Rattle.theory.proofs.Walk.{stepTo}
-use Rattle.loads.specs.Sets.{FirstIn}
+use Rattle.sets.specs.Sets.{FirstIn}
 use Rattle.verdicts.specs.Into.{intoSystem, unmet}
 use Rattle.verdicts.proofs.IntoLaws.{rest-node}
 use Rattle.verdicts.proofs.WalkLaws.{unmet-le, unmet-falls, visit-is-far, visit-is-again, visit-is-low, visit-is-high, turn-on, turn-none, turn-failed}

@@ -1,0 +1,264 @@
+-- What a firing does to each part of the machine's record. Assumes nothing.
+use Prim.Native.Nat.{ℕ, zero, suc, _-_, _≤_, _<_}
+use mathlib.Core.Path.{_≡_, refl, sym, ap, _∙_}
+use mathlib.Core.Bool.{Bool, true, false, _||_, _&&_, cond}
+use mathlib.Core.List.{List}
+use native.Mathlib.Omega.{arith}
+use native.Mathlib.Nat.{zero-add}
+use lib.ListN.{length, getD, set, length-set}
+use lib.Seq.{getD-set-same, getD-set-other}
+use lib.Dec.{ltb, eqb}
+use borrow.Author.Tests.{eqb-true, eqb-false, eq-eqb, ne-eqb, lt-ltb, le-ltb, ltb-true}
+use Rattle.model.specs.declared.Description.{Description}
+use Rattle.model.specs.declared.Machine.{Machine}
+use Rattle.model.specs.Basics.{anyN, upTo}
+use Rattle.model.specs.Graph.{linkAt, system}
+use Rattle.model.specs.Machine.{awakeAt, waitingAt, droppedAt, setAwake, setWaiting, setDropped, markDropped, fireLink, fire}
+use Rattle.lemmas.proofs.Tests.{Cmp, less, same, more, cmp, same-test, and-left}
+use Rattle.theory.proofs.WellFormed.{WellFormed}
+
+-- the record's lists have their lengths
+pub record Sized (m : Machine) : Type 0 where
+  pub awakes : length (m .awake) ≡ 32
+  pub useds : length (m .used) ≡ 32
+  pub waitings : length (m .waiting) ≡ 256
+  pub droppeds : length (m .dropped) ≡ 256
+  pub ages : length (m .ages) ≡ 16
+
+-- an entry after a store
+pub getD-set : {A : Type 0} (l : List A) (i : ℕ) (v d : A) (k : ℕ) → i < length l → getD (set l i v) k d ≡ cond (eqb k i) v (getD l k d)
+getD-set l i v d k h = go (eqb k i) refl
+  where
+    go : (b : Bool) → eqb k i ≡ b → getD (set l i v) k d ≡ cond (eqb k i) v (getD l k d)
+    go true e = let q : k ≡ i = eqb-true k i e in rw e (rw q (getD-set-same l i v d h))
+    go false e = rw e (getD-set-other l i k v d (eqb-false k i e))
+
+-- the same by task numbers, which begin at 1
+pub getD-task : {A : Type 0} (l : List A) (h : ℕ) (v d : A) (k : ℕ) → 1 ≤ k → 1 ≤ h → h ≤ length l → getD (set l (h - 1) v) (k - 1) d ≡ cond (eqb k h) v (getD l (k - 1) d)
+getD-task l h v d k o p q =
+    let e : eqb (k - 1) (h - 1) ≡ eqb k h = same-test (eqb (k - 1) (h - 1)) (eqb k h) (λ x. let y : k - 1 ≡ h - 1 = eqb-true (k - 1) (h - 1) x in eq-eqb k h (omega arith)) (λ x. let y : k ≡ h = eqb-true k h x in eq-eqb (k - 1) (h - 1) (omega arith)) in
+    rw (← e) (getD-set l (h - 1) v d (k - 1) (omega arith))
+
+-- laws of tests
+pub or-assoc : (a b c : Bool) → (a || b || c) ≡ (a || (b || c))
+or-assoc true b c = refl
+or-assoc false b c = refl
+
+set-true : (b c : Bool) → cond b true c ≡ (c || b)
+set-true true true = refl
+set-true true false = refl
+set-true false true = refl
+set-true false false = refl
+
+-- one more number that a test is tried at
+pub less-more : (f : ℕ → Bool) (k n : ℕ) → (ltb k (suc n) && f k) ≡ ((ltb k n && f k) || (eqb k n && f n))
+less-more f k n = go (cmp k n)
+  where
+    go : Cmp k n → (ltb k (suc n) && f k) ≡ ((ltb k n && f k) || (eqb k n && f n))
+    go (less r) = rw (lt-ltb k n r, lt-ltb k (suc n) (omega arith), ne-eqb k n (λ e. omega arith)) (sym (or-off (f k)))
+      where
+        or-off : (b : Bool) → (b || false) ≡ b
+        or-off true = refl
+        or-off false = refl
+    go (same r) = rw (le-ltb k n (omega arith), lt-ltb k (suc n) (omega arith), eq-eqb k n r) (ap f r)
+    go (more r) = rw (le-ltb k n (omega arith), le-ltb k (suc n) (omega arith), ne-eqb k n (λ e. omega arith)) refl
+
+pub less-apart : (f : ℕ → Bool) (k n : ℕ) → (ltb k n && f k) ≡ true → (eqb k n && f n) ≡ true → ⊥
+less-apart f k n p q =
+    omega (arith, ltb-true k n (and-left (ltb k n) (f k) p), eqb-true k n (and-left (eqb k n) (f n) q))
+
+any-more : (p : ℕ → Bool) (n : ℕ) → anyN p 0 (suc n) ≡ (anyN p 0 n || p n)
+unfolding anyN
+any-more p n = rw (zero-add n)
+
+-- a mark that was set earlier, a link that waited, and the two sets of firings, which are apart
+pub drop-more : (d w a b : Bool) → (a ≡ true → b ≡ true → ⊥) → ((d || (w && a)) || ((w || a) && b)) ≡ (d || (w && (a || b)))
+drop-more true w a b h = refl
+drop-more false true true b h = refl
+drop-more false true false b h = refl
+drop-more false false true true h = absurd (h refl refl)
+drop-more false false true false h = refl
+drop-more false false false b h = refl
+
+-- what became of the record m by the firing of node x over the first n links
+pub record Fired (d : Description) (x n : ℕ) (m m′ : Machine) : Type 0 where
+  pub sized : Sized m′
+  pub used : m′ .used ≡ m .used
+  pub ages : m′ .ages ≡ m .ages
+  pub awake : (k : ℕ) → 1 ≤ k → awakeAt m′ k ≡ (awakeAt m k || anyN (λ l. eqb (linkAt d l .from) x && eqb (linkAt d l .to) k) 0 n)
+  pub waiting : (l : ℕ) → waitingAt m′ l ≡ (waitingAt m l || (ltb l n && eqb (linkAt d l .from) x))
+  pub dropped : (l : ℕ) → droppedAt m′ l ≡ (droppedAt m l || (waitingAt m l && (ltb l n && eqb (linkAt d l .from) x)))
+
+-- and by its link at place l alone
+record LinkFired (d : Description) (x l : ℕ) (m m′ : Machine) : Type 0 where
+  sized : Sized m′
+  used : m′ .used ≡ m .used
+  ages : m′ .ages ≡ m .ages
+  awake : (k : ℕ) → 1 ≤ k → awakeAt m′ k ≡ (awakeAt m k || (eqb (linkAt d l .from) x && eqb (linkAt d l .to) k))
+  waiting : (k : ℕ) → waitingAt m′ k ≡ (waitingAt m k || (eqb k l && eqb (linkAt d l .from) x))
+  dropped : (k : ℕ) → droppedAt m′ k ≡ (droppedAt m k || (waitingAt m k && (eqb k l && eqb (linkAt d l .from) x)))
+
+-- a link that is fired: its mark, whether it waited or not
+mark-awake : (b : Bool) (l : ℕ) (m : Machine) → cond b (setDropped l true m) m .awake ≡ m .awake
+mark-awake true l m = refl
+mark-awake false l m = refl
+
+mark-used : (b : Bool) (l : ℕ) (m : Machine) → cond b (setDropped l true m) m .used ≡ m .used
+mark-used true l m = refl
+mark-used false l m = refl
+
+mark-waiting : (b : Bool) (l : ℕ) (m : Machine) → cond b (setDropped l true m) m .waiting ≡ m .waiting
+mark-waiting true l m = refl
+mark-waiting false l m = refl
+
+mark-ages : (b : Bool) (l : ℕ) (m : Machine) → cond b (setDropped l true m) m .ages ≡ m .ages
+mark-ages true l m = refl
+mark-ages false l m = refl
+
+mark-length : (b : Bool) (l : ℕ) (m : Machine) → length (cond b (setDropped l true m) m .dropped) ≡ length (m .dropped)
+mark-length true l m = length-set (m .dropped) l true
+mark-length false l m = refl
+
+mark-dropped : (l : ℕ) (m : Machine) → l < length (m .dropped) → (k : ℕ) → droppedAt (markDropped l m) k ≡ (droppedAt m k || (waitingAt m k && eqb k l))
+mark-dropped l m p k = go (waitingAt m l) refl (eqb k l) refl
+  where
+    or-off : (a b : Bool) → a ≡ (a || (b && false))
+    or-off true b = refl
+    or-off false true = refl
+    or-off false false = refl
+
+    go : (w : Bool) → waitingAt m l ≡ w → (b : Bool) → eqb k l ≡ b → droppedAt (cond (waitingAt m l) (setDropped l true m) m) k ≡ (droppedAt m k || (waitingAt m k && eqb k l))
+    go true e true f =
+        let q : k ≡ l = eqb-true k l f in
+        rw (e, f) (getD-set (m .dropped) l true false k p ∙ rw (f, q, e) (or-on (droppedAt m l)))
+      where
+        or-on : (a : Bool) → true ≡ (a || true)
+        or-on true = refl
+        or-on false = refl
+    go false e true f =
+        let q : k ≡ l = eqb-true k l f in
+        rw (e, f, q, e) (or-off (droppedAt m l) false)
+    go true e false f = rw (e, f) (getD-set (m .dropped) l true false k p ∙ rw f (or-off (droppedAt m k) (waitingAt m k)))
+    go false e false f = rw (e, f) (or-off (droppedAt m k) (waitingAt m k))
+
+pub or-idle : (a b c : Bool) → b ≡ false → a ≡ (a || (b && c))
+or-idle true b c e = refl
+or-idle false b c e = rw e refl
+
+or-idle₂ : (a b c d : Bool) → c ≡ false → a ≡ (a || (b && (d && c)))
+or-idle₂ true b c d e = refl
+or-idle₂ false true c true e = sym e
+or-idle₂ false true c false e = refl
+or-idle₂ false false c d e = refl
+
+and-on : (b c : Bool) → c ≡ true → (b && c) ≡ b
+and-on true c e = e
+and-on false c e = refl
+
+pub eqb-sym : (a b : ℕ) → eqb a b ≡ eqb b a
+eqb-sym a b =
+    same-test (eqb a b) (eqb b a) (λ e. eq-eqb b a (sym (eqb-true a b e))) (λ e. eq-eqb a b (sym (eqb-true b a e)))
+
+module _ (d : Description) (wf : WellFormed d) where
+  pub to-some : (l : ℕ) → l < d .«link_count» → 1 ≤ linkAt d l .to
+  to-some l p = wf .link-to l p .0
+
+  pub to-most : (l : ℕ) → l < d .«link_count» → linkAt d l .to ≤ 32
+  unfolding system
+  to-most l p = let h : linkAt d l .to ≤ d .«task_count» = wf .link-to l p .1 in omega (arith, wf .few-tasks)
+
+  fire-off : (x l : ℕ) (m : Machine) → eqb (linkAt d l .from) x ≡ false → fireLink d x l m ≡ m
+  unfolding fireLink
+  fire-off x l m e = rw e refl
+
+  fire-on : (x l : ℕ) (m : Machine) → eqb (linkAt d l .from) x ≡ true → fireLink d x l m ≡ setAwake (linkAt d l .to) true (setWaiting l true (markDropped l m))
+  unfolding fireLink
+  fire-on x l m e = rw e refl
+
+  link-on : (x l : ℕ) → l < d .«link_count» → (m : Machine) → Sized m → eqb (linkAt d l .from) x ≡ true → LinkFired d x l m (setAwake (linkAt d l .to) true (setWaiting l true (markDropped l m)))
+  link-on x l p m z e =
+      let w : Bool = waitingAt m l in
+      record {
+        sized = record {
+          awakes = length-set (markDropped l m .awake) (linkAt d l .to - 1) true ∙ (ap length (mark-awake w l m) ∙ z .awakes);
+          useds = ap length (mark-used w l m) ∙ z .useds;
+          waitings = length-set (markDropped l m .waiting) l true ∙ (ap length (mark-waiting w l m) ∙ z .waitings);
+          droppeds = mark-length w l m ∙ z .droppeds;
+          ages = ap length (mark-ages w l m) ∙ z .ages;
+        };
+        used = mark-used w l m;
+        ages = mark-ages w l m;
+        awake = λ k o. rw (mark-awake w l m, e, eqb-sym (linkAt d l .to) k) (getD-task (m .awake) (linkAt d l .to) true false k o (to-some l p) (omega (arith, z .awakes, to-most l p)) ∙ set-true (eqb k (linkAt d l .to)) (awakeAt m k));
+        waiting = λ k. rw (mark-waiting w l m, e, and-on (eqb k l) true refl) (getD-set (m .waiting) l true false k (omega (arith, z .waitings, wf .few-links)) ∙ set-true (eqb k l) (waitingAt m k));
+        dropped = λ k. rw (e, and-on (eqb k l) true refl) (mark-dropped l m (omega (arith, z .droppeds, wf .few-links)) k);
+      }
+
+  link-off : (x l : ℕ) (m : Machine) → Sized m → eqb (linkAt d l .from) x ≡ false → LinkFired d x l m m
+  link-off x l m z e = record {
+    sized = z;
+    used = refl;
+    ages = refl;
+    awake = λ k o. or-idle (awakeAt m k) _ _ e;
+    waiting = λ k. rw e (or-none (waitingAt m k) (eqb k l));
+    dropped = λ k. or-idle₂ (droppedAt m k) (waitingAt m k) _ (eqb k l) e;
+  }
+    where
+      or-none : (a b : Bool) → a ≡ (a || (b && false))
+      or-none true b = refl
+      or-none false true = refl
+      or-none false false = refl
+
+  link-fired : (x l : ℕ) → l < d .«link_count» → (m : Machine) → Sized m → LinkFired d x l m (fireLink d x l m)
+  link-fired x l p m z = go (eqb (linkAt d l .from) x) refl
+    where
+      go : (b : Bool) → eqb (linkAt d l .from) x ≡ b → LinkFired d x l m (fireLink d x l m)
+      go true e = rw (fire-on x l m e) (link-on x l p m z e)
+      go false e = rw (fire-off x l m e) (link-off x l m z e)
+
+  fired-none : (x : ℕ) (m : Machine) → Sized m → Fired d x 0 m m
+  unfolding anyN
+  fired-none x m z = record {
+    sized = z;
+    used = refl;
+    ages = refl;
+    awake = λ k o. or-idle (awakeAt m k) false false refl;
+    waiting = λ l. or-idle (waitingAt m l) (ltb l 0) _ (le-ltb l 0 (omega arith));
+    dropped = λ l. rw (le-ltb l 0 (omega arith)) (or-idle₂ (droppedAt m l) (waitingAt m l) false true refl);
+  }
+
+  fired-more : (x n : ℕ) (m m₁ m₂ : Machine) → Fired d x n m m₁ → LinkFired d x n m₁ m₂ → Fired d x (suc n) m m₂
+  fired-more x n m m₁ m₂ f g =
+      let from : ℕ → Bool = λ l. eqb (linkAt d l .from) x in
+      record {
+        sized = g .sized;
+        used = g .used ∙ f .used;
+        ages = g .ages ∙ f .ages;
+        awake = λ k o. rw (g .awake k o, f .awake k o, any-more (λ l. eqb (linkAt d l .from) x && eqb (linkAt d l .to) k) n) (or-assoc (awakeAt m k) _ _);
+        waiting = λ l. rw (g .waiting l, f .waiting l, less-more from l n) (or-assoc (waitingAt m l) _ _);
+        dropped = λ l. rw (g .dropped l, f .waiting l, f .dropped l, less-more from l n) (drop-more (droppedAt m l) (waitingAt m l) (ltb l n && from l) (eqb l n && from n) (less-apart from l n));
+      }
+
+  fired-to : (x n : ℕ) → n ≤ d .«link_count» → (m : Machine) → Sized m → Fired d x n m (upTo n (fireLink d x) m)
+  unfolding upTo
+  fired-to x zero p m z = fired-none x m z
+  fired-to x (suc n) p m z =
+      let f : Fired d x n m (upTo n (fireLink d x) m) = fired-to x n (omega arith) m z in
+      fired-more x n m (upTo n (fireLink d x) m) (fireLink d x n (upTo n (fireLink d x) m)) f (link-fired x n (omega arith) (upTo n (fireLink d x) m) (f .sized))
+
+  pub fired : (x : ℕ) (m : Machine) → Sized m → Fired d x (d .«link_count») m (fire d x m)
+  unfolding fire
+  fired x m z = fired-to x (d .«link_count») (omega arith) m z
+
+-- nothing is set past the links
+or-none : (a : Bool) → (a || false) ≡ a
+or-none true = refl
+or-none false = refl
+
+or-none₂ : (a b : Bool) → (a || (b && false)) ≡ a
+or-none₂ true b = refl
+or-none₂ false true = refl
+or-none₂ false false = refl
+
+pub fired-past : (d : Description) (x : ℕ) (m m′ : Machine) → Fired d x (d .«link_count») m m′ → (l : ℕ) → d .«link_count» ≤ l → (waitingAt m′ l ≡ waitingAt m l) × (droppedAt m′ l ≡ droppedAt m l)
+fired-past d x m m′ f l p =
+    (f .waiting l ∙ rw (le-ltb l (d .«link_count») p) (or-none (waitingAt m l)), f .dropped l ∙ rw (le-ltb l (d .«link_count») p) (or-none₂ (droppedAt m l) (waitingAt m l)))

@@ -1,0 +1,105 @@
+-- Demand 3 at two files of document 01, its hypotheses met by computation, so that it is known to speak of something. Assumes nothing.
+use Prim.Native.Nat.{ℕ, suc, _^_, _≤_, _<_}
+use mathlib.Core.Path.{_≡_, refl, ap, _∙_}
+use mathlib.Core.Bool.{Bool, true, false}
+use mathlib.Core.List.{List}
+use native.Mathlib.Omega.{arith}
+use lib.ListN.{length, getD}
+use lib.Dec.{ltb}
+use borrow.Author.Tests.{ltb-true}
+use Rattle.model.specs.declared.Source.{Source}
+use Rattle.model.specs.declared.Source.the-variants.{Fixed, Paced}
+use Rattle.model.specs.declared.Description.{Description}
+use Rattle.model.specs.declared.Outcome.the-variants.{Done}
+use Rattle.model.specs.declared.Quote.the-variants.{Tempo}
+use Rattle.model.specs.Basics.{sumN, topN, anyN, allN, joined}
+use Rattle.model.specs.Refusals.{noSource, onDone}
+use Rattle.model.specs.Field.{bytesOf, numberIn, bodyOf, fieldBytes, fieldIn, takeField, checkField, fieldOf}
+use Rattle.model.specs.Graph.{linked, system, walks, cyclic}
+use Rattle.model.specs.Loads.{workF, work, added, load, tooHeavy}
+use Rattle.model.specs.File.{SourceFits, Widths, fileOf, lastChecks, parseFrom, parseFile, readFile, overfull, judge}
+use Rattle.model.specs.Delays.{spacing, spacingOf, spacings, startOf, roundOf, settle, delayOf}
+use Rattle.model.specs.Order.{visit, walk, inOrder}
+use Rattle.model.specs.Verdicts.{sourceVerdict, orderVerdict, verdictOf, verdictAt, allHeld, largestBelow, quoteOf}
+use Rattle.model.specs.Machine.{idle}
+use Rattle.model.specs.History.{Call, ticks, tickAt, fires, waitOf}
+use Rattle.model.specs.Figures.{box, twin}
+use Rattle.lemmas.proofs.Range.{all-at}
+use Rattle.theory.proofs.WellFormed.{WellFormed}
+use Rattle.theory.proofs.FileLaws.{judge-well-formed}
+use Rattle.theory.proofs.Quotes.{quote-at}
+use Rattle.assurance.proofs.PlainCalls.{AssuredOf, plain-assured}
+
+-- to unfold this is to unfold every definition that judging and a verdict compute with
+computing : ℕ
+unfolding sumN topN anyN allN joined bytesOf numberIn bodyOf fieldBytes fieldIn takeField checkField fieldOf linked system walks cyclic workF work added load tooHeavy fileOf lastChecks parseFrom parseFile readFile overfull judge spacing spacingOf spacings startOf roundOf settle delayOf visit walk inOrder sourceVerdict orderVerdict verdictOf verdictAt allHeld
+computing = 0
+
+-- widths by a test
+fits : Source → Bool
+fits (Fixed m) = ltb m (2 ^ 32)
+fits (Paced p) = ltb p (2 ^ 16)
+
+source-fits : (s : Source) → fits s ≡ true → SourceFits s
+unfolding fits
+source-fits (Fixed m) e = ltb-true m (2 ^ 32) e
+source-fits (Paced p) e = ltb-true p (2 ^ 16) e
+
+widths-by : (d : Description) → allN (λ k. ltb (getD (d .runs) k 0) (2 ^ 32)) 0 (d .«task_count») ≡ true → allN (λ k. fits (getD (d .sources) k noSource .source)) 0 (d .«source_count») ≡ true → Widths d
+widths-by d e f = record {
+  run-width = λ k h. ltb-true (getD (d .runs) k 0) (2 ^ 32) (all-at (λ k. ltb (getD (d .runs) k 0) (2 ^ 32)) 0 (d .«task_count») e k (omega arith) (omega arith));
+  source-width = λ k h. source-fits (getD (d .sources) k noSource .source) (all-at (λ k. fits (getD (d .sources) k noSource .source)) 0 (d .«source_count») f k (omega arith) (omega arith));
+}
+
+-- a quote from its judging and two verdicts
+quote-by : (d : Description) (q : ℕ) → Widths d → judge d ≡ Done → 200 ≤ q → q ≤ 3000 → allHeld d q ≡ true → (q < 3000 → allHeld d (suc q) ≡ false) → quoteOf d ≡ Tempo q
+unfolding quoteOf
+quote-by d q w e low high h n = rw e (quote-at d (judge-well-formed d w e) q low high h n)
+
+-- Box: quoted at 178.3
+box-widths : Widths box
+unfolding computing fits
+box-widths = widths-by box refl refl
+
+box-judged : judge box ≡ Done
+unfolding computing
+box-judged = refl
+
+box-held : allHeld box 1783 ≡ true
+unfolding computing
+box-held = refl
+
+box-doubtful : allHeld box 1784 ≡ false
+unfolding computing
+box-doubtful = refl
+
+pub box-quote : quoteOf box ≡ Tempo 1783
+box-quote = quote-by box 1783 box-widths box-judged (omega arith) (omega arith) box-held (λ h. box-doubtful)
+
+-- of every list of calls at every tempo up to it
+pub box-assured : (t : ℕ) → 200 ≤ t → t ≤ 1783 → (cs : List Call) → AssuredOf box 1783 t cs
+box-assured t low high cs = plain-assured box 1783 t box-widths box-quote low high cs
+
+-- Twin with spacing 9: quoted at 300.0
+twin-widths : Widths (twin 9)
+unfolding computing fits
+twin-widths = widths-by (twin 9) refl refl
+
+twin-judged : judge (twin 9) ≡ Done
+unfolding computing
+twin-judged = refl
+
+twin-held : allHeld (twin 9) 3000 ≡ true
+unfolding computing
+twin-held = refl
+
+pub twin-quote : quoteOf (twin 9) ≡ Tempo 3000
+twin-quote = quote-by (twin 9) 3000 twin-widths twin-judged (omega arith) (omega arith) twin-held (λ h. absurd (omega arith))
+
+pub twin-assured : (t : ℕ) → 200 ≤ t → t ≤ 3000 → (cs : List Call) → AssuredOf (twin 9) 3000 t cs
+twin-assured t low high cs = plain-assured (twin 9) 3000 t twin-widths twin-quote low high cs
+
+-- so no event of its source waits longer than 8 ticks for task 1
+pub twin-waits : (t : ℕ) → 200 ≤ t → t ≤ 3000 → (cs : List Call) (x : ℕ) → x < length (ticks (twin 9) t (idle (twin 9) t) cs) → fires (tickAt (ticks (twin 9) t (idle (twin 9) t) cs) x) 33 ≡ true → waitOf (ticks (twin 9) t (idle (twin 9) t) cs) 1 x ≤ 8
+unfolding computing
+twin-waits t low high cs x h f = twin-assured t low high cs .waited 2 x (omega arith) refl (omega arith) h f

@@ -1,0 +1,21 @@
+-- Theorems about the tick machine, runs of calls, and the promise, a file for each subject.
+pub mod Potential
+pub mod Count
+pub mod Window
+pub mod Trace
+pub mod PotentialSteps
+pub mod Response
+pub mod Token
+pub mod Firing
+pub mod Arriving
+pub mod Ending
+pub mod Stepping
+pub mod Replay
+pub mod Machine
+pub mod Marks
+pub mod Serving
+pub mod Assurance
+pub mod Demand3
+pub mod Lawful
+pub mod PlainCalls
+pub mod Instances

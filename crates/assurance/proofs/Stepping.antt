@@ -1,0 +1,172 @@
+-- What one tick does to each part of the machine's record. Assumes nothing.
+use Prim.Native.Nat.{ℕ, zero, suc, _+_, _-_, _≤_, _<_, min}
+use mathlib.Core.Path.{_≡_, refl, ap, _∙_}
+use mathlib.Core.Bool.{Bool, true, false, _||_, _&&_, not, cond}
+use mathlib.Core.List.{List}
+use native.Mathlib.Omega.{arith}
+use native.Mathlib.Numerals.{add-one}
+use lib.ListN.{length, getD, set, length-set}
+use lib.Seq.{getD-set-same}
+use lib.Dec.{eqb}
+use borrow.Author.Tests.{eqb-true, ne-eqb, lt-ltb, le-ltb}
+use Rattle.model.specs.declared.Description.{Description}
+use Rattle.model.specs.declared.Machine.{Machine}
+use Rattle.model.specs.Graph.{linkAt, linked, runOf}
+use Rattle.model.specs.Delays.{spacingOf}
+use Rattle.model.specs.Machine.{awakeAt, usedAt, waitingAt, droppedAt, ageAt, setAwake, setUsed, fire, arrive, highest, runTask, clearInto, endRun, ageAll, stepped}
+use Rattle.theory.proofs.WellFormed.{WellFormed}
+use Rattle.assurance.proofs.Firing.{Sized, Fired, fired, fired-past, getD-task}
+use Rattle.assurance.proofs.Arriving.{comes, Arrived, arrived}
+use Rattle.assurance.proofs.Ending.{highest-le, Cleared, cleared, Aged, aged}
+use Rattle.assurance.proofs.Trace.{awakeAfter}
+
+-- whether the run of h ends in a tick that finds the record m
+abbrev pub overAt : Description → ℕ → Bool → Machine → Bool
+overAt d h finish m = not (eqb h 0) && (eqb (usedAt m h + 1) (runOf d h) || finish)
+
+-- what became of the record m by a tick of h's run, o saying whether the run ended
+pub record Ran (d : Description) (h : ℕ) (o : Bool) (m m′ : Machine) : Type 0 where
+  pub sized : Sized m′
+  pub ages : m′ .ages ≡ m .ages
+  pub awake : (k : ℕ) → 1 ≤ k → awakeAt m′ k ≡ awakeAfter (awakeAt m k) o (eqb k h) (linked d h k)
+  pub used : (k : ℕ) → 1 ≤ k → usedAt m′ k ≡ cond (eqb k h) (cond o 0 (suc (usedAt m k))) (usedAt m k)
+  pub waiting : (l : ℕ) → l < d .«link_count» → waitingAt m′ l ≡ ((waitingAt m l && not (o && eqb (linkAt d l .to) h)) || (o && eqb (linkAt d l .from) h))
+  pub dropped : (l : ℕ) → l < d .«link_count» → droppedAt m′ l ≡ (droppedAt m l || (waitingAt m l && not (o && eqb (linkAt d l .to) h) && (o && eqb (linkAt d l .from) h)))
+  pub past : (l : ℕ) → d .«link_count» ≤ l → (waitingAt m′ l ≡ waitingAt m l) × (droppedAt m′ l ≡ droppedAt m l)
+
+keep : (b : Bool) → b ≡ (b && true || false)
+keep true = refl
+keep false = refl
+
+keep₂ : (a b : Bool) → a ≡ (a || (b && true && false))
+keep₂ true b = refl
+keep₂ false true = refl
+keep₂ false false = refl
+
+slept : (a e l : Bool) → (cond e false a || l) ≡ ((a && not e) || l)
+slept true true l = refl
+slept true false l = refl
+slept false true l = refl
+slept false false l = refl
+
+module _ (d : Description) (wf : WellFormed d) where
+  run-none : (m : Machine) → runTask 0 m ≡ m
+  unfolding runTask
+  run-none m = refl
+
+  run-some : (h : ℕ) (m : Machine) → 0 < h → runTask h m ≡ setUsed h (usedAt m h + 1) m
+  unfolding runTask
+  run-some h m p = rw (ne-eqb h 0 (λ e. omega arith)) refl
+
+  end-test : (h : ℕ) (finish : Bool) (m : Machine) → Sized m → h ≤ 32 → overAt d h finish m ≡ (not (eqb h 0) && (eqb (usedAt (runTask h m) h) (runOf d h) || finish))
+  end-test zero finish m z p = refl
+  end-test (suc g) finish m z p =
+      let h : ℕ = suc g in
+      let e : usedAt (setUsed h (usedAt m h + 1) m) h ≡ usedAt m h + 1 = getD-set-same (m .used) (h - 1) (usedAt m h + 1) 0 (omega (arith, z .useds)) in
+      rw (run-some h m (omega arith), e) refl
+
+  end-is : (h : ℕ) (finish : Bool) (m : Machine) → Sized m → h ≤ 32 → endRun d h finish (runTask h m) ≡ cond (overAt d h finish m) (fire d h (clearInto d h (setUsed h 0 (setAwake h false (runTask h m))))) (runTask h m)
+  unfolding endRun
+  end-is h finish m z p = rw (end-test h finish m z p) refl
+
+  -- no task runs
+  ran-none : (m : Machine) → Sized m → Ran d 0 false m m
+  ran-none m z = record {
+    sized = z;
+    ages = refl;
+    awake = λ k o. keep (awakeAt m k);
+    used = λ k o. rw (ne-eqb k 0 (λ e. omega arith)) refl;
+    waiting = λ l p. keep (waitingAt m l);
+    dropped = λ l p. keep₂ (droppedAt m l) (waitingAt m l);
+    past = λ l p. (refl, refl);
+  }
+
+  -- the run goes on
+  ran-on : (h : ℕ) (m : Machine) → Sized m → 1 ≤ h → h ≤ 32 → Ran d h false m (setUsed h (usedAt m h + 1) m)
+  ran-on h m z p q = record {
+    sized = record {
+      awakes = z .awakes;
+      useds = length-set (m .used) (h - 1) (usedAt m h + 1) ∙ z .useds;
+      waitings = z .waitings;
+      droppeds = z .droppeds;
+      ages = z .ages;
+    };
+    ages = refl;
+    awake = λ k o. keep (awakeAt m k);
+    used = λ k o. getD-task (m .used) h (usedAt m h + 1) 0 k o p (omega (arith, z .useds)) ∙ one k (eqb k h) refl;
+    waiting = λ l r. keep (waitingAt m l);
+    dropped = λ l r. keep₂ (droppedAt m l) (waitingAt m l);
+    past = λ l r. (refl, refl);
+  }
+    where
+      one : (k : ℕ) (b : Bool) → eqb k h ≡ b → cond (eqb k h) (usedAt m h + 1) (usedAt m k) ≡ cond (eqb k h) (suc (usedAt m k)) (usedAt m k)
+      one k true e = let y : k ≡ h = eqb-true k h e in rw (e, y) (add-one (usedAt m h))
+      one k false e = rw e refl
+
+  -- it ends
+  ran-over : (h : ℕ) (m : Machine) → Sized m → 1 ≤ h → h ≤ 32 → Ran d h true m (fire d h (clearInto d h (setUsed h 0 (setAwake h false (setUsed h (usedAt m h + 1) m)))))
+  unfolding linked
+  ran-over h m z p q =
+      let us : List ℕ = set (m .used) (h - 1) (usedAt m h + 1) in
+      let m₃ : Machine = setUsed h 0 (setAwake h false (setUsed h (usedAt m h + 1) m)) in
+      let lu : length us ≡ 32 = length-set (m .used) (h - 1) (usedAt m h + 1) ∙ z .useds in
+      let z₃ : Sized m₃ = record { awakes = length-set (m .awake) (h - 1) false ∙ z .awakes; useds = length-set us (h - 1) 0 ∙ lu; waitings = z .waitings; droppeds = z .droppeds; ages = z .ages } in
+      let c : Cleared d h (d .«link_count») m₃ (clearInto d h m₃) = cleared d wf h m₃ z₃ in
+      let f : Fired d h (d .«link_count») (clearInto d h m₃) (fire d h (clearInto d h m₃)) = fired d wf h (clearInto d h m₃) (c .sized) in
+      record {
+        sized = f .sized;
+        ages = f .ages ∙ c .ages;
+        awake = λ k o. f .awake k o ∙ rw (c .awake, getD-task (m .awake) h false false k o p (omega (arith, z .awakes))) (slept (awakeAt m k) (eqb k h) _);
+        used = λ k o. rw (f .used, c .used) (getD-task us h 0 0 k o p (omega arith) ∙ zeroed k o (eqb k h) refl);
+        waiting = λ l r. f .waiting l ∙ rw (lt-ltb l (d .«link_count») r, c .waiting l, lt-ltb l (d .«link_count») r) refl;
+        dropped = λ l r. f .dropped l ∙ rw (lt-ltb l (d .«link_count») r, c .waiting l, c .dropped, lt-ltb l (d .«link_count») r) refl;
+        past = λ l r. (fired-past d h (clearInto d h m₃) (fire d h (clearInto d h m₃)) f l r .0 ∙ (c .waiting l ∙ rw (le-ltb l (d .«link_count») r) (on (waitingAt m l))), fired-past d h (clearInto d h m₃) (fire d h (clearInto d h m₃)) f l r .1 ∙ ap (λ (ds : List Bool). getD ds l false) (c .dropped));
+      }
+    where
+      on : (b : Bool) → (b && true) ≡ b
+      on true = refl
+      on false = refl
+
+      zeroed : (k : ℕ) → 1 ≤ k → (b : Bool) → eqb k h ≡ b → cond (eqb k h) 0 (getD (set (m .used) (h - 1) (usedAt m h + 1)) (k - 1) 0) ≡ cond (eqb k h) 0 (usedAt m k)
+      zeroed k o true e = rw e refl
+      zeroed k o false e =
+          rw (getD-task (m .used) h (usedAt m h + 1) 0 k o p (omega (arith, z .useds)), e) refl
+
+  ran : (h : ℕ) (finish : Bool) (m : Machine) → Sized m → h ≤ 32 → Ran d h (overAt d h finish m) m (endRun d h finish (runTask h m))
+  ran zero finish m z p = rw (end-is 0 finish m z p, run-none m) (ran-none m z)
+  ran (suc g) finish m z p = rw (end-is (suc g) finish m z p, run-some (suc g) m (omega arith)) (go (overAt d (suc g) finish m))
+    where
+      go : (o : Bool) → Ran d (suc g) o m (cond o (fire d (suc g) (clearInto d (suc g) (setUsed (suc g) 0 (setAwake (suc g) false (setUsed (suc g) (usedAt m (suc g) + 1) m))))) (setUsed (suc g) (usedAt m (suc g) + 1) m))
+      go true = ran-over (suc g) m z (omega arith) p
+      go false = ran-on (suc g) m z (omega arith) p
+
+  -- what became of the record m by a whole tick; h is the task that ran and o says whether its run ended
+  pub record Stepped (t : ℕ) (marks : List Bool) (h : ℕ) (o : Bool) (m m′ : Machine) : Type 0 where
+    pub sized : Sized m′
+    pub awake : (k : ℕ) → 1 ≤ k → awakeAt m′ k ≡ awakeAfter (awakeAt (arrive d marks m) k) o (eqb k h) (linked d h k)
+    pub used : (k : ℕ) → 1 ≤ k → usedAt m′ k ≡ cond (eqb k h) (cond o 0 (suc (usedAt m k))) (usedAt m k)
+    pub waiting : (l : ℕ) → l < d .«link_count» → waitingAt m′ l ≡ (((waitingAt m l || comes marks (d .«source_count») (linkAt d l .from)) && not (o && eqb (linkAt d l .to) h)) || (o && eqb (linkAt d l .from) h))
+    pub dropped : (l : ℕ) → l < d .«link_count» → droppedAt m′ l ≡ (droppedAt m l || (waitingAt m l && comes marks (d .«source_count») (linkAt d l .from)) || ((waitingAt m l || comes marks (d .«source_count») (linkAt d l .from)) && not (o && eqb (linkAt d l .to) h) && (o && eqb (linkAt d l .from) h)))
+    pub past : (l : ℕ) → d .«link_count» ≤ l → (waitingAt m′ l ≡ waitingAt m l) × (droppedAt m′ l ≡ droppedAt m l)
+    pub age-past : (v : ℕ) → d .«source_count» ≤ v → ageAt m′ v ≡ ageAt m v
+    pub age : (v : ℕ) → v < d .«source_count» → ageAt m′ v ≡ min (spacingOf d t (33 + v)) (cond (getD marks v false) 0 (ageAt m v) + 1)
+
+  pub step : (t : ℕ) (marks : List Bool) (finish : Bool) (m : Machine) → Sized m → Stepped t marks (highest d (arrive d marks m)) (overAt d (highest d (arrive d marks m)) finish m) m (stepped d t marks finish m)
+  unfolding stepped
+  step t marks finish m z =
+      let m₁ : Machine = arrive d marks m in
+      let h : ℕ = highest d m₁ in
+      let a : Arrived d marks (d .«source_count») m m₁ = arrived d wf marks m z in
+      let same : overAt d h finish m₁ ≡ overAt d h finish m = ap (λ (l : List ℕ). not (eqb h 0) && (eqb (getD l (h - 1) 0 + 1) (runOf d h) || finish)) (a .used) in
+      let r : Ran d h (overAt d h finish m) m₁ (endRun d h finish (runTask h m₁)) = rw same at (ran h finish m₁ (a .sized) (omega (arith, highest-le (m₁ .awake) (d .«task_count»), wf .few-tasks))) in
+      let g : Aged d t (d .«source_count») (endRun d h finish (runTask h m₁)) (ageAll d t (endRun d h finish (runTask h m₁))) = aged d wf t (endRun d h finish (runTask h m₁)) (r .sized) in
+      record {
+        sized = g .sized;
+        awake = λ k o. rw (g .awake) (r .awake k o);
+        used = λ k o. rw (g .used) (r .used k o ∙ ap (λ (l : List ℕ). cond (eqb k h) (cond (overAt d h finish m) 0 (suc (getD l (k - 1) 0))) (getD l (k - 1) 0)) (a .used));
+        waiting = λ l p. rw (g .waiting) (rw (a .waiting l p) at (r .waiting l p));
+        dropped = λ l p. rw (g .dropped) (rw (a .waiting l p, a .dropped l p) at (r .dropped l p));
+        past = λ l p. (ap (λ (ws : List Bool). getD ws l false) (g .waiting) ∙ (r .past l p .0 ∙ a .past l p .0), ap (λ (ds : List Bool). getD ds l false) (g .dropped) ∙ (r .past l p .1 ∙ a .past l p .1));
+        age-past = λ v p. g .age v ∙ rw (le-ltb v (d .«source_count») p, r .ages, a .age v, le-ltb v (d .«source_count») p) refl;
+        age = λ v p. g .age v ∙ rw (lt-ltb v (d .«source_count») p, r .ages, a .age v, lt-ltb v (d .«source_count») p) refl;
+      }

@@ -1,0 +1,53 @@
+-- Tables and joined lists: their lengths and entries, and when a list is a table. Assumes nothing.
+use Prim.Native.Nat.{ℕ, zero, suc, _+_, _-_, _≤_, _<_}
+use mathlib.Core.Path.{_≡_, refl, sym, ap, _∙_}
+use mathlib.Core.List.{List, [], _∷_, _++_}
+use native.Mathlib.Omega.{arith}
+use native.Mathlib.Numerals.{add-one}
+use lib.ListN.{length, getD, set, length-append, List·getD-append}
+use lib.Seq.{ext-getD, getD-at, getD-set-same, getD-set-other}
+use Rattle.model.specs.Basics.{tab, joined}
+use Rattle.lemmas.proofs.Tests.{Cmp, less, same, more, cmp}
+
+pub length-tab : {A : Type 0} (n : ℕ) (f : ℕ → A) → length (tab n f) ≡ n
+unfolding tab
+length-tab zero f = refl
+length-tab (suc n) f = rw (length-append, length-tab n f) (omega arith)
+
+pub getD-tab : {A : Type 0} (n : ℕ) (f : ℕ → A) (d : A) (k : ℕ) → k < n → getD (tab n f) k d ≡ f k
+unfolding tab
+getD-tab zero f d k h = absurd (omega arith)
+getD-tab (suc n) f d k h = go (cmp k n) (getD-tab n f d k)
+  where
+    go : Cmp k n → (k < n → getD (tab n f) k d ≡ f k) → getD (tab n f ++ (f n ∷ [])) k d ≡ f k
+    go (less r) ih = rw (List·getD-append (tab n f) (f n ∷ []) d k (rw (length-tab n f) r)) (ih r)
+    go (same r) ih = rw r (getD-at (tab n f) (f n) [] d n (length-tab n f))
+    go (more r) ih = absurd (omega arith)
+
+-- a list is a table where each place says so
+pub is-tab : {A : Type 0} (d : A) (n : ℕ) (f : ℕ → A) (l : List A) → length l ≡ n → ((k : ℕ) → k < n → getD l k d ≡ f k) → l ≡ tab n f
+is-tab d n f l e h =
+    ext-getD
+    d
+    l
+    (tab n f)
+    (e ∙ sym (length-tab n f))
+    (λ k b. let b′ : k < n = omega (arith, e) in h k b′ ∙ sym (getD-tab n f d k b′))
+
+pub joined-more : {A : Type 0} (n : ℕ) (f : ℕ → List A) → joined (n + 1) f ≡ joined n f ++ f n
+unfolding joined
+joined-more n f = rw add-one refl
+
+-- filling a list from the front: what holds of each place below i, and of the value stored at i, holds of each place below i + 1
+pub stored : {A : Type 0} (P : ℕ → A → Type 0) (d : A) (l : List A) (i : ℕ) (v : A) → i < length l → ((k : ℕ) → k < i → P k (getD l k d)) → P i v → (k : ℕ) → k < i + 1 → P k (getD (set l i v) k d)
+stored P d l i v b h x k p = go (cmp k i)
+  where
+    go : Cmp k i → P k (getD (set l i v) k d)
+    go (less q) = rw (getD-set-other l i k v d (λ e. omega arith)) (h k q)
+    go (same q) = rw (q, getD-set-same l i v d b) x
+    go (more q) = absurd (omega arith)
+
+pub tab-cong : {A : Type 0} (n : ℕ) (f g : ℕ → A) → ((k : ℕ) → k < n → f k ≡ g k) → tab n f ≡ tab n g
+unfolding tab
+tab-cong zero f g h = refl
+tab-cong (suc n) f g h = rw (tab-cong n f g (λ k p. h k (omega arith)), h n (omega arith))

@@ -1,0 +1,1 @@
+// General lemmas: see `proofs/`. There is no code here.

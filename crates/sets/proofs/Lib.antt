@@ -1,0 +1,2 @@
+-- Laws of sets of bits, which other crates cite.
+pub mod SetLaws

@@ -16,7 +16,7 @@ use Rattle.loads.proofs.work.+added+work.Lts-added as added-lts
 use Rattle.loads.proofs.work.work.Reads as work
 use Rattle.loads.proofs.work.work.Kinds as work-kinds
 use Rattle.loads.proofs.work.+added+work.Lts-work as work-lts
-use Rattle.loads.proofs.sets.has.Reads as has-reads
+use Rattle.sets.proofs.has.Reads as has-reads
 use Rattle.loads.proofs.work.wide.Reads as wide-reads
 use Rattle.loads.proofs.work.+added+work.{statement}
 use Rattle.loads.proofs.work.+added+work.Tie.{close}

@@ -16,7 +16,7 @@ use Rattle.verdicts.proofs.into.predecessors.Statement.{statement}
 use Rattle.verdicts.proofs.into.predecessors.Tie as tie
 use Rattle.verdicts.proofs.into.predecessors.Reads as reads
 use Rattle.verdicts.proofs.into.predecessors.Lts as lts
-use Rattle.loads.proofs.sets.with.Reads as with-reads
+use Rattle.sets.proofs.with.Reads as with-reads
 use Rattle.verdicts.proofs.into.number.Reads as number-reads
 
 abbrev Inv-loop : tie.InvT-loop

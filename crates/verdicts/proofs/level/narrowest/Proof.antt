@@ -9,7 +9,7 @@ use Rattle.verdicts.proofs.level.narrowest.Statement.{statement}
 use Rattle.verdicts.proofs.level.narrowest.Tie as tie
 use Rattle.verdicts.proofs.level.narrowest.Reads as reads
 use Rattle.verdicts.proofs.level.narrowest.Lts as lts
-use Rattle.loads.proofs.sets.has.Reads as has-reads
+use Rattle.sets.proofs.has.Reads as has-reads
 use Rattle.verdicts.proofs.level.narrower.Reads as narrower-reads
 
 abbrev Inv-loop : tie.InvT-loop

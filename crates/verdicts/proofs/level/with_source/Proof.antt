@@ -12,7 +12,7 @@ use Rattle.verdicts.proofs.level.with_source.Statement.{statement}
 use Rattle.verdicts.proofs.level.with_source.Tie as tie
 use Rattle.verdicts.proofs.level.with_source.Reads as reads
 use Rattle.verdicts.proofs.level.with_source.Lts as lts
-use Rattle.loads.proofs.sets.with.Reads as with-reads
+use Rattle.sets.proofs.with.Reads as with-reads
 use Rattle.verdicts.proofs.level.number.Reads as number-reads
 
 number-requires : tie.Need-number-requires

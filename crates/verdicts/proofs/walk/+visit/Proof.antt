@@ -18,7 +18,7 @@ use Rattle.verdicts.proofs.WalkLaws.{unmet-le, unmet-falls, visit-is-fa
 use Rattle.verdicts.proofs.walk.visit.Reads as visit
 use Rattle.verdicts.proofs.walk.visit.Kinds as visit-kinds
 use Rattle.verdicts.proofs.walk.+visit.Lts-visit as visit-lts
-use Rattle.loads.proofs.sets.first.Reads as first-reads
+use Rattle.sets.proofs.first.Reads as first-reads
 use Rattle.verdicts.proofs.walk.+visit.{statement}
 use Rattle.verdicts.proofs.walk.+visit.Tie.{close}
 

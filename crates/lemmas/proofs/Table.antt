@@ -4,7 +4,7 @@ use mathlib.Core.Path.{_≡_, refl, sym, ap, _∙_}
 use mathlib.Core.List.{List, [], _∷_, _++_}
 use native.Mathlib.Omega.{arith}
 use native.Mathlib.Numerals.{add-one}
-use lib.ListN.{length, getD, set, length-append, List·getD-append}
+use lib.ListN.{length, getD, set, replicate, length-append, length-replicate, getD-replicate, List·getD-append, List·getD-eq-default}
 use lib.Seq.{ext-getD, getD-at, getD-set-same, getD-set-other}
 use Rattle.model.specs.Basics.{tab, joined}
 use Rattle.lemmas.proofs.Tests.{Cmp, less, same, more, cmp}
@@ -51,3 +51,15 @@ pub tab-cong : {A : Type 0} (n : ℕ) (f g : ℕ → A) → ((k : ℕ) → k < n
 unfolding tab
 tab-cong zero f g h = refl
 tab-cong (suc n) f g h = rw (tab-cong n f g (λ k p. h k (omega arith)), h n (omega arith))
+
+-- an entry of a list of one value is that value, past its end too
+pub getD-same : {A : Type 0} (n i : ℕ) (a : A) → getD (replicate n a) i a ≡ a
+getD-same n i a = go (cmp i n)
+  where
+    past : n ≤ i → getD (replicate n a) i a ≡ a
+    past p = List·getD-eq-default (replicate n a) a {n = i} (omega (arith, length-replicate n a))
+
+    go : Cmp i n → getD (replicate n a) i a ≡ a
+    go (less r) = getD-replicate n i a a r
+    go (same r) = past (omega arith)
+    go (more r) = past (omega arith)

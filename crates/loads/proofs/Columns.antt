@@ -1,5 +1,5 @@
 -- Columns of loads, filled from the highest task down, and totals. Assumes nothing.
-use Prim.Native.Nat.{ℕ, zero, suc, _+_, _-_, _≤_, _<_, max}
+use Prim.Native.Nat.{ℕ, zero, suc, _+_, _-_, _*_, _≤_, _<_, max}
 use mathlib.Core.Path.{_≡_, refl, sym, ap, _∙_}
 use mathlib.Core.Bool.{Bool, true, false}
 use mathlib.Core.List.{List, []}
@@ -13,7 +13,7 @@ use Rattle.model.specs.Basics.{sumN, sumTo, topN, given}
 use Rattle.lemmas.proofs.Tests.{Cmp, less, same, more, cmp}
 use Rattle.lemmas.proofs.Range.{sumTo-le, given-le, any-at, any-none, top-more}
 use Rattle.sets.specs.Sets.{member}
-use Rattle.loads.specs.Tables.{Column, loadBy, heavyBy}
+use Rattle.loads.specs.Tables.{Column, LevelColumn, loadBy, heavyBy}
 use Rattle.loads.proofs.Working.{loadBy-step, loadBy-none}
 
 -- one more entry of a column is worked out
@@ -71,25 +71,44 @@ heavy-none adds works n h = any-none (λ r. ltb 1000000000 (loadBy (getD adds r 
 pub zero-entry : (n k : ℕ) → k < n → getD {A = ℕ} (replicate n 0) k 0 ≡ 0
 zero-entry n k p = getD-replicate n k 0 0 p
 
--- levels and starts from task j + 1 on, filled from the highest down
-abbrev pub LevelsFrom : List ℕ → List ℕ → ℕ → ℕ → ℕ → List (List ℕ) → Type 0
-LevelsFrom adds works n m j levels = (length levels ≡ 32) × ((k u : ℕ) → j ≤ k → k < 32 → u < m → getD (getD levels k []) u 0 ≡ loadBy (getD adds (32 + u) 0) works n (suc k))
+-- one more entry of a level is worked out
+pub level-none : (adds : List ℕ) (j w : ℕ) (l : List ℕ) → LevelColumn adds j w 0 l l
+level-none adds j w l = record { long = refl; here = λ u p. absurd (omega arith); above = λ k p. refl }
 
-pub levels-none : (adds works : List ℕ) (n m : ℕ) → m ≤ 16 → LevelsFrom adds works n m n (replicate 32 (replicate 16 0))
+pub level-more : (adds : List ℕ) (j w u : ℕ) (l₀ l : List ℕ) (x : ℕ) → 16 * j + u < length l₀ → u < 16 → x ≡ getD l (16 * j + 16 + u) 0 + given (member (getD adds (32 + u) 0) j) w → LevelColumn adds j w u l₀ l → LevelColumn adds j w (u + 1) l₀ (set l (16 * j + u) x)
+level-more adds j w u l₀ l x p few e C =
+    record {
+      long = simp length-set (C .long);
+      here = λ k q. low k q (cmp k u);
+      above = λ k q. getD-set-other l (16 * j + u) k x 0 (λ z. omega arith) ∙ C .above k (omega arith);
+    }
+  where
+    now : getD (set l (16 * j + u) x) (16 * j + u) 0 ≡ getD l₀ (16 * j + 16 + u) 0 + given (member (getD adds (32 + u) 0) j) w
+    now = getD-set-same l (16 * j + u) x 0 (omega (arith, C .long)) ∙ e ∙ ap (λ y. y + given (member (getD adds (32 + u) 0) j) w) (C .above (16 * j + 16 + u) (omega arith))
+
+    low : (k : ℕ) → k < u + 1 → Cmp k u → getD (set l (16 * j + u) x) (16 * j + k) 0 ≡ getD l₀ (16 * j + 16 + k) 0 + given (member (getD adds (32 + k) 0) j) w
+    low k q (less r) = getD-set-other l (16 * j + u) (16 * j + k) x 0 (λ z. omega arith) ∙ C .here k r
+    low k q (same r) = rw r now
+    low k q (more r) = absurd (omega arith)
+
+-- levels and starts from task j + 1 on, filled from the highest down
+abbrev pub LevelsFrom : List ℕ → List ℕ → ℕ → ℕ → ℕ → List ℕ → Type 0
+LevelsFrom adds works n m j levels = (length levels ≡ 528) × ((k u : ℕ) → j ≤ k → k ≤ 32 → u < m → getD levels (16 * k + u) 0 ≡ loadBy (getD adds (32 + u) 0) works n (suc k))
+
+pub levels-none : (adds works : List ℕ) (n m : ℕ) → m ≤ 16 → LevelsFrom adds works n m n (replicate 528 0)
 levels-none adds works n m few = (
   refl,
-  λ k u p q r.
-      ap (λ l. getD l u 0) (getD-replicate 32 k (replicate 16 0) [] q)
-      ∙ zero-entry 16 u (omega arith)
-      ∙ sym (loadBy-none (getD adds (32 + u) 0) works n (suc k) (omega arith)),
+  λ k u p q r. zero-entry 528 (16 * k + u) (omega arith) ∙ sym (loadBy-none (getD adds (32 + u) 0) works n (suc k) (omega arith)),
 )
 
-pub levels-put : (adds works : List ℕ) (n m j : ℕ) (levels : List (List ℕ)) (row : List ℕ) → j < 32 → ((u : ℕ) → u < m → getD row u 0 ≡ loadBy (getD adds (32 + u) 0) works n (suc j)) → LevelsFrom adds works n m (suc j) levels → LevelsFrom adds works n m j (set levels j row)
-levels-put adds works n m j levels row p h F = (simp length-set (F .0), λ k u q r t. go k u r t q (cmp j k))
+pub levels-step : (adds works : List ℕ) (n m b : ℕ) (l l′ : List ℕ) → b < n → n ≤ 32 → m ≤ 16 → LevelColumn adds b (getD works b 0) m l l′ → LevelsFrom adds works n m (suc b) l → LevelsFrom adds works n m b l′
+levels-step adds works n m b l l′ p few small C F = (C .long ∙ F .0, λ k u q r t. go k u r t q (cmp b k))
   where
-    go : (k u : ℕ) → k < 32 → u < m → j ≤ k → Cmp j k → getD (getD (set levels j row) k []) u 0 ≡ loadBy (getD adds (32 + u) 0) works n (suc k)
-    go k u r t q (less x) = ap (λ l. getD l u 0) (getD-set-other levels j k row [] (λ z. omega arith)) ∙ F .1 k u x r t
-    go k u r t q (same x) = rw (← x) (ap (λ l. getD l u 0) (getD-set-same levels j row [] (omega (arith, F .0))) ∙ h u t)
+    go : (k u : ℕ) → k ≤ 32 → u < m → b ≤ k → Cmp b k → getD l′ (16 * k + u) 0 ≡ loadBy (getD adds (32 + u) 0) works n (suc k)
+    go k u r t q (less x) = C .above (16 * k + u) (omega arith) ∙ F .1 k u x r t
+    go k u r t q (same x) =
+        let e : 16 * b + 16 + u ≡ 16 * suc b + u = omega arith in
+        rw (← x) (omega (arith, C .here u t, rw (← e) at (F .1 (suc b) u (omega arith) (omega arith) t), loadBy-step (getD adds (32 + u) 0) works n b p))
     go k u r t q (more x) = absurd (omega arith)
 
 abbrev pub StartsFrom : List ℕ → List ℕ → ℕ → ℕ → List ℕ → Type 0
@@ -115,12 +134,6 @@ starts-put adds works n j starts x p e F = (simp length-set (F .0), λ c q r. go
     go c r q (less y) = getD-set-other starts j c x 0 (λ z. omega arith) ∙ F .1 c y r
     go c r q (same y) = rw (← y) (getD-set-same starts j x 0 (omega (arith, F .0)) ∙ e)
     go c r q (more y) = absurd (omega arith)
-
-pub levels-step : (adds works : List ℕ) (n m b : ℕ) (levels : List (List ℕ)) (l l′ : List ℕ) → b < n → n ≤ 32 → length l ≡ 16 → ((u : ℕ) → u < m → getD l u 0 ≡ loadBy (getD adds (32 + u) 0) works n (suc (suc b))) → Column 32 adds b (getD works b 0) m l l′ → LevelsFrom adds works n m (suc b) levels → (length l′ ≡ 16) × ((u : ℕ) → u < m → getD l′ u 0 ≡ loadBy (getD adds (32 + u) 0) works n (suc b)) × LevelsFrom adds works n m b (set levels b l′)
-levels-step adds works n m b levels l l′ p few long h C F = (C .0 ∙ long, now, levels-put adds works n m b levels l′ (omega arith) now F)
-  where
-    now : (u : ℕ) → u < m → getD l′ u 0 ≡ loadBy (getD adds (32 + u) 0) works n (suc b)
-    now u q = column-load 32 adds works n b m l l′ p C u q (h u q)
 
 pub starts-step : (adds works : List ℕ) (n b : ℕ) (starts : List ℕ) (l l′ : List ℕ) (x : ℕ) → b < n → n ≤ 32 → length l ≡ 32 → ((k : ℕ) → k < suc b → getD l k 0 ≡ loadBy (getD adds k 0) works n (suc (suc b))) → Column 0 adds b (getD works b 0) b l l′ → x ≡ topN (λ k. getD l′ k 0) 0 b → StartsFrom adds works n (suc b) starts → (length l′ ≡ 32) × ((k : ℕ) → k < b → getD l′ k 0 ≡ loadBy (getD adds k 0) works n (suc b)) × StartsFrom adds works n b (set starts b x)
 starts-step adds works n b starts l l′ x p few long h C e F = (C .0 ∙ long, now, starts-put adds works n b starts x (omega arith) (e ∙ top-cong _ _ b now) F)

@@ -1,5 +1,5 @@
 -- The graph that sets and a table of runs stand for. Assumes nothing.
-use Prim.Native.Nat.{ℕ, _+_, _-_, _≤_, _<_}
+use Prim.Native.Nat.{ℕ, _+_, _-_, _≤_}
 use mathlib.Core.Path.{_≡_, refl, sym, ap, _∙_}
 use mathlib.Core.Bool.{Bool, true, false, cond, _&&_, _||_}
 use mathlib.Core.List.{List, []}
@@ -14,7 +14,7 @@ use Rattle.model.specs.declared.Description.{Description}
 use Rattle.model.specs.Basics.{anyN}
 use Rattle.model.specs.Graph.{system, linked, linkAt, cyclic}
 use Rattle.model.specs.Loads.{work, load}
-use Rattle.lemmas.proofs.Tests.{false-of, same-test, or-right, and-left, and-right, both}
+use Rattle.lemmas.proofs.Tests.{false-of, same-test, and-left, and-right, both}
 use Rattle.lemmas.proofs.Range.{any-more}
 use Rattle.theory.proofs.WellFormed.{Loaded}
 use Rattle.theory.proofs.Fielded.{Fielded, shaped-fields}
@@ -23,7 +23,8 @@ use Rattle.theory.proofs.LoadLaws.{loaded-ends}
 use Rattle.theory.proofs.LoadBounds.{work-most}
 use Rattle.theory.proofs.Alike.{SameLinks, same-cyclic, same-load}
 use Rattle.sets.specs.Sets.{member}
-use Rattle.loads.specs.Tables.{Linkable, SuccessorsOf, linkedTo, linkBy, rowOf, graph, NodeOf, TaskOf, Ready, Absent}
+use Rattle.theory.proofs.Links.{Linkable, linkedTo}
+use Rattle.loads.specs.Tables.{SuccessorsOf, linkBy, rowOf, graph, NodeOf, TaskOf, Ready, Absent}
 
 or-off : (a b : Bool) → b ≡ false → (a || b) ≡ a
 or-off true b e = refl
@@ -109,16 +110,6 @@ pub sets-load : (d : Description) (succ : List ℕ) → Fielded d → Successors
 unfolding graph system
 sets-load d succ F M i j =
     same-load (graph succ (d .runs) (d .«task_count»)) (system d) (sets-links d succ (d .runs) F M) (λ k. refl) i j
-
--- the ends of a link are a node and a task
-pub ends-inside : (d : Description) → Fielded d → (l : ℕ) → l < d .«link_count» → Linkable (linkAt d l .from) (linkAt d l .to)
-unfolding system
-ends-inside d F l p =
-    let t = F .link-to l p in
-    let u : NodeOf (linkAt d l .from) =
-    ⊎-elim (λ t. (t .0, omega (arith, t .1, F .few-tasks))) (λ u. (omega (arith, u .0), omega (arith, u .1, F .few-sources))) (F .link-from l p)
-    in
-    (u .0, u .1, t .0, omega (arith, t .1, F .few-tasks))
 
 -- one more link of the description is put into the sets
 pub sets-more : (d : Description) (succ : List ℕ) (l r : ℕ) → length succ ≡ 48 → Linkable (linkAt d l .from) (linkAt d l .to) → ((k : ℕ) → member r k ≡ (member (rowOf succ (linkAt d l .from)) k || eqb k (linkAt d l .to - 1))) → ((i j : ℕ) → Linkable i j → member (rowOf succ i) (j - 1) ≡ linkedTo d l i j) → (i j : ℕ) → Linkable i j → member (rowOf (set succ (linkAt d l .from - 1) r) i) (j - 1) ≡ linkedTo d (l + 1) i j

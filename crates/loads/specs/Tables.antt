@@ -18,15 +18,8 @@ use Rattle.model.specs.Loads.{work, added, load, tooHeavy, sheet, noRow}
 use Rattle.model.specs.File.{lastChecks}
 use Rattle.loads.specs.declared.Worked.{Worked}
 use Rattle.sets.specs.Sets.{member}
+use Rattle.theory.proofs.Links.{Linkable}
 use Rattle.loads.specs.Paths.{Through}
-
--- a node and a task that sets of links have room for
-abbrev pub Linkable : ℕ → ℕ → Type 0
-Linkable i j = (1 ≤ i) × (i ≤ 48) × (1 ≤ j) × (j ≤ 32)
-
--- whether one of the first n links goes from i to j
-unfoldable pub linkedTo : Description → ℕ → ℕ → ℕ → Bool
-linkedTo d n i j = anyN (λ l. eqb (linkAt d l .from) i && eqb (linkAt d l .to) j) 0 n
 
 -- a node and a task, by number
 abbrev pub NodeOf : ℕ → Type 0
@@ -119,6 +112,13 @@ SheetBy adds works n t = (length t ≡ 48) × ((r : ℕ) → r < 48 → RowBy (g
 -- the loads of c nodes from place `base` on, one task further down: the work w of task j + 1 comes in; the others stay
 abbrev pub Column : ℕ → List ℕ → ℕ → ℕ → ℕ → List ℕ → List ℕ → Type 0
 Column base adds j w c loads loads′ = (length loads′ ≡ length loads) × ((k : ℕ) → k < c → getD loads′ k 0 ≡ getD loads k 0 + given (member (getD adds (base + k) 0) j) w) × ((k : ℕ) → c ≤ k → getD loads′ k 0 ≡ getD loads k 0)
+
+-- in a table of loads of sources, 16 places for a task: those of c sources at task j + 1 from those at the task above, whose work w comes in
+-- where a source brings it in; the places after them stay
+pub record LevelColumn (adds : List ℕ) (j w c : ℕ) (levels levels′ : List ℕ) : Type 0 where
+  pub long : length levels′ ≡ length levels
+  pub here : (u : ℕ) → u < c → getD levels′ (16 * j + u) 0 ≡ getD levels (16 * j + 16 + u) 0 + given (member (getD adds (32 + u) 0) j) w
+  pub above : (k : ℕ) → 16 * j + c ≤ k → getD levels′ k 0 ≡ getD levels k 0
 
 -- whether some node's load at task 1 exceeds 1,000,000,000
 unfoldable pub heavyBy : List ℕ → List ℕ → ℕ → Bool

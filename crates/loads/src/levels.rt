@@ -1,43 +1,49 @@
 // The columns of the load sheet that verdicts go by: the loads of sources at each task, and the largest of a lower task.
 use crate::rows::part;
 ghost use mathlib.Core.Path.{_≡_};
-ghost use mathlib.Core.List.{[]};
-ghost use Prim.Native.Nat.{ℕ, suc, _+_, _≤_, _<_, max};
+ghost use Prim.Native.Nat.{ℕ, suc, _+_, _*_, _≤_, _<_, max};
 ghost use lib.ListN.{getD, length};
 ghost use Rattle.model.specs.Basics.{topN};
-ghost use Rattle.loads.specs.Tables.{Scaled, loadBy, Column};
+ghost use Rattle.loads.specs.Tables.{Scaled, loadBy, Column, LevelColumn};
 
-// The loads of m sources one task further down, where the work of task j + 1 comes in.
-fn source_column(adds: &[u64; 48], m: usize, j: usize, w: u64, loads: &mut [u64; 16])
-    requires { ⌜ (m ≤ 16) × (j < 64) × (length (now loads) ≡ 16) × (w ≤ 42949672960000000) × ((u : ℕ) → u < m → getD (now loads) u 0 ≤ 1374389534720000000) ⌝ }
-    ensures { λ _. ⌜ Column 32 (now (adds .entry)) j w m (now (loads .entry)) (now (loads .exit)) ⌝ }
+// The loads of m sources at task j + 1: those at the task above, and its work w where a source brings it in.
+fn source_column(adds: &[u64; 48], m: usize, j: usize, w: u64, levels: &mut [u64; 528])
+    requires { ⌜ (m ≤ 16) × (j < 32) × (length (now levels) ≡ 528) × (w ≤ 42949672960000000) × ((u : ℕ) → u < m → getD (now levels) (16 * j + 16 + u) 0 ≤ 1374389534720000000) ⌝ }
+    ensures { λ _. ⌜ LevelColumn (now (adds .entry)) j w m (now (levels .entry)) (now (levels .exit)) ⌝ }
 {
     let mut u: usize = 0;
     while u < m {
-        loads[u] = loads[u] + part(adds[32 + u], j, w);
+        levels[16 * j + u] = levels[16 * j + 16 + u] + part(adds[32 + u], j, w);
         u += 1;
     }
 }
 
-// The loads of m sources at each of n tasks; 0 at the others.
-pub fn levels_of<'a>(
-    adds: &'a [u64; 48],
-    works: &'a [u64; 32],
-    n: usize,
-    m: usize,
-) -> [[u64; 16]; 32]
+// The loads of m sources at each of n tasks, 16 places for a task; 0 at the others.
+pub fn levels_of<'a>(adds: &'a [u64; 48], works: &'a [u64; 32], n: usize, m: usize) -> [u64; 528]
     requires { ⌜ (n ≤ 32) × (m ≤ 16) × Scaled (now works) ⌝ }
-    ensures { λ r. ⌜ ((j u : ℕ) → j < 32 → u < m → getD (getD r j []) u 0 ≡ loadBy (getD (now (adds .entry)) (32 + u) 0) (now (works .entry)) n (suc j)) ⌝ }
+    ensures { λ r. ⌜ ((j u : ℕ) → j < 32 → u < m → getD r (16 * j + u) 0 ≡ loadBy (getD (now (adds .entry)) (32 + u) 0) (now (works .entry)) n (suc j)) ⌝ }
 {
-    let mut levels = [[0u64; 16]; 32];
-    let mut loads = [0u64; 16];
+    let mut levels = [0u64; 528];
     let mut j = n;
     while 0 < j {
         j -= 1;
-        source_column(adds, m, j, works[j], &mut loads);
-        levels[j] = loads;
+        source_column(adds, m, j, works[j], &mut levels);
     }
     levels
+}
+
+// The loads of m sources at task j + 1.
+pub fn loads_at(levels: &[u64; 528], m: usize, j: usize) -> [u64; 16]
+    requires { ⌜ (m ≤ 16) × (j < 32) ⌝ }
+    ensures { λ r. ⌜ ((u : ℕ) → u < m → getD r u 0 ≡ getD (now (levels .entry)) (16 * j + u) 0) ⌝ }
+{
+    let mut loads = [0u64; 16];
+    let mut u: usize = 0;
+    while u < m {
+        loads[u] = levels[16 * j + u];
+        u += 1;
+    }
+    loads
 }
 
 // The larger of two numbers.

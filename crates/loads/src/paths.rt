@@ -1,21 +1,15 @@
 // The tasks that each node brings in: those that a path reaches through higher tasks alone. Tasks are let in from the highest down.
+use model::Description;
+use numbers::index;
 use sets::below;
 use sets::has;
 use sets::union;
 use sets::with;
-use model::Description;
 ghost use mathlib.Core.Path.{_≡_};
 ghost use Prim.Native.Nat.{_≤_, _<_};
 ghost use lib.ListN.{length};
 ghost use Rattle.theory.proofs.Fielded.{Fielded};
 ghost use Rattle.loads.specs.Tables.{SuccessorsOf, Grown, Allowed, Absent, Closed, selfIn};
-
-// A node's number as an index.
-fn number(x: u8) -> usize
-    ensures { λ r. ⌜ r ≡ x ⌝ }
-{
-    x as usize
-}
 
 // The links of a description by the node they leave: bit j - 1 of entry i - 1 for a link from node i to task j.
 pub fn successors(d: Description) -> [u64; 48]
@@ -26,8 +20,8 @@ pub fn successors(d: Description) -> [u64; 48]
     let mut l: usize = 0;
     while l < d.link_count {
         let link = d.links[l];
-        let from = number(link.from) - 1;
-        let to = number(link.to) - 1;
+        let from = index(link.from) - 1;
+        let to = index(link.to) - 1;
         succ[from] = with(succ[from], to);
         l += 1;
     }

@@ -1,7 +1,7 @@
 // The rules of the machine's record, and the refusals of arrivals.
 
-use sets::first;
 use model::Machine;
+use sets::first;
 use steps::plan::Plan;
 use steps::step::bits;
 use steps::step::number;

@@ -18,6 +18,7 @@ pub mod ReadBack
 pub mod Rank
 pub mod LoadLaws
 pub mod Fielded
+pub mod Links
 pub mod LoadBounds
 pub mod Alike
 pub mod Typed

@@ -1,10 +1,10 @@
 -- The verdict call by its tests: judged, then the knob. Assumes nothing.
 use Prim.Native.Nat.{ℕ, _≤_, _<_}
-use mathlib.Core.Path.{_≡_, refl, ap}
-use mathlib.Core.Bool.{Bool, true, false, _&&_}
+use mathlib.Core.Path.{_≡_, ap}
+use mathlib.Core.Bool.{true, false}
 use mathlib.Core.List.{List}
 use lib.Dec.{leb}
-use borrow.Author.Tests.{le-leb, lt-leb}
+use borrow.Author.Tests.{leb-true}
 use Rattle.model.specs.declared.Description.{Description}
 use Rattle.model.specs.declared.Outcome.the-variants.{Done, Refused}
 use Rattle.model.specs.declared.Refusal.{Refusal}
@@ -14,23 +14,22 @@ use Rattle.model.specs.declared.Verdicts.{Verdicts}
 use Rattle.model.specs.Basics.{tab}
 use Rattle.model.specs.File.{judge}
 use Rattle.model.specs.Verdicts.{judgeAt, verdicts, onKnob, slotAt}
-use Rattle.lemmas.proofs.Tests.{and-false-left, and-false-right, both}
-use Rattle.verdicts.specs.Decide.{refusedVerdicts}
+use Rattle.lemmas.proofs.Tests.{and-left, and-right}
+use Rattle.verdicts.specs.Slots.{refusedVerdicts}
 
 module _ (d : Description) (t : ℕ) where
   pub verdicts-refused : (r : Refusal) (p : ℕ) → judge d ≡ Refused r p → refusedVerdicts r p ≡ verdicts d t
   unfolding verdicts judgeAt
   verdicts-refused r p e = rw e
 
-  pub verdicts-slow : judge d ≡ Done → t < 200 → refusedVerdicts OffKnob 0 ≡ verdicts d t
+  pub verdicts-off : judge d ≡ Done → onKnob t ≡ false → refusedVerdicts OffKnob 0 ≡ verdicts d t
   unfolding verdicts judgeAt
-  verdicts-slow e h = rw (e, and-false-left (leb 200 t) (leb t 3000) (lt-leb 200 t h))
+  verdicts-off e h = rw (e, h)
 
-  pub verdicts-fast : judge d ≡ Done → 3000 < t → refusedVerdicts OffKnob 0 ≡ verdicts d t
+  pub verdicts-done : (slots : List VerdictSlot) → judge d ≡ Done → onKnob t ≡ true → slots ≡ tab 256 (slotAt d t) → _≡_ {A = Verdicts} (record { outcome = Done; slots = slots }) (verdicts d t)
   unfolding verdicts judgeAt
-  verdicts-fast e h = rw (e, and-false-right (leb 200 t) (leb t 3000) (lt-leb t 3000 h))
+  verdicts-done slots e h q = rw (e, h) (ap (λ (x : List VerdictSlot). let v : Verdicts = record { outcome = Done; slots = x } in v) q)
 
-  pub verdicts-done : (slots : List VerdictSlot) → judge d ≡ Done → 200 ≤ t → t ≤ 3000 → slots ≡ tab 256 (slotAt d t) → _≡_ {A = Verdicts} (record { outcome = Done; slots = slots }) (verdicts d t)
-  unfolding verdicts judgeAt
-  verdicts-done slots e a b q =
-      rw (e, both (leb 200 t) (leb t 3000) (le-leb 200 t a) (le-leb t 3000 b)) (ap (λ (x : List VerdictSlot). let v : Verdicts = record { outcome = Done; slots = x } in v) q)
+-- a tempo on the knob
+pub knob-is : (t : ℕ) → onKnob t ≡ true → (200 ≤ t) × (t ≤ 3000)
+knob-is t e = (leb-true 200 t (and-left (leb 200 t) (leb t 3000) e), leb-true t 3000 (and-right (leb 200 t) (leb t 3000) e))

@@ -8,87 +8,16 @@ use lib.ListN.{length, getD, set, replicate, length-set, getD-replicate}
 use lib.Seq.{getD-set-same, getD-set-other}
 use lib.Dec.{ltb, eqb}
 use borrow.Author.Tests.{eq-eqb, ne-eqb, lt-ltb, le-ltb, ltb-true, ltb-false}
-use Rattle.model.specs.declared.Source.{Source}
-use Rattle.model.specs.declared.Source.the-variants.{Fixed, Paced}
 use Rattle.model.specs.declared.Link.{Link}
 use Rattle.model.specs.declared.Description.{Description}
-use Rattle.model.specs.declared.Field.the-variants.{OfSource}
 use Rattle.model.specs.Basics.{anyN}
-use Rattle.model.specs.Refusals.{noSource}
-use Rattle.model.specs.Field.{onScale}
-use Rattle.model.specs.Graph.{system, linkAt}
-use Rattle.model.specs.Delays.{spacing}
-use Rattle.model.specs.Order.{inOrder}
-use Rattle.lemmas.proofs.Tests.{Cmp, less, same, more, cmp, at-or-not, not-both}
+use Rattle.model.specs.Graph.{linkAt}
+use Rattle.lemmas.proofs.Tests.{Cmp, less, same, more, cmp, not-both}
 use Rattle.lemmas.proofs.Range.{any-more}
-use Rattle.lemmas.proofs.Table.{stored}
-use Rattle.theory.proofs.Spacing.{spacing-most}
 use Rattle.sets.specs.Sets.{member}
-use Rattle.verdicts.specs.Plan.{OrdersOf}
-use Rattle.verdicts.specs.ByLevel.{betweenTasks, orderHeld, criticalLink, criticalTo, sourceBy, figureOf, pacedOf, sourceIn, SpacingsBy, narrowerOf, NarrowestIn}
-use Rattle.verdicts.proofs.LevelLaws.{is-between}
-use Rattle.verdicts.proofs.NarrowLaws.{member-none}
-
--- a link's order, by its tests
-module _ (k : Link) (order : Bool) where
-  pub order-asked : k .critical ≡ 1 → k .from < 33 → order ≡ orderHeld k order
-  unfolding orderHeld
-  order-asked e h = rw (eq-eqb (k .critical) 1 e, lt-ltb (k .from) 33 h)
-
-  pub order-free : (k .critical ≡ 1 → ⊥) → true ≡ orderHeld k order
-  unfolding orderHeld
-  order-free n = rw (ne-eqb (k .critical) 1 n)
-
-  pub order-source : 33 ≤ k .from → true ≡ orderHeld k order
-  unfolding orderHeld
-  order-source h = rw (le-ltb (k .from) 33 h) (go (eqb (k .critical) 1))
-    where
-      go : (b : Bool) → true ≡ cond (b && false) order true
-      go true = refl
-      go false = refl
-
--- the order by the table is the link's own
-pub order-by : (d : Description) (orders : List Bool) (l : ℕ) → OrdersOf d orders → l < d .«link_count» → orderHeld (linkAt d l) (getD orders l false) ≡ orderHeld (linkAt d l) (inOrder (system d) (linkAt d l .from) (linkAt d l .to))
-unfolding orderHeld
-order-by d orders l o p = go (betweenTasks (linkAt d l)) refl
-  where
-    go : (b : Bool) → betweenTasks (linkAt d l) ≡ b → cond b (getD orders l false) true ≡ cond b (inOrder (system d) (linkAt d l .from) (linkAt d l .to)) true
-    go true e = let k = is-between (linkAt d l) e in o l p (k .1) (k .0)
-    go false e = refl
-
--- a source from its number and its kind
-source-back : (s : Source) → sourceBy (pacedOf s) (figureOf s) ≡ s
-source-back (Fixed m) = refl
-source-back (Paced p) = refl
-
--- the first n sources in plain numbers
-pub record SourcesTo (d : Description) (figures : List ℕ) (paced : List Bool) (n : ℕ) : Type 0 where
-  pub figures-sized : length figures ≡ 16
-  pub paced-sized : length paced ≡ 16
-  pub at : (u : ℕ) → u < n → sourceIn figures paced u ≡ getD (d .sources) u noSource .source
-
-pub sources-more : (d : Description) (figures : List ℕ) (paced : List Bool) (n f : ℕ) (p : Bool) → n < 16 → f ≡ figureOf (getD (d .sources) n noSource .source) → p ≡ pacedOf (getD (d .sources) n noSource .source) → SourcesTo d figures paced n → SourcesTo d (set figures n f) (set paced n p) (n + 1)
-sources-more d figures paced n f p h a b r =
-    record {
-      figures-sized = length-set figures n f ∙ r .figures-sized;
-      paced-sized = length-set paced n p ∙ r .paced-sized;
-      at = λ u q. go u q (cmp u n);
-    }
-  where
-    go : (u : ℕ) → u < n + 1 → Cmp u n → sourceIn (set figures n f) (set paced n p) u ≡ getD (d .sources) u noSource .source
-    go u q (less x) = rw (getD-set-other figures n u f 0 (λ e. omega arith), getD-set-other paced n u p false (λ e. omega arith)) (r .at u x)
-    go u q (same x) = rw (x, getD-set-same figures n f 0 (omega (arith, r .figures-sized)), getD-set-same paced n p false (omega (arith, r .paced-sized)), a, b) (source-back (getD (d .sources) n noSource .source))
-    go u q (more x) = absurd (omega arith)
-
--- one more spacing
-pub spacings-more : (figures : List ℕ) (paced : List Bool) (t : ℕ) (gaps : List ℕ) (n v : ℕ) → n < 16 → length gaps ≡ 16 → onScale (OfSource (sourceIn figures paced n)) ≡ true → v ≡ spacing (sourceIn figures paced n) t → SpacingsBy figures paced n t gaps → SpacingsBy figures paced (n + 1) t (set gaps n v)
-spacings-more figures paced t gaps n v h s c e r =
-    record {
-      at = stored (λ k x. x ≡ spacing (sourceIn figures paced k) t) 0 gaps n v (omega (arith, s)) (r .at) e;
-      most = λ j. at-or-not (λ i. getD (set gaps n v) i 0 ≤ 1000000000) n j
-          (rw (getD-set-same gaps n v 0 (omega (arith, s)), e) (spacing-most (sourceIn figures paced n) t c))
-          (λ ne. rw (getD-set-other gaps n j v 0 ne) (r .most j));
-    }
+use Rattle.sets.proofs.SetLaws.{member-none}
+use Rattle.verdicts.specs.Held.{criticalLink, criticalTo}
+use Rattle.verdicts.specs.Tables.{narrowerOf, NarrowestIn}
 
 -- whether a link is critical and comes from source 33 + u
 abbrev pub comes : Link → ℕ → Bool

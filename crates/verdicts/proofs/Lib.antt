@@ -1,10 +1,9 @@
-pub mod Laws
-pub mod IntoLaws
-pub mod WalkLaws
-pub mod PlanLaws
-pub mod DecideLaws
-pub mod TableLaws
-pub mod CallLaws
+-- Laws that the proofs of this crate's functions, and those above it, cite.
 pub mod LevelLaws
+pub mod LevelRounds
 pub mod NarrowLaws
 pub mod LevelSteps
+pub mod LimitLaws
+pub mod SlotLaws
+pub mod TableLaws
+pub mod CallLaws

@@ -1,5 +1,4 @@
-pub mod Level
-pub mod Into
-pub mod Plan
-pub mod Decide
-pub mod ByLevel
+-- What the contracts of this crate cite. A reader starts at Held.
+pub mod Held
+pub mod Tables
+pub mod Slots

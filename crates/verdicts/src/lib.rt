@@ -1,6 +1,7 @@
-// Verdicts on the links of a description: spacings, rounds, the backward walk, and the verdict call.
+// Verdicts on the links of a description. What is worked out once for a description (`Tables`), whether the critical links to a
+// task are held at given spacings (`level`), the verdict on each link at given spacings (`slots`), and the verdict call.
 
-use decide::decide_all;
+use level::critical_of;
 use loads::levels::levels_of;
 use loads::levels::starts_of;
 use model::Description;
@@ -9,43 +10,59 @@ use model::Refusal;
 use model::Verdict;
 use model::VerdictSlot;
 use model::Verdicts;
-use plan::gaps_at;
-use plan::limits_at;
-use plan::orders_of;
-use plan::reaches_at;
+use orders::orders_held;
+use orders::orders_of;
+use slots::slots_at;
+use spacings::Sources;
+use spacings::gaps_by;
+use spacings::on_knob;
+use spacings::sources_of;
 
-pub mod decide;
-pub mod into;
 pub mod level;
-pub mod plan;
-pub mod rounds;
-pub mod walk;
+pub mod slots;
 
 ghost use mathlib.Core.Path.{_≡_};
-ghost use Prim.Native.Nat.{_≤_};
-ghost use Rattle.model.specs.Basics.{tab};
-ghost use Rattle.model.specs.Verdicts.{slotAt, verdicts};
+ghost use Rattle.model.specs.Verdicts.{verdicts};
 ghost use Rattle.theory.proofs.WellFormed.{WellFormed};
-ghost use Rattle.verdicts.specs.Plan.{Tables};
-ghost use Rattle.verdicts.specs.Decide.{refusedVerdicts};
+ghost use Rattle.loads.specs.Tables.{LoadsOf};
+ghost use Rattle.verdicts.specs.Tables.{TablesOf};
+ghost use Rattle.verdicts.specs.Slots.{refusedVerdicts};
 
-// The verdicts on all links at tempo t.
-pub fn slots_at(
-    d: Description,
-    levels: &[[u64; 16]; 32],
-    starts: &[u64; 32],
-    orders: &[bool; 256],
-    t: u32,
-) -> [VerdictSlot; 256]
-    requires { ⌜ WellFormed d × Tables d (now levels) (now starts) (now orders) × (200 ≤ t) × (t ≤ 3000) ⌝ }
-    ensures { λ r. ⌜ r ≡ tab 256 (slotAt d t) ⌝ }
+// What is worked out once for a description, whatever the tempo: its sources in plain numbers; for each task the loads of sources
+// at it (16 places a task), the start of its rounds, and the sources with a critical link to it; for each link whether it is in order,
+// and whether all critical ones between tasks are.
+pub struct Tables {
+    pub tasks: usize,
+    pub sources: Sources,
+    pub levels: [u64; 528],
+    pub starts: [u64; 32],
+    pub critical: [u64; 32],
+    pub orders: [bool; 256],
+    pub ordered: bool,
+}
+
+// The tables of a judged description, from the sets and works that its loads are sums of.
+pub fn tables_of<'a>(d: Description, adds: &'a [u64; 48], works: &'a [u64; 32]) -> Tables
+    requires { ⌜ WellFormed d × LoadsOf d (now adds) (now works) ⌝ }
+    ensures { λ r. ⌜ TablesOf d r ⌝ }
 {
-    let gaps = gaps_at(d, t);
-    let limits = limits_at(d, &gaps);
     let n = d.task_count;
     let m = d.source_count;
-    let reaches = reaches_at(levels, starts, &gaps, &limits, n, m);
-    decide_all(d, orders, &gaps, &reaches)
+    let levels = levels_of(adds, works, n, m);
+    let starts = starts_of(adds, works, n);
+    let critical = critical_of(d);
+    let orders = orders_of(d);
+    let ordered = orders_held(d, &orders);
+    let sources = sources_of(d);
+    Tables {
+        tasks: n,
+        sources,
+        levels,
+        starts,
+        critical,
+        orders,
+        ordered,
+    }
 }
 
 // Beside a refusal every verdict is free.
@@ -69,18 +86,12 @@ pub fn verdicts(d: Description, t: u32) -> Verdicts
     if let Outcome::Refused(why, place) = judged {
         return refused(why, place);
     }
-    if t < 200 {
+    if !on_knob(t) {
         return refused(Refusal::OffKnob, 0);
     }
-    if 3000 < t {
-        return refused(Refusal::OffKnob, 0);
-    }
-    let n = d.task_count;
-    let m = d.source_count;
-    let levels = levels_of(&worked.adds, &worked.works, n, m);
-    let starts = starts_of(&worked.adds, &worked.works, n);
-    let orders = orders_of(d);
-    let slots = slots_at(d, &levels, &starts, &orders, t);
+    let tables = tables_of(d, &worked.adds, &worked.works);
+    let gaps = gaps_by(tables.sources, t);
+    let slots = slots_at(d, &tables.levels, &tables.starts, &tables.orders, &gaps);
     Verdicts {
         outcome: Outcome::Done,
         slots,

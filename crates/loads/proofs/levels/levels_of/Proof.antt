@@ -1,24 +1,22 @@
 -- `loads::levels::levels_of` meets its contract: the levels from task j + 1 on are there. Assumes nothing.
 use borrow.Author.Needs.{needs}
 use native.Mathlib.Omega.{arith}
-use Prim.Native.Nat.{ℕ, suc, _+_, _≤_, _<_, _-_}
-use mathlib.Core.Path.{_≡_, refl, sym, ap, _∙_}
-use mathlib.Core.List.{[]}
-use lib.ListN.{length, getD, length-set}
-use Rattle.loads.specs.Tables.{loadBy}
-use Rattle.loads.proofs.Working.{loadBy-none, loadBy-most}
-use Rattle.loads.proofs.Columns.{LevelsFrom, levels-none, levels-step, zero-entry}
+use Prim.Native.Nat.{suc, _+_, _*_, _≤_, _-_}
+use mathlib.Core.Path.{_≡_}
+use lib.ListN.{getD}
+use Rattle.loads.proofs.Working.{loadBy-most}
+use Rattle.loads.proofs.Columns.{LevelsFrom, levels-none, levels-step}
 use Rattle.loads.proofs.levels.levels_of.Statement.{statement}
 use Rattle.loads.proofs.levels.levels_of.Tie as tie
 
 abbrev Inv-loop : tie.InvT-loop
-Inv-loop adds works n m levels₀ loads₀ j₀ levels loads j = (j ≤ n) × (length loads ≡ 16) × ((u : ℕ) → u < m → getD loads u 0 ≡ loadBy (getD adds (32 + u) 0) works n (suc j)) × LevelsFrom adds works n m j levels
+Inv-loop adds works n m levels₀ j₀ levels j = (j ≤ n) × LevelsFrom adds works n m j levels
 
 abbrev μ-loop : tie.MeasureT-loop
-μ-loop adds works n m levels₀ loads₀ j₀ levels loads j = j
+μ-loop adds works n m levels₀ j₀ levels j = j
 
 loop-holds : tie.Need-loop-holds Inv-loop μ-loop
-loop-holds c = (omega arith, refl, λ u p. zero-entry 16 u (omega (arith, c .pre .1)) ∙ sym (loadBy-none (getD (c .args .adds .now) (32 + u) 0) (c .args .works .now) (c .args .n) (suc (c .args .n)) (omega arith)), levels-none (c .args .adds .now) (c .args .works .now) (c .args .n) (c .args .m) (c .pre .1))
+loop-holds c = (omega arith, levels-none (c .args .adds .now) (c .args .works .now) (c .args .n) (c .args .m) (c .pre .1))
 
 sub-j : tie.Need-sub-j Inv-loop μ-loop
 sub-j c = search needs
@@ -33,13 +31,9 @@ source-column-requires : tie.Need-source-column-requires Inv-loop μ-loop
 source-column-requires c κs =
     let S = c .before .before .before .before in
     let L = c .before .before .before .loop in
-    (S .pre .1, omega (arith, S .pre .0), L .inv .1, S .pre .2 (L .j - 1), λ u p. omega (arith, L .inv .2 u p, loadBy-most (getD (S .args .adds .now) (32 + u) 0) (S .args .works .now) (S .args .n) (suc (L .j)) (S .pre .0) (S .pre .2) (omega arith)))
-
-mul-levels : tie.Need-mul-levels Inv-loop μ-loop
-mul-levels c = search needs
-
-array-set-from-levels : tie.Need-array-set-from-levels Inv-loop μ-loop
-array-set-from-levels c = search needs
+    let b = L .j - 1 in
+    let up : suc b ≡ L .j = omega arith in
+    (S .pre .1, omega (arith, S .pre .0), L .inv .1 .0, S .pre .2 b, λ u p. let e : 16 * b + 16 + u ≡ 16 * L .j + u = omega arith in omega (arith, rw (← e) at (L .inv .1 .1 (L .j) u (omega arith) (omega (arith, S .pre .0)) p), loadBy-most (getD (S .args .adds .now) (32 + u) 0) (S .args .works .now) (S .args .n) (suc (L .j)) (S .pre .0) (S .pre .2) (omega arith)))
 
 loop-less : tie.Need-loop-less Inv-loop μ-loop
 loop-less c = search needs
@@ -50,13 +44,12 @@ loop-again c =
     let L = c .before .before .before .before .loop in
     let b = L .j - 1 in
     let e : L .j ≡ suc b = omega arith in
-    let r = levels-step (S .args .adds .now) (S .args .works .now) (S .args .n) (S .args .m) b (L .levels) (L .loads) _ (omega arith) (S .pre .0) (L .inv .1) (rw e at (L .inv .2)) (c .source-column .ensures) (rw e at (L .inv .3)) in
-    (omega arith, r .0, r .1, r .2)
+    (omega arith, levels-step (S .args .adds .now) (S .args .works .now) (S .args .n) (S .args .m) b (L .levels) _ (omega arith) (S .pre .0) (S .pre .1) (c .source-column .ensures) (rw e at (L .inv .1)))
 
 returns : tie.Need-returns Inv-loop μ-loop
 returns c =
     let L = c .before .loop in
-    λ k u p q. L .inv .3 .1 k u (omega arith) p q
+    λ k u p q. L .inv .1 .1 k u (omega arith) (omega arith) q
 
 pub levels-of-spec : {M : Type 1} → statement M
 levels-of-spec =
@@ -69,8 +62,6 @@ levels-of-spec =
     mul-source-column
     element-copy-out-source-column
     source-column-requires
-    mul-levels
-    array-set-from-levels
     loop-less
     loop-again
     returns)

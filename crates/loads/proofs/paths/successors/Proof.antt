@@ -3,13 +3,14 @@ use borrow.Author.Needs.{needs}
 use native.Mathlib.Omega.{arith}
 use Prim.Native.Nat.{ℕ, _≤_, _<_, _-_}
 use mathlib.Core.Path.{_≡_, refl, ap, _∙_}
-use lib.ListN.{length, getD, length-set, getD-replicate, replicate}
+use lib.ListN.{length, length-set, getD-replicate}
 use Rattle.model.specs.Basics.{anyN}
 use Rattle.model.specs.Graph.{linked, linkAt}
 use Rattle.sets.specs.Sets.{member}
-use Rattle.loads.specs.Tables.{Linkable, linkedTo, rowOf}
+use Rattle.theory.proofs.Links.{Linkable, linkedTo, ends-inside}
+use Rattle.loads.specs.Tables.{rowOf}
 use Rattle.sets.proofs.SetLaws.{member-none}
-use Rattle.loads.proofs.Tabled.{sets-more, ends-inside}
+use Rattle.loads.proofs.Tabled.{sets-more}
 use Rattle.loads.proofs.paths.successors.Statement.{statement}
 use Rattle.loads.proofs.paths.successors.Tie as tie
 
@@ -30,27 +31,27 @@ mul-link c = search needs
 element-copy-out-link : tie.Need-element-copy-out-link Inv-loop μ-loop
 element-copy-out-link c = search needs
 
-number-requires : tie.Need-number-requires Inv-loop μ-loop
-number-requires c κs = search needs
+index-requires : tie.Need-index-requires Inv-loop μ-loop
+index-requires c κs = search needs
 
 sub-from : tie.Need-sub-from Inv-loop μ-loop
 sub-from c =
     let S = c .before .before .before .before in
     let L = c .before .before .before .loop in
     let p = ends-inside (S .args .t1) (S .pre) (L .l) (omega arith) in
-    let e1 : c .number .result ≡ linkAt (S .args .t1) (L .l) .from = c .number .ensures in
+    let e1 : c .index .result ≡ linkAt (S .args .t1) (L .l) .from = c .index .ensures in
     omega (arith, p)
 
-number-requires-2 : tie.Need-number-requires-2 Inv-loop μ-loop
-number-requires-2 c κs = search needs
+index-requires-2 : tie.Need-index-requires-2 Inv-loop μ-loop
+index-requires-2 c κs = search needs
 
 sub-to : tie.Need-sub-to Inv-loop μ-loop
 sub-to c =
     let S = c .before .before .before .before .before in
     let L = c .before .before .before .before .loop in
     let p = ends-inside (S .args .t1) (S .pre) (L .l) (omega arith) in
-    let e1 : c .before .number .result ≡ linkAt (S .args .t1) (L .l) .from = c .before .number .ensures in
-    let e2 : c .number2 .result ≡ linkAt (S .args .t1) (L .l) .to = c .number2 .ensures in
+    let e1 : c .before .index .result ≡ linkAt (S .args .t1) (L .l) .from = c .before .index .ensures in
+    let e2 : c .index2 .result ≡ linkAt (S .args .t1) (L .l) .to = c .index2 .ensures in
     omega (arith, p)
 
 mul-with : tie.Need-mul-with Inv-loop μ-loop
@@ -58,9 +59,9 @@ mul-with c =
     let S = c .before .before .before .before .before in
     let L = c .before .before .before .before .loop in
     let p = ends-inside (S .args .t1) (S .pre) (L .l) (omega arith) in
-    let e1 : c .before .number .result ≡ linkAt (S .args .t1) (L .l) .from = c .before .number .ensures in
-    let e2 : c .number2 .result ≡ linkAt (S .args .t1) (L .l) .to = c .number2 .ensures in
-    let h : c .before .number .result - 1 < 48 = omega (arith, p) in
+    let e1 : c .before .index .result ≡ linkAt (S .args .t1) (L .l) .from = c .before .index .ensures in
+    let e2 : c .index2 .result ≡ linkAt (S .args .t1) (L .l) .to = c .index2 .ensures in
+    let h : c .before .index .result - 1 < 48 = omega (arith, p) in
     search (needs, h)
 
 array-read-with : tie.Need-array-read-with Inv-loop μ-loop
@@ -68,8 +69,8 @@ array-read-with c =
     let S = c .before .before .before .before .before in
     let L = c .before .before .before .before .loop in
     let p = ends-inside (S .args .t1) (S .pre) (L .l) (omega arith) in
-    let e1 : c .before .number .result ≡ linkAt (S .args .t1) (L .l) .from = c .before .number .ensures in
-    let e2 : c .number2 .result ≡ linkAt (S .args .t1) (L .l) .to = c .number2 .ensures in
+    let e1 : c .before .index .result ≡ linkAt (S .args .t1) (L .l) .from = c .before .index .ensures in
+    let e2 : c .index2 .result ≡ linkAt (S .args .t1) (L .l) .to = c .index2 .ensures in
     omega (arith, p)
 
 with-requires : tie.Need-with-requires Inv-loop μ-loop
@@ -77,8 +78,8 @@ with-requires c κs =
     let S = c .before .before .before .before .before in
     let L = c .before .before .before .before .loop in
     let p = ends-inside (S .args .t1) (S .pre) (L .l) (omega arith) in
-    let e1 : c .before .number .result ≡ linkAt (S .args .t1) (L .l) .from = c .before .number .ensures in
-    let e2 : c .number2 .result ≡ linkAt (S .args .t1) (L .l) .to = c .number2 .ensures in
+    let e1 : c .before .index .result ≡ linkAt (S .args .t1) (L .l) .from = c .before .index .ensures in
+    let e2 : c .index2 .result ≡ linkAt (S .args .t1) (L .l) .to = c .index2 .ensures in
     omega (arith, p)
 
 mul-succ : tie.Need-mul-succ Inv-loop μ-loop
@@ -86,9 +87,9 @@ mul-succ c =
     let S = c .before .before .before .before .before .before in
     let L = c .before .before .before .before .before .loop in
     let p = ends-inside (S .args .t1) (S .pre) (L .l) (omega arith) in
-    let e1 : c .before .before .number .result ≡ linkAt (S .args .t1) (L .l) .from = c .before .before .number .ensures in
-    let e2 : c .before .number2 .result ≡ linkAt (S .args .t1) (L .l) .to = c .before .number2 .ensures in
-    let h : c .before .before .number .result - 1 < 48 = omega (arith, p) in
+    let e1 : c .before .before .index .result ≡ linkAt (S .args .t1) (L .l) .from = c .before .before .index .ensures in
+    let e2 : c .before .index2 .result ≡ linkAt (S .args .t1) (L .l) .to = c .before .index2 .ensures in
+    let h : c .before .before .index .result - 1 < 48 = omega (arith, p) in
     search (needs, h)
 
 array-write-succ : tie.Need-array-write-succ Inv-loop μ-loop
@@ -96,8 +97,8 @@ array-write-succ c =
     let S = c .before .before .before .before .before .before in
     let L = c .before .before .before .before .before .loop in
     let p = ends-inside (S .args .t1) (S .pre) (L .l) (omega arith) in
-    let e1 : c .before .before .number .result ≡ linkAt (S .args .t1) (L .l) .from = c .before .before .number .ensures in
-    let e2 : c .before .number2 .result ≡ linkAt (S .args .t1) (L .l) .to = c .before .number2 .ensures in
+    let e1 : c .before .before .index .result ≡ linkAt (S .args .t1) (L .l) .from = c .before .before .index .ensures in
+    let e2 : c .before .index2 .result ≡ linkAt (S .args .t1) (L .l) .to = c .before .index2 .ensures in
     omega (arith, p)
 
 add-l : tie.Need-add-l Inv-loop μ-loop
@@ -111,8 +112,8 @@ loop-again c =
     let S = c .before .before .before .before .before .before in
     let L = c .before .before .before .before .before .loop in
     let p = ends-inside (S .args .t1) (S .pre) (L .l) (omega arith) in
-    let e1 : c .before .before .number .result ≡ linkAt (S .args .t1) (L .l) .from = c .before .before .number .ensures in
-    let e2 : c .before .number2 .result ≡ linkAt (S .args .t1) (L .l) .to = c .before .number2 .ensures in
+    let e1 : c .before .before .index .result ≡ linkAt (S .args .t1) (L .l) .from = c .before .before .index .ensures in
+    let e2 : c .before .index2 .result ≡ linkAt (S .args .t1) (L .l) .to = c .before .index2 .ensures in
     (omega arith, simp length-set (L .inv .1), rw e1 (sets-more (S .args .t1) (L .succ) (L .l) (c .with .result) (L .inv .1) p (rw (e1, e2) at (c .with .ensures)) (L .inv .2)))
 
 returns : tie.Need-returns Inv-loop μ-loop
@@ -131,9 +132,9 @@ successors-spec =
     loop-holds
     mul-link
     element-copy-out-link
-    number-requires
+    index-requires
     sub-from
-    number-requires-2
+    index-requires-2
     sub-to
     mul-with
     array-read-with

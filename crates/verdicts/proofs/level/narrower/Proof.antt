@@ -2,8 +2,6 @@
 use Rattle.verdicts.proofs.LevelSteps.{narrower-new, narrower-old, narrower-free}
 use Rattle.verdicts.proofs.level.narrower.Statement.{statement}
 use Rattle.verdicts.proofs.level.narrower.Tie as tie
-use Rattle.verdicts.proofs.level.narrower.Reads as reads
-use Rattle.verdicts.proofs.level.narrower.Lts as lts
 
 returns : tie.Need-returns
 returns c = narrower-new (c .before .before .args .best) (c .before .before .args .gap) (c .before .before .args .counts) (c .before .if1 .taken) (c .if2 .taken)

@@ -1,16 +1,13 @@
--- `narrowest` meets its contract: the narrowest of the first u. Assumes nothing.
+-- `verdicts::level::narrowest` meets its contract: the narrowest of the first u. Assumes nothing.
 use Prim.Native.Nat.{_≤_, _-_}
-use mathlib.Core.Path.{_≡_}
+use mathlib.Core.Path.{_≡_, _∙_, ap}
 use native.Mathlib.Omega.{arith}
-use Rattle.verdicts.specs.ByLevel.{NarrowestIn}
-use Rattle.verdicts.proofs.LevelSteps.{narrowest-none, narrowest-more}
+use lib.ListN.{getD}
 use borrow.Author.Needs.{needs}
+use Rattle.verdicts.specs.Tables.{narrowerOf, NarrowestIn}
+use Rattle.verdicts.proofs.LevelSteps.{narrowest-none, narrowest-more}
 use Rattle.verdicts.proofs.level.narrowest.Statement.{statement}
 use Rattle.verdicts.proofs.level.narrowest.Tie as tie
-use Rattle.verdicts.proofs.level.narrowest.Reads as reads
-use Rattle.verdicts.proofs.level.narrowest.Lts as lts
-use Rattle.sets.proofs.has.Reads as has-reads
-use Rattle.verdicts.proofs.level.narrower.Reads as narrower-reads
 
 abbrev Inv-loop : tie.InvT-loop
 Inv-loop set gaps m best₀ u₀ best u = (u ≤ m) × NarrowestIn set gaps u best
@@ -22,25 +19,31 @@ loop-holds : tie.Need-loop-holds Inv-loop μ-loop
 loop-holds c = (omega arith, narrowest-none (c .args .set) (c .args .gaps .now))
 
 has-requires : tie.Need-has-requires Inv-loop μ-loop
-has-requires c κs = search needs
+has-requires c κs = omega (arith, c .before .before .pre)
 
-mul-narrower : tie.Need-mul-narrower Inv-loop μ-loop
-mul-narrower c = search needs
+mul-wide : tie.Need-mul-wide Inv-loop μ-loop
+mul-wide c = omega (arith, c .before .before .before .pre)
 
-element-copy-out-narrower : tie.Need-element-copy-out-narrower Inv-loop μ-loop
-element-copy-out-narrower c = search needs
+element-copy-out-wide : tie.Need-element-copy-out-wide Inv-loop μ-loop
+element-copy-out-wide c = omega (arith, c .before .before .before .pre)
+
+wide-requires : tie.Need-wide-requires Inv-loop μ-loop
+wide-requires c κs = search needs
 
 narrower-requires : tie.Need-narrower-requires Inv-loop μ-loop
 narrower-requires c κs = search needs
 
 add-u : tie.Need-add-u Inv-loop μ-loop
-add-u c = search needs
+add-u c = omega (arith, c .before .before .before .before .before .before .pre)
 
 loop-less : tie.Need-loop-less Inv-loop μ-loop
-loop-less c = search needs
+loop-less c = omega arith
 
 loop-again : tie.Need-loop-again Inv-loop μ-loop
-loop-again c = let L = c .before .before .before .before .loop in let a = c .before .before .before .before .before .args in (omega arith, narrowest-more (a .set) (a .gaps .now) (L .u) (L .best) (c .narrower .result) (c .before .before .has .result) (c .before .before .has .ensures) (c .narrower .ensures) (L .inv .1))
+loop-again c =
+    let L = c .before .before .before .before .before .loop in
+    let a = c .before .before .before .before .before .before .args in
+    (omega arith, narrowest-more (a .set) (a .gaps .now) (L .u) (L .best) (c .narrower .result) (c .before .before .before .has .result) (c .before .before .before .has .ensures) (c .narrower .ensures ∙ ap (λ x. narrowerOf (L .best) (c .before .before .before .has .result) x) (c .before .wide .ensures)) (L .inv .1))
 
 returns : tie.Need-returns Inv-loop μ-loop
 returns c = let L = c .before .loop in let a = c .before .before .args in let e : L .u ≡ a .m = omega (arith, L .inv .0, c .loop-test .left) in rw e at (L .inv .1)
@@ -53,8 +56,9 @@ narrowest-spec =
     μ-loop
     loop-holds
     has-requires
-    mul-narrower
-    element-copy-out-narrower
+    mul-wide
+    element-copy-out-wide
+    wide-requires
     narrower-requires
     add-u
     loop-less

@@ -1,0 +1,2 @@
+-- Laws that the proofs of this crate's functions, and those above it, cite.
+pub mod Laws

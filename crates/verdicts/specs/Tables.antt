@@ -1,0 +1,72 @@
+-- The tables that are worked out once for a description, and one task's part of them.
+use Prim.Native.Nat.{ℕ, suc, _+_, _*_, _≤_, _<_}
+use mathlib.Core.Path.{_≡_}
+use mathlib.Core.Bool.{Bool, true, cond, _&&_}
+use mathlib.Core.List.{List}
+use lib.ListN.{getD}
+use lib.Dec.{ltb}
+use Rattle.model.specs.declared.Description.{Description}
+use Rattle.model.specs.Graph.{system}
+use Rattle.model.specs.Loads.{load}
+use Rattle.model.specs.Delays.{startOf}
+use Rattle.theory.proofs.WellFormed.{WellFormed}
+use Rattle.sets.specs.Sets.{member}
+use Rattle.spacings.specs.declared.Sources.{Sources}
+use Rattle.spacings.specs.Sources.{SourcesOf}
+use Rattle.spacings.specs.Gaps.{GapsIn}
+use Rattle.orders.specs.Orders.{OrdersOf, ordersHeld}
+use Rattle.verdicts.specs.declared.level.Level.{Level}
+use Rattle.verdicts.specs.declared.Tables.{Tables}
+use Rattle.verdicts.specs.Held.{levelHeld, criticalTo}
+
+-- by level, 16 places for a task: the load of each source at task j + 1
+abbrev pub LevelsOf : Description → List ℕ → Type 0
+LevelsOf d t = (j u : ℕ) → j < 32 → u < d .«source_count» → getD t (16 * j + u) 0 ≡ load (system d) (33 + u) (suc j)
+
+-- by level: where its rounds start
+abbrev pub StartsOf : Description → List ℕ → Type 0
+StartsOf d t = (j : ℕ) → j < 32 → getD t j 0 ≡ startOf (system d) (suc j)
+
+-- by level: the sources with a critical link to the task, source 33 + u as the number u
+abbrev pub CriticalOf : Description → List ℕ → Type 0
+CriticalOf d sets = (j u : ℕ) → j < 32 → member (getD sets j 0) u ≡ criticalTo d (d .«link_count») (33 + u) (suc j)
+
+-- the tables that tell whether a level is held
+pub record LevelTables (d : Description) (levels starts critical : List ℕ) (sources : Sources) (tasks : ℕ) : Type 0 where
+  pub good : WellFormed d
+  pub by-level : LevelsOf d levels
+  pub by-start : StartsOf d starts
+  pub by-critical : CriticalOf d critical
+  pub by-source : SourcesOf d sources
+  pub counted : tasks ≡ d .«task_count»
+
+-- all that is worked out once for a description
+pub record TablesOf (d : Description) (t : Tables) : Type 0 where
+  pub by-levels : LevelTables d (t .levels) (t .starts) (t .critical) (t .sources) (t .tasks)
+  pub by-order : OrdersOf d (t .orders)
+  pub all-ordered : t .ordered ≡ ordersHeld d
+
+-- one level of m sources as the tables have it
+pub record LevelAt (levels starts critical : List ℕ) (m j : ℕ) (v : Level) : Type 0 where
+  pub start-at : v .start ≡ getD starts j 0
+  pub load-at : (u : ℕ) → u < m → getD (v .loads) u 0 ≡ getD levels (16 * j + u) 0
+  pub critical-at : v .critical ≡ getD critical j 0
+
+-- the level of task j of a description
+pub record LevelOf (d : Description) (j : ℕ) (v : Level) : Type 0 where
+  pub start-is : v .start ≡ startOf (system d) j
+  pub load-is : (u : ℕ) → u < d .«source_count» → getD (v .loads) u 0 ≡ load (system d) (33 + u) j
+  pub critical-is : (u : ℕ) → member (v .critical) u ≡ criticalTo d (d .«link_count») (33 + u) j
+
+-- whether a level of m sources is held at the spacings of a table, whatever description it is of
+abbrev pub HeldBy : Level → List ℕ → ℕ → Bool → Type 0
+HeldBy v gaps m r = (d : Description) (gap : ℕ → ℕ) (j : ℕ) → WellFormed d → 1 ≤ j → LevelOf d j v → m ≡ d .«source_count» → GapsIn gap m gaps → r ≡ levelHeld d gap j
+
+-- the narrower of two spacings, where the second counts
+unfoldable pub narrowerOf : ℕ → Bool → ℕ → ℕ
+narrowerOf best counts gap = cond (counts && ltb gap best) gap best
+
+-- the narrowest spacing of the sources in a set, of the first m; 2,000,000,000 where there is none
+pub record NarrowestIn (set : ℕ) (gaps : List ℕ) (m r : ℕ) : Type 0 where
+  pub least : (u : ℕ) → u < m → member set u ≡ true → r ≤ getD gaps u 0
+  pub attained : r < 2000000000 → (u : ℕ) × (u < m) × (member set u ≡ true) × (getD gaps u 0 ≡ r)

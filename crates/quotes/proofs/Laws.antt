@@ -9,22 +9,50 @@ use Rattle.model.specs.declared.Outcome.the-variants.{Done, Refused}
 use Rattle.model.specs.declared.Refusal.{Refusal}
 use Rattle.model.specs.declared.Refusal.the-variants.{NoTempo}
 use Rattle.model.specs.declared.Quote.the-variants.{Tempo, Unquoted}
+use Rattle.model.specs.Delays.{spacingOf}
 use Rattle.model.specs.File.{judge}
 use Rattle.model.specs.Verdicts.{allHeld, largestBelow, quoteOf}
 use Rattle.lemmas.proofs.Tests.{Cmp, less, same, more, cmp, not-both}
 use Rattle.theory.proofs.WellFormed.{WellFormed}
-use Rattle.theory.proofs.Quotes.{quote-at, quote-none}
-use Rattle.verdicts.specs.Plan.{Tables}
-use Rattle.verdicts.specs.ByLevel.{levelHeld, ordersHeld, CriticalOf, LevelTables}
-use Rattle.verdicts.proofs.LevelLaws.{levels-all, level-slower, not-level, not-orders}
-use Rattle.quotes.specs.Best.{Best, Slower}
+use Rattle.theory.proofs.Quotes.{spaced, wider, quote-at, quote-none}
+use Rattle.spacings.specs.declared.Sources.{Sources}
+use Rattle.spacings.specs.Gaps.{GapsBy}
+use Rattle.spacings.proofs.GapLaws.{gaps-of}
+use Rattle.rounds.specs.Level.{LevelOn}
+use Rattle.orders.specs.Orders.{ordersHeld}
+use Rattle.verdicts.specs.declared.level.Level.{Level}
+use Rattle.verdicts.specs.Held.{levelHeld}
+use Rattle.verdicts.specs.Tables.{LevelTables, LevelAt, HeldBy}
+use Rattle.verdicts.proofs.LevelLaws.{levels-all, level-wider, not-level, not-orders}
+use Rattle.verdicts.proofs.LevelRounds.{level-on}
+use Rattle.verdicts.proofs.TableLaws.{level-of-tables}
+use Rattle.quotes.specs.Best.{LevelFrom, Best, Slower}
 
--- the tables of a description, with its sets of sources
-pub tables-by : (d : Description) (levels : List (List ℕ)) (starts : List ℕ) (orders : List Bool) (critical : List ℕ) → WellFormed d → Tables d levels starts orders → CriticalOf d critical → LevelTables d levels starts critical (d .«source_count»)
-tables-by d levels starts orders critical g t c = record { good = g; by-level = t .by-level; by-start = t .by-start; by-critical = c; count = refl }
+-- a level that is held at one tempo is held at every lower one
+level-slower : (d : Description) → WellFormed d → (t t′ j : ℕ) → 1 ≤ t → t ≤ t′ → t′ ≤ 3000 → levelHeld d (spacingOf d t′) j ≡ true → levelHeld d (spacingOf d t) j ≡ true
+level-slower d g t t′ j a b c e = level-wider d g (spacingOf d t′) (spacingOf d t) j (spaced d g t′ (omega arith) c) (wider d g t t′ a b) e
+
+-- the levels of tables, on the scale of the rounds
+pub level-from : (d : Description) (levels starts critical : List ℕ) (sources : Sources) (tasks j : ℕ) (v : Level) → LevelTables d levels starts critical sources tasks → j < 32 → LevelAt levels starts critical (sources .count) j v → LevelFrom d (suc j) v sources
+level-from d levels starts critical sources tasks j v t p a =
+    record {
+      good = t .good;
+      task = omega arith;
+      level-is = level-of-tables d levels starts critical sources tasks (sources .count) j v t (t .by-source .counted) p a;
+      sources-are = t .by-source;
+    }
+
+pub from-on : (d : Description) (j : ℕ) (v : Level) (sources : Sources) (t : ℕ) (gaps : List ℕ) → LevelFrom d j v sources → GapsBy sources t gaps → LevelOn (v .start) (v .loads) gaps (sources .count)
+from-on d j v sources t gaps f z =
+    rw (f .sources-are .counted) (level-on d (f .good) j (f .task) (v .start) (v .loads) (f .level-is .start-is) (f .level-is .load-is) gaps (gaps-of d sources t gaps (f .sources-are) z .fit))
+
+-- whether a level is held at the spacings of a tempo
+pub held-from : (d : Description) (j : ℕ) (v : Level) (sources : Sources) (t : ℕ) (gaps : List ℕ) (r : Bool) → LevelFrom d j v sources → GapsBy sources t gaps → HeldBy v gaps (sources .count) r → r ≡ levelHeld d (spacingOf d t) j
+held-from d j v sources t gaps r f z h =
+    h d (spacingOf d t) j (f .good) (f .task) (f .level-is) (f .sources-are .counted) (rw (f .sources-are .counted) (gaps-of d sources t gaps (f .sources-are) z))
 
 -- the search by halves at its end
-pub slower-found : (d : Description) (j doubtful low high : ℕ) → 200 ≤ low → low ≤ high → high ≤ doubtful → high ≤ suc low → levelHeld d low j ≡ true → levelHeld d high j ≡ false → Slower d j doubtful low
+pub slower-found : (d : Description) (j doubtful low high : ℕ) → 200 ≤ low → low ≤ high → high ≤ doubtful → high ≤ suc low → levelHeld d (spacingOf d low) j ≡ true → levelHeld d (spacingOf d high) j ≡ false → Slower d j doubtful low
 slower-found d j doubtful low high a b c e h f = go (cmp low high)
   where
     go : Cmp low high → Slower d j doubtful low
@@ -32,7 +60,7 @@ slower-found d j doubtful low high a b c e h f = go (cmp low high)
     go (same x) = absurd (not-both h (rw x f))
     go (more x) = absurd (omega arith)
 
-pub slower-none : (d : Description) (j doubtful : ℕ) → levelHeld d 200 j ≡ false → Slower d j doubtful 0
+pub slower-none : (d : Description) (j doubtful : ℕ) → levelHeld d (spacingOf d 200) j ≡ false → Slower d j doubtful 0
 slower-none d j doubtful e = record { none = λ q. e; some = λ q. absurd (omega arith) }
 
 module _ (d : Description) where
@@ -40,11 +68,11 @@ module _ (d : Description) where
   pub best-none : Best d 0 3000
   best-none = record { low = omega arith; high = omega arith; held = λ k a b. absurd (omega arith); above = λ h. absurd (omega arith) }
 
-  pub best-held : (j best : ℕ) → levelHeld d best (suc j) ≡ true → Best d j best → Best d (j + 1) best
+  pub best-held : (j best : ℕ) → levelHeld d (spacingOf d best) (suc j) ≡ true → Best d j best → Best d (j + 1) best
   best-held j best e r =
       record { low = r .low; high = r .high; held = λ k a b. go k a (cmp k (suc j)) b; above = λ h. let x = r .above h in (x .0, x .1, omega (arith, x .2), x .3) }
     where
-      go : (k : ℕ) → 1 ≤ k → Cmp k (suc j) → k ≤ j + 1 → levelHeld d best k ≡ true
+      go : (k : ℕ) → 1 ≤ k → Cmp k (suc j) → k ≤ j + 1 → levelHeld d (spacingOf d best) k ≡ true
       go k a (less x) b = r .held k a (omega arith)
       go k a (same x) b = rw x e
       go k a (more x) b = absurd (omega arith)
@@ -59,7 +87,7 @@ module _ (d : Description) where
         above = λ h. (suc j, omega arith, omega arith, x .3);
       }
     where
-      go : (200 ≤ q) × (q < best) × (levelHeld d q (suc j) ≡ true) × (levelHeld d (suc q) (suc j) ≡ false) → (k : ℕ) → 1 ≤ k → Cmp k (suc j) → k ≤ j + 1 → levelHeld d q k ≡ true
+      go : (200 ≤ q) × (q < best) × (levelHeld d (spacingOf d q) (suc j) ≡ true) × (levelHeld d (spacingOf d (suc q)) (suc j) ≡ false) → (k : ℕ) → 1 ≤ k → Cmp k (suc j) → k ≤ j + 1 → levelHeld d (spacingOf d q) k ≡ true
       go x k a (less y) b = level-slower d g q best k (omega (arith, x .0)) (omega (arith, x .1)) (r .high) (r .held k a (omega arith))
       go x k a (same y) b = rw y (x .2)
       go x k a (more y) b = absurd (omega arith)
@@ -70,7 +98,7 @@ module _ (d : Description) where
       sym (quote-at d g best (r .low) (r .high) (levels-all d best g o (r .held)) (λ h. let x = r .above h in not-level d (suc best) (x .0) (x .3)))
 
   -- there is none, where a level or an order is in doubt at the lowest tempo
-  pub no-level : WellFormed d → (j : ℕ) → levelHeld d 200 j ≡ false → Unquoted NoTempo 0 ≡ largestBelow (allHeld d) 2801
+  pub no-level : WellFormed d → (j : ℕ) → levelHeld d (spacingOf d 200) j ≡ false → Unquoted NoTempo 0 ≡ largestBelow (allHeld d) 2801
   no-level g j e = sym (quote-none d g (not-level d 200 j e))
 
   pub no-order : WellFormed d → ordersHeld d ≡ false → Unquoted NoTempo 0 ≡ largestBelow (allHeld d) 2801

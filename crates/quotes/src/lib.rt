@@ -1,52 +1,49 @@
 // The quote: the highest tempo at which every critical link is held, level by level, by halves where a level is in doubt.
-// It goes by the verdict's contract and by the law that a level held at one tempo is held at every lower one.
+// It goes by the verdicts' door alone: tables worked out once, whether a level is held at given spacings, and the law that a level
+// that is held stays held when spacings grow.
 
-use loads::levels::levels_of;
-use loads::levels::starts_of;
 use model::Description;
 use model::Outcome;
 use model::Quote;
 use model::Refusal;
-use verdicts::level::critical_of;
+use spacings::Sources;
+use spacings::gaps_by;
+use verdicts::level::Level;
 use verdicts::level::level_held;
-use verdicts::level::level_held_at;
-use verdicts::level::orders_held;
-use verdicts::level::sources_of;
-use verdicts::level::spacings_by;
-use verdicts::plan::orders_of;
+use verdicts::level::level_of;
+use verdicts::tables_of;
 ghost use mathlib.Core.Path.{_≡_};
 ghost use mathlib.Core.Bool.{false};
-ghost use Prim.Native.Nat.{suc, _≤_, _<_};
+ghost use Prim.Native.Nat.{ℕ, _≤_};
 ghost use Rattle.model.specs.declared.Description.{Description};
-ghost use Rattle.model.specs.Verdicts.{allHeld, largestBelow, quoteOf};
-ghost use Rattle.theory.proofs.WellFormed.{WellFormed};
-ghost use Rattle.loads.specs.Tables.{LoadsOf};
-ghost use Rattle.verdicts.specs.Plan.{Tables};
-ghost use Rattle.verdicts.specs.ByLevel.{levelHeld, SourcesOf, LevelTables, SearchTables};
-ghost use Rattle.quotes.specs.Best.{Slower};
+ghost use Rattle.model.specs.Delays.{spacingOf};
+ghost use Rattle.model.specs.Verdicts.{quoteOf};
+ghost use Rattle.verdicts.specs.Held.{levelHeld};
+ghost use Rattle.quotes.specs.Best.{LevelFrom, Searched, Slower, Tabled, QuoteBy};
 
-// The highest tempo below a doubtful one at which the level of task j + 1 is held; 0 where there is none.
-fn slower(
-    levels: &[[u64; 16]; 32],
-    starts: &[u64; 32],
-    critical: &[u64; 32],
-    figures: &[u32; 16],
-    paced: &[bool; 16],
-    m: usize,
-    j: usize,
-    doubtful: u32,
-) -> u32
-    requires { ⌜ SearchTables (now levels) (now starts) (now critical) (now figures) (now paced) m × (j < 32) × (200 ≤ doubtful) × (doubtful ≤ 3000) ⌝ }
-    ensures { λ r. ⌜ ((d : Description) → LevelTables d (now (levels .entry)) (now (starts .entry)) (now (critical .entry)) m → SourcesOf d (now (figures .entry)) (now (paced .entry)) → levelHeld d doubtful (suc j) ≡ false → Slower d (suc j) doubtful r) ⌝ }
+// Whether every critical link from a source to the level's task is held at tempo t.
+fn held_at(level: Level, sources: Sources, t: u32) -> bool
+    requires { ⌜ Searched level sources × (200 ≤ t) × (t ≤ 3000) ⌝ }
+    ensures { λ r. ⌜ ((d : Description) (j : ℕ) → LevelFrom d j level sources → r ≡ levelHeld d (spacingOf d t) j) ⌝ }
 {
-    if !level_held_at(levels, starts, critical, figures, paced, m, j, 200) {
+    let gaps = gaps_by(sources, t);
+    let m = sources.count;
+    level_held(level, &gaps, m)
+}
+
+// The highest tempo below a doubtful one at which a level is held; 0 where there is none.
+fn slower(level: Level, sources: Sources, doubtful: u32) -> u32
+    requires { ⌜ Searched level sources × (200 ≤ doubtful) × (doubtful ≤ 3000) ⌝ }
+    ensures { λ r. ⌜ ((d : Description) (j : ℕ) → LevelFrom d j level sources → levelHeld d (spacingOf d doubtful) j ≡ false → Slower d j doubtful r) ⌝ }
+{
+    if !held_at(level, sources, 200) {
         return 0;
     }
     let mut low: u32 = 200;
     let mut high = doubtful;
     while 1 < high - low {
         let middle = low + (high - low) / 2;
-        if level_held_at(levels, starts, critical, figures, paced, m, j, middle) {
+        if held_at(level, sources, middle) {
             low = middle;
         } else {
             high = middle;
@@ -56,53 +53,38 @@ fn slower(
 }
 
 // The quote of a judged description, from its tables. The best tempo so far falls only at a level that is in doubt there.
-pub fn quote_by(
-    d: Description,
-    levels: &[[u64; 16]; 32],
-    starts: &[u64; 32],
-    orders: &[bool; 256],
+pub fn quote_by<'a>(
+    levels: &'a [u64; 528],
+    starts: &'a [u64; 32],
+    critical: &'a [u64; 32],
+    ordered: bool,
+    sources: Sources,
+    tasks: usize,
 ) -> Quote
-    requires { ⌜ WellFormed d × Tables d (now levels) (now starts) (now orders) ⌝ }
-    ensures { λ r. ⌜ r ≡ largestBelow (allHeld d) 2801 ⌝ }
+    requires { ⌜ Tabled (now levels) (now starts) (now critical) sources tasks ⌝ }
+    ensures { λ r. ⌜ QuoteBy (now (levels .entry)) (now (starts .entry)) (now (critical .entry)) ordered sources tasks r ⌝ }
 {
-    if !orders_held(d, orders) {
+    if !ordered {
         return Quote::Unquoted(Refusal::NoTempo, 0);
     }
-    let critical = critical_of(d);
-    let sources = sources_of(d);
-    let figures = sources.figures;
-    let paced = sources.paced;
-    let n = d.task_count;
-    let m = d.source_count;
+    let m = sources.count;
     let mut best: u32 = 3000;
-    let mut gaps = spacings_by(&figures, &paced, m, 3000);
+    let mut gaps = gaps_by(sources, 3000);
     let mut j: usize = 0;
-    while j < n {
-        if level_held(levels, starts, &critical, &gaps, m, j) {
+    while j < tasks {
+        let level = level_of(levels, starts, critical, m, j);
+        if level_held(level, &gaps, m) {
             j += 1;
         } else {
-            best = slower(levels, starts, &critical, &figures, &paced, m, j, best);
+            best = slower(level, sources, best);
             if best == 0 {
                 return Quote::Unquoted(Refusal::NoTempo, 0);
             }
-            gaps = spacings_by(&figures, &paced, m, best);
+            gaps = gaps_by(sources, best);
             j += 1;
         }
     }
     Quote::Tempo(best)
-}
-
-// The same from the sets and works that its loads are sums of.
-pub fn quote_from<'a>(d: Description, adds: &'a [u64; 48], works: &'a [u64; 32]) -> Quote
-    requires { ⌜ WellFormed d × LoadsOf d (now adds) (now works) ⌝ }
-    ensures { λ r. ⌜ r ≡ largestBelow (allHeld d) 2801 ⌝ }
-{
-    let n = d.task_count;
-    let m = d.source_count;
-    let levels = levels_of(adds, works, n, m);
-    let starts = starts_of(adds, works, n);
-    let orders = orders_of(d);
-    quote_by(d, &levels, &starts, &orders)
 }
 
 // The quote of a description.
@@ -114,5 +96,13 @@ pub fn quote(d: Description) -> Quote
     if let Outcome::Refused(why, place) = judged {
         return Quote::Unquoted(why, place);
     }
-    quote_from(d, &worked.adds, &worked.works)
+    let t = tables_of(d, &worked.adds, &worked.works);
+    quote_by(
+        &t.levels,
+        &t.starts,
+        &t.critical,
+        t.ordered,
+        t.sources,
+        t.tasks,
+    )
 }

@@ -1,9 +1,9 @@
--- `quote` meets its contract: judged, then quoted. Assumes nothing.
-use borrow.Author.Needs.{needs}
+-- `quotes::quote` meets its contract: judged, then quoted from the tables. Assumes nothing.
 use mathlib.Core.Path.{sym, _∙_}
 use Rattle.theory.proofs.Typed.{typed-widths}
 use Rattle.theory.proofs.FileLaws.{judge-well-formed}
 use Rattle.quotes.proofs.Laws.{quote-refused, quote-judged}
+use borrow.Author.Needs.{needs}
 use Rattle.quotes.proofs.quote.Statement.{statement}
 use Rattle.quotes.proofs.quote.Tie as tie
 
@@ -19,16 +19,23 @@ returns c = quote-refused (c .before .before .before .before .args .d) _ _ (sym 
 enum-told : tie.Need-enum-told
 enum-told c = search needs
 
-quote-from-requires : tie.Need-quote-from-requires
-quote-from-requires c κs =
-    let S = c .before .before .before .before .before .before in
-    let judged = (sym (c .before .before .before .before .before .work-out .ensures .judged) ∙ c .before .before .before .enum-told .given .1) in
-    (judge-well-formed (S .args .d) (typed-widths (S .args .d) _ (S .good .0)) judged, c .before .before .before .before .before .work-out .ensures .worked judged)
+tables-of-requires : tie.Need-tables-of-requires
+tables-of-requires c κs = let S = c .before .before .before .before .before .before in (judge-well-formed (S .args .d) (typed-widths (S .args .d) _ (S .good .0)) (sym (c .before .before .before .before .before .work-out .ensures .judged) ∙ c .before .before .before .enum-told .given .1), c .before .before .before .before .before .work-out .ensures .worked (sym (c .before .before .before .before .before .work-out .ensures .judged) ∙ c .before .before .before .enum-told .given .1))
+
+quote-by-requires : tie.Need-quote-by-requires
+quote-by-requires c κs = record { of = c .before .before .before .before .before .before .before .before .before .before .before .before .args .d; tables = c .before .before .before .before .before .tables-of .ensures .by-levels }
 
 returns-2 : tie.Need-returns-2
-returns-2 c = c .quote-from .ensures ∙ quote-judged (c .before .before .before .before .before .before .before .args .d) (sym (c .before .before .before .before .before .before .work-out .ensures .judged) ∙ c .before .before .before .before .enum-told .given .1)
+returns-2 c = let t = c .before .before .before .before .before .before .tables-of .ensures in c .quote-by .ensures (c .before .before .before .before .before .before .before .before .before .before .before .before .before .args .d) (t .by-levels) (t .all-ordered) ∙ quote-judged (c .before .before .before .before .before .before .before .before .before .before .before .before .before .args .d) (sym (c .before .before .before .before .before .before .before .before .before .before .before .before .work-out .ensures .judged) ∙ c .before .before .before .before .before .before .before .before .before .before .enum-told .given .1)
 
 pub quote-spec : {M : Type 1} → statement M
 quote-spec =
     tie.close
-    (tie.spec work-out-requires enum-known-judged returns enum-told quote-from-requires returns-2)
+    (tie.spec
+    work-out-requires
+    enum-known-judged
+    returns
+    enum-told
+    tables-of-requires
+    quote-by-requires
+    returns-2)

@@ -2,8 +2,9 @@
 pub mod Potential
 pub mod Count
 pub mod Window
-pub mod Trace
-pub mod PotentialSteps
+pub mod Schedule
+pub mod Moves
+pub mod Events
 pub mod Response
 pub mod Token
 pub mod Firing

@@ -3,6 +3,7 @@ use Prim.Native.Nat.{ℕ, zero, suc, _+_, _-_, _≤_, _<_, min}
 use mathlib.Core.Path.{_≡_, refl, ap, _∙_}
 use mathlib.Core.Bool.{Bool, true, false, _||_, _&&_, not, cond}
 use mathlib.Core.List.{List}
+use mathlib.Core.Logic.{_⊎_, inl, inr}
 use native.Mathlib.Omega.{arith}
 use native.Mathlib.Numerals.{add-one}
 use lib.ListN.{length, getD, set, length-set}
@@ -14,11 +15,38 @@ use Rattle.model.specs.declared.Machine.{Machine}
 use Rattle.model.specs.Graph.{linkAt, linked, runOf}
 use Rattle.model.specs.Delays.{spacingOf}
 use Rattle.model.specs.Machine.{awakeAt, usedAt, waitingAt, droppedAt, ageAt, setAwake, setUsed, fire, arrive, highest, runTask, clearInto, endRun, ageAll, stepped}
+use Rattle.lemmas.proofs.Tests.{not-both, or-right}
 use Rattle.theory.proofs.WellFormed.{WellFormed}
 use Rattle.assurance.proofs.Firing.{Sized, Fired, fired, fired-past, getD-task}
 use Rattle.assurance.proofs.Arriving.{comes, Arrived, arrived}
 use Rattle.assurance.proofs.Ending.{highest-le, Cleared, cleared, Aged, aged}
-use Rattle.assurance.proofs.Trace.{awakeAfter}
+
+-- a task once the run of one has gone on: awake before it, whether the run ended, whether it was this task's, whether the one that ended has a link to it
+abbrev pub awakeAfter : Bool → Bool → Bool → Bool → Bool
+awakeAfter m o e l = (m && not (o && e)) || (o && l)
+
+pub after-stays : (m o e l : Bool) → m ≡ true → (o ≡ true → e ≡ true → ⊥) → awakeAfter m o e l ≡ true
+after-stays true true true l p q = absurd (q refl refl)
+after-stays true true false l p q = refl
+after-stays true false e l p q = refl
+after-stays false o e l p q = absurd (not-both p refl)
+
+pub after-wakes : (m o e l : Bool) → awakeAfter m o e l ≡ true → ((m ≡ true) × (o ≡ true → e ≡ false)) ⊎ ((o ≡ true) × (l ≡ true))
+after-wakes true true true l p = inr (refl, p)
+after-wakes true true false l p = inl (refl, λ x. refl)
+after-wakes true false e l p = inl (refl, λ x. absurd (not-both x refl))
+after-wakes false true e l p = inr (refl, p)
+after-wakes false false e l p = absurd (not-both p refl)
+
+pub after-fires : (m o e l : Bool) → o ≡ true → l ≡ true → awakeAfter m o e l ≡ true
+after-fires m true e l p q = or-right (m && not (true && e)) l q
+after-fires m false e l p q = absurd (not-both p refl)
+
+pub after-on : (m o e l : Bool) → o ≡ false → awakeAfter m o e l ≡ m
+after-on true true e l p = absurd (not-both refl p)
+after-on false true e l p = absurd (not-both refl p)
+after-on true false e l p = refl
+after-on false false e l p = refl
 
 -- whether the run of h ends in a tick that finds the record m
 abbrev pub overAt : Description → ℕ → Bool → Machine → Bool

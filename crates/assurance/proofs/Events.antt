@@ -8,6 +8,7 @@ use lib.Dec.{ltb, eqb}
 use borrow.Author.Tests.{eq-eqb, eqb-true, eqb-false, ltb-true, ltb-false}
 use Rattle.model.specs.Graph.{System}
 use Rattle.lemmas.proofs.Tests.{Cmp, less, same, more, cmp, at-or-not, not-both, false-of, or-new, or-false-left, or-false-right, both, and-left, and-right}
+use Rattle.lemmas.proofs.Bools.{or-off}
 use Rattle.theory.proofs.WellFormed.{Loaded, Shaped}
 use Rattle.assurance.proofs.Potential.{live, live-used, live-pending}
 use Rattle.assurance.proofs.Schedule.{Schedule, liveAt, liveMid, beginsAt, endsAt, ends-ran, ends-over, ends-of, used-other, used-on}
@@ -157,7 +158,3 @@ module _ {s : System} (L : Loaded s) (G : Shaped s) {gap : ℕ → ℕ} (S : Sch
       go : (b : Bool) → beginsAt S j x ≡ b → Held (S .used (suc x)) (S .pending (suc x)) j (inProgress S j x || beginsAt S j x)
       go true q = absurd (other (sym (eqb-true (S .ran x) j (and-left (eqb (S .ran x) j) _ q))))
       go false q = rw (q, or-off (inProgress S j x), ← used-other S x j isTask other) next
-        where
-          or-off : (b : Bool) → (b || false) ≡ b
-          or-off true = refl
-          or-off false = refl

@@ -1,6 +1,6 @@
 -- What one tick does to each part of the machine's record. Assumes nothing.
 use Prim.Native.Nat.{ℕ, zero, suc, _+_, _-_, _≤_, _<_, min}
-use mathlib.Core.Path.{_≡_, refl, ap, _∙_}
+use mathlib.Core.Path.{_≡_, refl, sym, ap, _∙_}
 use mathlib.Core.Bool.{Bool, true, false, _||_, _&&_, not, cond}
 use mathlib.Core.List.{List}
 use mathlib.Core.Logic.{_⊎_, inl, inr}
@@ -16,6 +16,7 @@ use Rattle.model.specs.Graph.{linkAt, linked, runOf}
 use Rattle.model.specs.Delays.{spacingOf}
 use Rattle.model.specs.Machine.{awakeAt, usedAt, waitingAt, droppedAt, ageAt, setAwake, setUsed, fire, arrive, highest, runTask, clearInto, endRun, ageAll, stepped}
 use Rattle.lemmas.proofs.Tests.{not-both, or-right}
+use Rattle.lemmas.proofs.Bools.{or-off, or-idle-right, and-on, set-false}
 use Rattle.theory.proofs.WellFormed.{WellFormed}
 use Rattle.assurance.proofs.Firing.{Sized, Fired, fired, fired-past, getD-task}
 use Rattle.assurance.proofs.Arriving.{comes, Arrived, arrived}
@@ -63,19 +64,7 @@ pub record Ran (d : Description) (h : ℕ) (o : Bool) (m m′ : Machine) : Type 
   pub past : (l : ℕ) → d .«link_count» ≤ l → (waitingAt m′ l ≡ waitingAt m l) × (droppedAt m′ l ≡ droppedAt m l)
 
 keep : (b : Bool) → b ≡ (b && true || false)
-keep true = refl
-keep false = refl
-
-keep₂ : (a b : Bool) → a ≡ (a || (b && true && false))
-keep₂ true b = refl
-keep₂ false true = refl
-keep₂ false false = refl
-
-slept : (a e l : Bool) → (cond e false a || l) ≡ ((a && not e) || l)
-slept true true l = refl
-slept true false l = refl
-slept false true l = refl
-slept false false l = refl
+keep b = sym (or-off (b && true) ∙ and-on b true refl)
 
 module _ (d : Description) (wf : WellFormed d) where
   run-none : (m : Machine) → runTask 0 m ≡ m
@@ -105,7 +94,7 @@ module _ (d : Description) (wf : WellFormed d) where
     awake = λ k o. keep (awakeAt m k);
     used = λ k o. rw (ne-eqb k 0 (λ e. omega arith)) refl;
     waiting = λ l p. keep (waitingAt m l);
-    dropped = λ l p. keep₂ (droppedAt m l) (waitingAt m l);
+    dropped = λ l p. or-idle-right (droppedAt m l) (waitingAt m l && true) false refl;
     past = λ l p. (refl, refl);
   }
 
@@ -123,7 +112,7 @@ module _ (d : Description) (wf : WellFormed d) where
     awake = λ k o. keep (awakeAt m k);
     used = λ k o. getD-task (m .used) h (usedAt m h + 1) 0 k o p (omega (arith, z .useds)) ∙ one k (eqb k h) refl;
     waiting = λ l r. keep (waitingAt m l);
-    dropped = λ l r. keep₂ (droppedAt m l) (waitingAt m l);
+    dropped = λ l r. or-idle-right (droppedAt m l) (waitingAt m l && true) false refl;
     past = λ l r. (refl, refl);
   }
     where
@@ -144,17 +133,13 @@ module _ (d : Description) (wf : WellFormed d) where
       record {
         sized = f .sized;
         ages = f .ages ∙ c .ages;
-        awake = λ k o. f .awake k o ∙ rw (c .awake, getD-task (m .awake) h false false k o p (omega (arith, z .awakes))) (slept (awakeAt m k) (eqb k h) _);
+        awake = λ k o. f .awake k o ∙ rw (c .awake, getD-task (m .awake) h false false k o p (omega (arith, z .awakes))) (rw (set-false (eqb k h) (awakeAt m k)) refl);
         used = λ k o. rw (f .used, c .used) (getD-task us h 0 0 k o p (omega arith) ∙ zeroed k o (eqb k h) refl);
         waiting = λ l r. f .waiting l ∙ rw (lt-ltb l (d .«link_count») r, c .waiting l, lt-ltb l (d .«link_count») r) refl;
         dropped = λ l r. f .dropped l ∙ rw (lt-ltb l (d .«link_count») r, c .waiting l, c .dropped, lt-ltb l (d .«link_count») r) refl;
-        past = λ l r. (fired-past d h (clearInto d h m₃) (fire d h (clearInto d h m₃)) f l r .0 ∙ (c .waiting l ∙ rw (le-ltb l (d .«link_count») r) (on (waitingAt m l))), fired-past d h (clearInto d h m₃) (fire d h (clearInto d h m₃)) f l r .1 ∙ ap (λ (ds : List Bool). getD ds l false) (c .dropped));
+        past = λ l r. (fired-past d h (clearInto d h m₃) (fire d h (clearInto d h m₃)) f l r .0 ∙ (c .waiting l ∙ rw (le-ltb l (d .«link_count») r) (and-on (waitingAt m l) true refl)), fired-past d h (clearInto d h m₃) (fire d h (clearInto d h m₃)) f l r .1 ∙ ap (λ (ds : List Bool). getD ds l false) (c .dropped));
       }
     where
-      on : (b : Bool) → (b && true) ≡ b
-      on true = refl
-      on false = refl
-
       zeroed : (k : ℕ) → 1 ≤ k → (b : Bool) → eqb k h ≡ b → cond (eqb k h) 0 (getD (set (m .used) (h - 1) (usedAt m h + 1)) (k - 1) 0) ≡ cond (eqb k h) 0 (usedAt m k)
       zeroed k o true e = rw e refl
       zeroed k o false e =

@@ -1,5 +1,5 @@
 -- Demand 3 for one accepted description, from what the other files show of it. Assumes nothing.
-use Prim.Native.Nat.{ℕ, suc, _+_, _-_, _≤_, _<_}
+use Prim.Native.Nat.{ℕ, _+_, _-_, _≤_, _<_}
 use mathlib.Core.Path.{_≡_, refl, sym, ap, _∙_}
 use mathlib.Core.Bool.{Bool, true, false, _&&_, not, cond}
 use mathlib.Core.List.{List, _∷_}
@@ -7,7 +7,7 @@ use mathlib.Core.Logic.{_⊎_, inl, inr}
 use native.Mathlib.Omega.{arith}
 use lib.ListN.{length, getD}
 use lib.Dec.{ltb, eqb}
-use borrow.Author.Tests.{eqb-true, eq-eqb, lt-ltb, le-ltb, ltb-false}
+use borrow.Author.Tests.{eqb-true, lt-ltb, le-ltb}
 use Rattle.model.specs.declared.Description.{Description}
 use Rattle.model.specs.declared.Machine.{Machine}
 use Rattle.model.specs.declared.Ticked.{Ticked}
@@ -17,20 +17,19 @@ use Rattle.model.specs.Graph.{system, linkAt, linked}
 use Rattle.model.specs.Delays.{Settled, unchanged, reached, delayOf, roundOf, spacingOf}
 use Rattle.model.specs.Order.{inOrder, InOrder}
 use Rattle.model.specs.Verdicts.{settledVerdict, sourceVerdict, orderVerdict, verdictOf, verdictAt, doubtful, delayIn, allHeld}
-use Rattle.model.specs.Machine.{idle, waitingAt, droppedAt, usedAt}
-use Rattle.model.specs.History.{Call, Tick, answers, left, observe, ticks, fires, begins, ends, partDone, tickAt, servedBefore, Dropped, waitOf}
+use Rattle.model.specs.Machine.{idle, droppedAt, usedAt}
+use Rattle.model.specs.History.{Call, Tick, answers, left, observe, ticks, fires, begins, ends, partDone, tickAt, Dropped, waitOf}
 use Rattle.model.specs.Promise.{Calls, none, call, Assured}
-use Rattle.lemmas.proofs.Tests.{Cmp, less, same, more, cmp, not-both, both}
+use Rattle.lemmas.proofs.Tests.{not-both}
 use Rattle.lemmas.proofs.Range.{all-at}
 use Rattle.theory.proofs.WellFormed.{WellFormed, Loaded, Shaped, IsTask}
-use Rattle.assurance.proofs.Schedule.{Schedule, beginsAt, endsAt, Preempts}
-use Rattle.assurance.proofs.Events.{Held, Waits, waits-fresh, waits-live, inProgress, no-end, source-held, task-held}
-use Rattle.assurance.proofs.Response.{delay-some, wait-bound, source-kept}
-use Rattle.assurance.proofs.Token.{token-kept, preempts-quiet}
+use Rattle.assurance.proofs.Schedule.{Schedule, Preempts}
+use Rattle.assurance.proofs.Events.{came, Takes, no-end, joins}
 use Rattle.assurance.proofs.Replay.{callAt, taken, Replayed, replayed}
 use Rattle.assurance.proofs.Machine.{at, highAt, endAt, schedule, preempts, schedule-arr, schedule-begins, schedule-ends, schedule-used}
 use Rattle.assurance.proofs.Marks.{Drop, dropped-drop, drop-dropped, firesIn, endsIn, link-here, kind, link-marked}
-use Rattle.assurance.proofs.Serving.{served-not, unserved-waits, wait-le}
+use Rattle.assurance.proofs.Serving.{Shows, served-not}
+use Rattle.assurance.proofs.Links.{dropped-waits, source-not-dropped, source-waits, task-not-dropped}
 
 -- what is known of an accepted description d with the quote q, and of a tempo t up to it
 pub record Facts (d : Description) (q t : ℕ) : Type 0 where
@@ -89,34 +88,23 @@ module _ (d : Description) (q t : ℕ) (F : Facts d q t) (cs : List Call) where
   unfolding observe
   ends-is x j p = ap (λ (k : Tick). ends k j) (shown x p)
 
-  -- the same in the schedule's words
-  shows-ends : (j x : ℕ) → x < length hist → ends (tickAt hist x) j ≡ endsAt S j x
-  unfolding S
-  shows-ends j x p = ends-is x j p ∙ sym (schedule-ends d wf t ks gap (F .spaced) (R .passed) j x)
+  -- the list shows the schedule
+  takes : Takes S
+  takes = joins S (F .loaded) (F .shaped)
 
-  shows-begins : (j x : ℕ) → x < length hist → begins (tickAt hist x) j ≡ beginsAt S j x
-  unfolding S observe
-  shows-begins j x p =
-      ap (λ (k : Tick). begins k j) (shown x p) ∙ (go (eqb (highAt d wf t ks x) j) refl ∙ sym (schedule-begins d wf t ks gap (F .spaced) (R .passed) j x))
+  shows : Shows hist S takes
+  unfolding S takes joins observe
+  shows = record {
+    begins-is = λ j x p. ap (λ (k : Tick). begins k j) (shown x p) ∙ (began j x (eqb (highAt d wf t ks x) j) refl ∙ sym (schedule-begins d wf t ks gap (F .spaced) (R .passed) j x));
+    ends-is = λ j x p. ends-is x j p ∙ sym (schedule-ends d wf t ks gap (F .spaced) (R .passed) j x);
+    arrives-is = λ i x s p. fires-is x i p ∙ (ap (λ (b : Bool). cond b (eqb (highAt d wf t ks x) i && endAt d wf t ks x) (getD (callAt ks x .arrivals .marks) (i - 33) false)) (le-ltb i 33 s) ∙ sym (schedule-arr d wf t ks gap (F .spaced) (R .passed) x i));
+    taken-is = λ j x p. ap (λ (n : ℕ). ltb 0 n) (schedule-used d wf t ks gap (F .spaced) (R .passed) x j) ∙ sym (ap (λ (k : Tick). partDone k j) (shown x p));
+  }
     where
-      go : (b : Bool) → eqb (highAt d wf t ks x) j ≡ b → (eqb (highAt d wf t ks x) j && eqb (usedAt (at d wf t ks x) (highAt d wf t ks x)) 0) ≡ (eqb (highAt d wf t ks x) j && eqb (usedAt (at d wf t ks x) j) 0)
-      go true e =
+      began : (j x : ℕ) (b : Bool) → eqb (highAt d wf t ks x) j ≡ b → (eqb (highAt d wf t ks x) j && eqb (usedAt (at d wf t ks x) (highAt d wf t ks x)) 0) ≡ (eqb (highAt d wf t ks x) j && eqb (usedAt (at d wf t ks x) j) 0)
+      began j x true e =
           ap (λ (k : ℕ). eqb (highAt d wf t ks x) j && eqb (usedAt (at d wf t ks x) k) 0) (eqb-true (highAt d wf t ks x) j e)
-      go false e = rw e refl
-
-  shows-part : (j x : ℕ) → x < length hist → inProgress S j x ≡ partDone (tickAt hist x) j
-  unfolding S observe
-  shows-part j x p =
-      ap (λ (n : ℕ). ltb 0 n) (schedule-used d wf t ks gap (F .spaced) (R .passed) x j) ∙ sym (ap (λ (k : Tick). partDone k j) (shown x p))
-
-  shows-arrives : (i x : ℕ) → 33 ≤ i → x < length hist → fires (tickAt hist x) i ≡ S .arr x i
-  unfolding S
-  shows-arrives i x s p =
-      fires-is x i p ∙ (ap (λ (b : Bool). cond b (eqb (highAt d wf t ks x) i && endAt d wf t ks x) (getD (callAt ks x .arrivals .marks) (i - 33) false)) (le-ltb i 33 s) ∙ sym (schedule-arr d wf t ks gap (F .spaced) (R .passed) x i))
-
-  shows-fires : (i x : ℕ) → i ≤ 32 → x < length hist → fires (tickAt hist x) i ≡ endsAt S i x
-  shows-fires i x s p =
-      ap (λ (b : Bool). cond b (ends (tickAt hist x) i) (getD (tickAt hist x .arrived) (i - 33) false)) (lt-ltb i 33 (omega arith)) ∙ shows-ends i x p
+      began j x false e = rw e refl
 
   -- the link at place l
   module _ (l : ℕ) (p : l < d .«link_count») where
@@ -128,11 +116,6 @@ module _ (d : Description) (q t : ℕ) (F : Facts d q t) (cs : List Call) where
 
     isTask : 1 ≤ j
     isTask = wf .link-to l p .0
-
-    -- an event that History has unserved waits in the schedule
-    waits-of : {ev : ℕ → Bool} (x y : ℕ) → ev x ≡ true → x < y → y ≤ length hist → servedBefore hist j x y ≡ false → Waits S j ev (inProgress S j) y x
-    waits-of {ev} x y e q r f =
-        unserved-waits hist S j (shows-begins j) (shows-ends j) {ev = ev} {taken = inProgress S j} x e (shows-part j x (omega arith)) y q r f
 
     -- the dropped mark is set exactly as the events say
     marked-drop : droppedAt (at d wf t ks (length hist)) l ≡ true → Dropped hist i j
@@ -150,10 +133,12 @@ module _ (d : Description) (q t : ℕ) (F : Facts d q t) (cs : List Call) where
         }
 
     drop-marked : Dropped hist i j → droppedAt (at d wf t ks (length hist)) l ≡ true
+    unfolding takes joins
     drop-marked k =
-        let w : Waits S j (λ x. fires (tickAt hist x) i) (inProgress S j) (k .second) (k .before) = waits-of (k .before) (k .second) (k .fired-before) (k .earlier) (omega (arith, k .in-list)) (k .not-served) in
-        drop-dropped (link-marked d wf (F .loaded) t ks l p) (length hist) (k .second) (k .before) (k .in-list) (k .earlier) (sym (fires-is (k .second) i (k .in-list)) ∙ k .fired-second) (sym (fires-is (k .before) i (omega (arith, k .earlier, k .in-list))) ∙ k .fired-before)
-        (λ z a b. sym (ends-is z j (omega (arith, k .in-list))) ∙ (shows-ends j z (omega (arith, k .in-list)) ∙ no-end S j isTask (w .unserved) z a b))
+        let w = dropped-waits hist S takes shows i j {ev = firesIn d wf (F .loaded) t ks i} (λ x r. fires-is x i r) k in
+        let e : firesIn d wf (F .loaded) t ks i (k .before) ≡ true = came S j (w .0 .unserved) .0 in
+        drop-dropped (link-marked d wf (F .loaded) t ks l p) (length hist) (k .second) (k .before) (k .in-list) (k .earlier) (w .1) e
+        (λ z a b. sym (ends-is z j (omega (arith, k .in-list))) ∙ (shows .ends-is j z (omega (arith, k .in-list)) ∙ no-end S j isTask (w .0 .unserved) z a b))
 
     linked-here : system d .link i j ≡ true
     unfolding system
@@ -188,46 +173,24 @@ module _ (d : Description) (q t : ℕ) (F : Facts d q t) (cs : List Call) where
       fixed : roundOf (system d) gap j (delay-is .0) ≡ delay-is .0
       fixed = F .settled i j (delay-is .0) (delay-is .1) .0
 
-      holds : (x : ℕ) → S .arr x i ≡ true → Held (S .used x) (S .pendingMid x) j (inProgress S j x)
-      holds x e = source-held (F .loaded) (F .shaped) S i j linked-here isSource few x e
+      kept : Dropped hist i j → ⊥
+      kept k =
+          source-not-dropped (F .loaded) (F .shaped) S P takes hist shows i j linked-here one-spaced isSource few (delay-is .0) fixed (F .settled i j (delay-is .0) (delay-is .1) .1) k
 
-      source-not-dropped : Dropped hist i j → ⊥
-      source-not-dropped k =
-          source-kept (F .loaded) (F .shaped) S one-spaced i j isSource few linked-here (inProgress S j) holds (delay-is .0) fixed P (F .settled i j (delay-is .0) (delay-is .1) .1) (k .second) (k .before)
-          (waits-of (k .before) (k .second) (sym (shows-arrives i (k .before) isSource (omega (arith, k .earlier, k .in-list))) ∙ k .fired-before) (k .earlier) (omega (arith, k .in-list)) (k .not-served))
-          (sym (shows-arrives i (k .second) isSource (k .in-list)) ∙ k .fired-second)
-
-      source-waits : (x : ℕ) → x < length hist → fires (tickAt hist x) i ≡ true → waitOf hist j x ≤ delay-is .0
-      source-waits x r e =
-          wait-le hist S j (shows-begins j) (shows-ends j) {ev = λ z. S .arr z i} {taken = inProgress S j} x (sym (shows-arrives i x isSource r) ∙ e) (shows-part j x r) (delay-is .0) (delay-some (F .loaded) (F .shaped) S one-spaced i j isSource few linked-here (inProgress S j) holds (delay-is .0) fixed) r
-          (λ y w. wait-bound (F .loaded) (F .shaped) S one-spaced i j isSource few linked-here (inProgress S j) holds (delay-is .0) fixed P y x w)
+      waits-most : (x : ℕ) → x < length hist → fires (tickAt hist x) i ≡ true → waitOf hist j x ≤ delay-is .0
+      waits-most x r e =
+          source-waits (F .loaded) (F .shaped) S P takes hist shows i j linked-here one-spaced isSource few (delay-is .0) fixed x r e
 
     -- a critical link from a task is held in order
-    abbrev waits : ℕ → ℕ → Type 0
-    waits = Waits S j (endsAt S i) (inProgress S j)
-
-    task-not-dropped : linkAt d l .critical ≡ 1 → IsTask (system d) i → Dropped hist i j → ⊥
+    order-kept : linkAt d l .critical ≡ 1 → IsTask (system d) i → Dropped hist i j → ⊥
     unfolding verdictAt verdictOf orderVerdict
-    task-not-dropped crit own k = go (inOrder (system d) i j) refl
+    order-kept crit own k = go (inOrder (system d) i j) refl
       where
-        fresh : (y x : ℕ) → waits y x ⊎ ((x ≡ y) × (endsAt S i y ≡ true)) → waits y x ⊎ (endsAt S i y ≡ true)
-        fresh y x (inl w) = inl w
-        fresh y x (inr w) = inr (w .1)
-
-        low : i ≤ 32
-        low = omega (arith, own .1, F .shaped .few)
-
         go : (b : Bool) → inOrder (system d) i j ≡ b → ⊥
         go true e =
-            let o : InOrder (system d) i j = F .ordered i j own (link-here d wf (F .loaded) t ks l p) e in
-            token-kept (F .shaped) S i (o .F) (o .N) (o .hood) waits
-            (record { none = λ x w. omega (arith, w .before); fresh = λ y x w. fresh y x (waits-fresh S j y x w) })
-            (preempts-quiet (F .shaped) S i (o .F) (o .N) (o .hood) waits P j (F .shaped .to-task i j linked-here .1) (o .below) (waits-live S j isTask (λ x f g. task-held (F .loaded) (F .shaped) S i j linked-here x f)))
-            (k .second) (k .before)
-            (waits-of (k .before) (k .second) (sym (shows-fires i (k .before) low (omega (arith, k .earlier, k .in-list))) ∙ k .fired-before) (k .earlier) (omega (arith, k .in-list)) (k .not-served))
-            (sym (shows-fires i (k .second) low (k .in-list)) ∙ k .fired-second)
+            task-not-dropped (F .loaded) (F .shaped) S P takes hist shows i j linked-here own (F .ordered i j own (link-here d wf (F .loaded) t ks l p) e) k
         go false e =
-            let v : verdictAt d q l ≡ DoubtOrder = rw (crit, lt-ltb i 33 (omega arith), e) refl in
+            let v : verdictAt d q l ≡ DoubtOrder = rw (crit, lt-ltb i 33 (omega (arith, own .1, F .shaped .few)), e) refl in
             not-both not-doubtful (ap (λ (w : Verdict). not (doubtful w)) v)
 
     link-not-dropped : linkAt d l .critical ≡ 1 → Dropped hist i j → ⊥
@@ -235,15 +198,15 @@ module _ (d : Description) (q t : ℕ) (F : Facts d q t) (cs : List Call) where
     link-not-dropped crit k = go (wf .link-from l p)
       where
         go : IsTask (system d) i ⊎ ((33 ≤ i) × (i < 33 + d .«source_count»)) → ⊥
-        go (inl own) = task-not-dropped crit own k
-        go (inr s) = source-not-dropped crit (s .0) (s .1) k
+        go (inl own) = order-kept crit own k
+        go (inr s) = kept crit (s .0) (s .1) k
 
     link-waits : linkAt d l .critical ≡ 1 → 33 ≤ i → (x : ℕ) → x < length hist → fires (tickAt hist x) i ≡ true → waitOf hist j x ≤ delayIn (verdictAt d q l)
     link-waits crit s x r e = go (kind d wf (F .loaded) t ks l p)
       where
         go : (i ≤ 32) ⊎ ((33 ≤ i) × (i < 33 + d .«source_count»)) → waitOf hist j x ≤ delayIn (verdictAt d q l)
         go (inl a) = absurd (omega arith)
-        go (inr a) = omega (arith, source-waits crit s (a .1) x r e, delay-is crit s (a .1) .2)
+        go (inr a) = omega (arith, waits-most crit s (a .1) x r e, delay-is crit s (a .1) .2)
 
   left-is : left d t (idle d t) cs ≡ at d wf t ks (length hist)
   left-is = R .ends-at ∙ ap (λ (n : ℕ). at d wf t ks n) (sym (R .as-many))

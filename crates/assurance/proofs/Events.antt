@@ -1,17 +1,17 @@
--- The events for a task and the runs that take them: as long as an event is unserved, its run is in progress or pending.
+-- The events for a task and the runs that take them: as long as an event is unserved, its run is in progress or pending. Assumes nothing.
 use Prim.Native.Nat.{ℕ, zero, suc, _+_, _≤_, _<_}
 use mathlib.Core.Path.{_≡_, refl, sym, _∙_}
 use mathlib.Core.Bool.{Bool, true, false, _||_, _&&_}
 use mathlib.Core.Logic.{_⊎_, inl, inr}
 use native.Mathlib.Omega.{arith}
 use lib.Dec.{ltb, eqb}
-use borrow.Author.Tests.{eq-eqb, eqb-true, eqb-false, ltb-true, ltb-false}
+use borrow.Author.Tests.{eq-eqb, eqb-true, ltb-true, ltb-false}
 use Rattle.model.specs.Graph.{System}
-use Rattle.lemmas.proofs.Tests.{Cmp, less, same, more, cmp, at-or-not, not-both, false-of, or-new, or-false-left, or-false-right, both, and-left, and-right}
+use Rattle.lemmas.proofs.Tests.{Cmp, less, same, more, cmp, at-or-not, not-both, false-of, or-new, or-false-left, or-false-right, both, and-left}
 use Rattle.lemmas.proofs.Bools.{or-off}
 use Rattle.theory.proofs.WellFormed.{Loaded, Shaped}
 use Rattle.assurance.proofs.Potential.{live, live-used, live-pending}
-use Rattle.assurance.proofs.Schedule.{Schedule, liveAt, liveMid, beginsAt, endsAt, ends-ran, ends-over, ends-of, used-other, used-on}
+use Rattle.assurance.proofs.Schedule.{Schedule, liveMid, beginsAt, endsAt, ends-ran, ends-over, ends-of, used-other, used-on}
 
 -- the run of j that takes an event, by whether it has begun: it is in progress, or else it is pending
 pub record Held (us : ℕ → ℕ) (ps : ℕ → Bool) (j : ℕ) (begun : Bool) : Type 0 where
@@ -102,29 +102,58 @@ module _ {s : System} {gap : ℕ → ℕ} (S : Schedule s gap) (j : ℕ) (isTask
     pub waits-held : (y x : ℕ) (w : Waits S j ev taken y x) → Held (S .used y) (S .pending y) j (w .begun)
     waits-held y x w = held-later (w .unserved) (w .before)
 
-    pub waits-live : (y x : ℕ) → Waits S j ev taken y x → liveMid S y j ≡ true
-    waits-live y x w =
-        held-live (S .used y) (S .pendingMid y) j (w .begun) (held-mid y (w .begun) (waits-held y x w))
+-- How a machine takes events: whether the run that takes the event of a tick for a task has begun when it comes, and that it is then in
+-- progress or pending. A source fires before the run of its tick, a task after it.
+pub record Takes {s : System} {gap : ℕ → ℕ} (S : Schedule s gap) : Type 0 where
+  pub taken : ℕ → ℕ → Bool
+  pub from-source : (i j x : ℕ) → 33 ≤ i → i < 33 + s .sources → s .link i j ≡ true → S .arr x i ≡ true → Held (S .used x) (S .pendingMid x) j (taken j x)
+  pub from-task : (i j x : ℕ) → s .link i j ≡ true → endsAt S i x ≡ true → Held (S .used (suc x)) (S .pending (suc x)) j (taken j x || beginsAt S j x)
+
+module _ {s : System} (G : Shaped s) {gap : ℕ → ℕ} (S : Schedule s gap) (T : Takes S) (i j : ℕ) (linked : s .link i j ≡ true) where
+  isTask : 1 ≤ j
+  isTask = G .to-task i j linked .0
+
+  -- an event of source i, or of task i, that no run of j has served before tick y; while it waits, j is live
+  abbrev pub SourceWaits : ℕ → ℕ → Type 0
+  SourceWaits = Waits S j (λ x. S .arr x i) (T .taken j)
+
+  abbrev pub TaskWaits : ℕ → ℕ → Type 0
+  TaskWaits = Waits S j (endsAt S i) (T .taken j)
+
+  pub source-held : 33 ≤ i → i < 33 + s .sources → (y x : ℕ) (w : SourceWaits y x) → Held (S .used y) (S .pending y) j (w .begun)
+  source-held p q =
+      waits-held S j isTask (λ x e f. held-tick S j isTask x (T .taken j x) (T .from-source i j x p q linked e) f)
+
+  pub source-live : 33 ≤ i → i < 33 + s .sources → (y x : ℕ) → SourceWaits (suc y) x → liveMid S y j ≡ true
+  source-live p q y x w = go (waits-fresh S j y x w)
+    where
+      go : SourceWaits y x ⊎ ((x ≡ y) × (S .arr y i ≡ true)) → liveMid S y j ≡ true
+      go (inl v) = held-live (S .used y) (S .pendingMid y) j (v .begun) (held-mid S j isTask y (v .begun) (source-held p q y x v))
+      go (inr v) = held-live (S .used y) (S .pendingMid y) j (T .taken j y) (T .from-source i j y p q linked (v .1))
+
+  pub task-live : (y x : ℕ) → TaskWaits y x → liveMid S y j ≡ true
+  task-live y x w =
+      held-live (S .used y) (S .pendingMid y) j (w .begun) (held-mid S j isTask y (w .begun) (waits-held S j isTask (λ z e f. T .from-task i j z linked e) y x w))
 
 -- The base machine: an event is taken by the run that it finds in progress, or else by the one begun next.
-module _ {s : System} {gap : ℕ → ℕ} (S : Schedule s gap) (j : ℕ) where
-  abbrev pub inProgress : ℕ → Bool
-  inProgress x = ltb 0 (S .used x j)
+module _ {s : System} {gap : ℕ → ℕ} (S : Schedule s gap) where
+  abbrev pub inProgress : ℕ → ℕ → Bool
+  inProgress j x = ltb 0 (S .used x j)
 
   -- so the first run to end from the event's tick on serves it
-  module _ (isTask : 1 ≤ j) {ev : ℕ → Bool} where
-    unbegun : {x y : ℕ} {b : Bool} → Unserved S j ev inProgress x y b → b ≡ false → S .used y j ≡ 0
+  module _ (j : ℕ) (isTask : 1 ≤ j) {ev : ℕ → Bool} where
+    unbegun : {x y : ℕ} {b : Bool} → Unserved S j ev (inProgress j) x y b → b ≡ false → S .used y j ≡ 0
     unbegun {x} (new e) p = let z : S .used x j ≤ 0 = ltb-false 0 (S .used x j) p in omega arith
     unbegun (later {y = y} {b = b} u f) p =
         let z : S .used y j ≡ 0 = unbegun u (or-false-left b _ p) in
         used-other S y j isTask (λ q. not-both (both (eqb (S .ran y) j) _ (eq-eqb (S .ran y) j (sym q)) (eq-eqb (S .used y j) 0 z)) (or-false-right b _ p)) ∙ z
 
-    begun-now : {x y : ℕ} {b : Bool} → Unserved S j ev inProgress x y b → endsAt S j y ≡ true → (b || beginsAt S j y) ≡ true
+    begun-now : {x y : ℕ} {b : Bool} → Unserved S j ev (inProgress j) x y b → endsAt S j y ≡ true → (b || beginsAt S j y) ≡ true
     begun-now {y = y} {b = true} u e = refl
     begun-now {y = y} {b = false} u e =
         both (eqb (S .ran y) j) _ (and-left (eqb (S .ran y) j) _ e) (eq-eqb (S .used y j) 0 (unbegun u refl))
 
-    pub no-end : {x y : ℕ} {b : Bool} → Unserved S j ev inProgress x y b → (z : ℕ) → x ≤ z → z < y → endsAt S j z ≡ false
+    pub no-end : {x y : ℕ} {b : Bool} → Unserved S j ev (inProgress j) x y b → (z : ℕ) → x ≤ z → z < y → endsAt S j z ≡ false
     no-end (new e) z p q = absurd (omega arith)
     no-end (later {y = y} {b = b} u f) z p q = go (cmp z y) (λ r. no-end u z p r)
       where
@@ -134,17 +163,9 @@ module _ {s : System} {gap : ℕ → ℕ} (S : Schedule s gap) (j : ℕ) where
             rw r (false-of (endsAt S j y) (λ o. not-both (both (b || beginsAt S j y) (endsAt S j y) (begun-now u o) o) f))
         go (more r) ih = absurd (omega arith)
 
-module _ {s : System} (L : Loaded s) (G : Shaped s) {gap : ℕ → ℕ} (S : Schedule s gap) (i j : ℕ) (linked : s .link i j ≡ true) where
-  isTask : 1 ≤ j
-  isTask = G .to-task i j linked .0
-
-  -- from a source
-  pub source-held : 33 ≤ i → i < 33 + s .sources → (x : ℕ) → S .arr x i ≡ true → Held (S .used x) (S .pendingMid x) j (inProgress S j x)
-  source-held p q x e = live-held (S .used x) (S .pendingMid x) j (S .mid-live x i j p q e linked)
-
   -- from a task, which is another one and so leaves what j has used as it is
-  pub task-held : (x : ℕ) → endsAt S i x ≡ true → Held (S .used (suc x)) (S .pending (suc x)) j (inProgress S j x || beginsAt S j x)
-  task-held x e = go (beginsAt S j x) refl
+  pub joins-task : Loaded s → Shaped s → (i j x : ℕ) → s .link i j ≡ true → endsAt S i x ≡ true → Held (S .used (suc x)) (S .pending (suc x)) j (inProgress j x || beginsAt S j x)
+  joins-task L G i j x linked e = go (beginsAt S j x) refl
     where
       ran : S .ran x ≡ i
       ran = ends-ran S i x e
@@ -155,6 +176,13 @@ module _ {s : System} (L : Loaded s) (G : Shaped s) {gap : ℕ → ℕ} (S : Sch
       next : Held (S .used (suc x)) (S .pending (suc x)) j (ltb 0 (S .used (suc x) j))
       next = live-held (S .used (suc x)) (S .pending (suc x)) j (S .next-live x j (ends-over S i x e) (rw ran linked))
 
-      go : (b : Bool) → beginsAt S j x ≡ b → Held (S .used (suc x)) (S .pending (suc x)) j (inProgress S j x || beginsAt S j x)
+      go : (b : Bool) → beginsAt S j x ≡ b → Held (S .used (suc x)) (S .pending (suc x)) j (inProgress j x || beginsAt S j x)
       go true q = absurd (other (sym (eqb-true (S .ran x) j (and-left (eqb (S .ran x) j) _ q))))
-      go false q = rw (q, or-off (inProgress S j x), ← used-other S x j isTask other) next
+      go false q = rw (q, or-off (inProgress j x), ← used-other S x j (G .to-task i j linked .0) other) next
+
+  unfoldable pub joins : Loaded s → Shaped s → Takes S
+  joins L G = record {
+    taken = inProgress;
+    from-source = λ i j x p q l e. live-held (S .used x) (S .pendingMid x) j (S .mid-live x i j p q e l);
+    from-task = joins-task L G;
+  }

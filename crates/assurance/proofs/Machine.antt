@@ -1,4 +1,4 @@
--- The accepted ticks of the plain machine are a schedule, and a preemptive one.
+-- The accepted ticks of the plain machine are a schedule, and a preemptive one. Assumes nothing.
 use Prim.Native.Nat.{ℕ, zero, suc, _+_, _-_, _≤_, _<_, min}
 use mathlib.Core.Path.{_≡_, refl, sym, ap, _∙_}
 use mathlib.Core.Bool.{Bool, true, false, _||_, _&&_, not, cond}
@@ -24,7 +24,7 @@ use Rattle.assurance.proofs.Arriving.{arrived}
 use Rattle.assurance.proofs.Ending.{highest-le, highest-above, highest-awake}
 use Rattle.assurance.proofs.Stepping.{after-stays, after-wakes, after-fires, after-on, overAt, Stepped, step}
 use Rattle.assurance.proofs.Potential.{live}
-use Rattle.assurance.proofs.Schedule.{Left, Schedule, liveMid, beginsAt, endsAt, Preempts, below}
+use Rattle.assurance.proofs.Schedule.{Left, Schedule, beginsAt, endsAt, Preempts, below}
 use Rattle.assurance.proofs.Replay.{quietCall, callAt, stateAt, Passed}
 
 -- an entry of a list of one value is that value, past its end too

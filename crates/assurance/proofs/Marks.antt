@@ -1,4 +1,4 @@
--- A link's two marks: from tick to tick, and what they say of its events. Assumes nothing.
+-- A link's two marks: from tick to tick, and what they say of its events (waiting: the last is unserved). Assumes nothing.
 use Prim.Native.Nat.{ℕ, zero, suc, _+_, _-_, _≤_, _<_}
 use mathlib.Core.Path.{_≡_, refl, sym, subst, _∙_}
 use mathlib.Core.Bool.{Bool, true, false, _||_, _&&_, not, cond}
@@ -20,7 +20,8 @@ use Rattle.assurance.proofs.Arriving.{comes}
 use Rattle.assurance.proofs.Machine.{getD-same, at, marksAt, highAt, endAt, at-step, high-low}
 use Rattle.assurance.proofs.Replay.{stateAt}
 
--- ev: the ticks in which a link gets an event; sv: those in which a run of its task ends; wa, dr: its two marks before each tick
+-- ev: the ticks in which a link gets an event; sv: those in which the run that takes its last event ends; wa, dr: its two marks before
+-- each tick. In the base machine every end of its task's runs is one of sv (Events, no-end).
 pub record Marked (ev sv wa dr : ℕ → Bool) : Type 0 where
   pub wa-first : wa 0 ≡ false
   pub dr-first : dr 0 ≡ false

@@ -1,4 +1,4 @@
--- How the potential of a schedule moves in a tick: arrivals raise it, a tick lowers it up to the task that runs, an end may raise it above.
+-- How the potential of a schedule moves in a tick: by arrivals, by the tick of the task that runs, and by the end of its run. Assumes nothing.
 use Prim.Native.Nat.{ℕ, zero, suc, _+_, _-_, _≤_, _<_}
 use mathlib.Core.Path.{_≡_, refl, sym, _∙_}
 use mathlib.Core.Bool.{Bool, true, false, _&&_, not, cond}
@@ -10,11 +10,11 @@ use Rattle.model.specs.Basics.{sumN, sumTo, given}
 use Rattle.model.specs.Graph.{System}
 use Rattle.model.specs.Loads.{work, added, load}
 use Rattle.model.specs.Delays.{startOf}
-use Rattle.lemmas.proofs.Tests.{at-or-not, not-both, false-of, or-cases, and-left, and-right, both}
+use Rattle.lemmas.proofs.Tests.{not-both, false-of, or-cases, and-left, and-right, both}
 use Rattle.lemmas.proofs.Range.{All, Found, sumN-add, sumN-zero, le-sumN, le-given, sumN-cong, le-topTo}
 use Rattle.theory.proofs.WellFormed.{Loaded, Shaped}
 use Rattle.theory.proofs.LoadLaws.{along, run-whole}
-use Rattle.assurance.proofs.Potential.{live, live-used, live-pending, Owed, Brings, firing, none-owed, owed-none, Ticks, ticking, ticking-above, Ends, ending, ending-above}
+use Rattle.assurance.proofs.Potential.{live-used, live-pending, Owed, Brings, firing, none-owed, owed-none, Ticks, ticking, ticking-above, Ends, ending, ending-above}
 use Rattle.assurance.proofs.Schedule.{Left, Schedule, liveAt, liveMid, Preempts, used-other, used-over, used-on, below}
 
 -- sums over a table, by rows and by columns

@@ -1,7 +1,7 @@
--- A link from a source on a preemptive machine: every wait is at most the delay of the quote, and no event finds the one before it unserved.
-use Prim.Native.Nat.{ℕ, zero, suc, _+_, _*_, _≤_, _<_}
-use mathlib.Core.Path.{_≡_, sym, _∙_}
-use mathlib.Core.Bool.{Bool, true, false}
+-- A link from a source on a preemptive machine: waits are at most the delay, so no event finds the one before it unserved. Assumes nothing.
+use Prim.Native.Nat.{ℕ, _+_, _*_, _≤_, _<_}
+use mathlib.Core.Path.{_≡_}
+use mathlib.Core.Bool.{true}
 use mathlib.Core.Logic.{_⊎_, inl, inr}
 use native.Mathlib.Omega.{arith}
 use native.Mathlib.Nat.{mul-le-mul-left}
@@ -16,9 +16,9 @@ use Rattle.theory.proofs.WellFormed.{Loaded, Shaped}
 use Rattle.theory.proofs.Rounds.{spacings-some}
 use Rattle.assurance.proofs.Count.{Ages, count-spacings, apart}
 use Rattle.assurance.proofs.Window.{Run, bounded}
-use Rattle.assurance.proofs.Schedule.{Schedule, liveAt, liveMid, Preempts}
+use Rattle.assurance.proofs.Schedule.{Schedule, Preempts}
 use Rattle.assurance.proofs.Moves.{phi, phi-first, phi-none, arrivals, falls, rests}
-use Rattle.assurance.proofs.Events.{Held, held-live, held-tick, Waits, came, waits-fresh, waits-held, waits-live}
+use Rattle.assurance.proofs.Events.{held-live, came, waits-fresh, Takes, SourceWaits, source-held, source-live}
 
 pub ages : {s : System} {gap : ℕ → ℕ} (S : Schedule s gap) (u : ℕ) → 33 ≤ u → u < 33 + s .sources → Ages (gap u) (λ x. S .arr x u) (λ x. S .age x u)
 ages S u p q = record {
@@ -28,31 +28,18 @@ ages S u p q = record {
   some = λ x. S .age-some x u p q;
 }
 
--- taken says whether the run that takes an event has begun when it comes; holds, that this run is then in progress or pending
-module _ {s : System} (L : Loaded s) (G : Shaped s) {gap : ℕ → ℕ} (S : Schedule s gap) (spaced : (u : ℕ) → 33 ≤ u → u < 33 + s .sources → 1 ≤ gap u) (i j : ℕ) (isSource : 33 ≤ i) (isSource′ : i < 33 + s .sources) (linked : s .link i j ≡ true) (taken : ℕ → Bool) (holds : (x : ℕ) → S .arr x i ≡ true → Held (S .used x) (S .pendingMid x) j (taken x)) where
+module _ {s : System} (L : Loaded s) (G : Shaped s) {gap : ℕ → ℕ} (S : Schedule s gap) (T : Takes S) (spaced : (u : ℕ) → 33 ≤ u → u < 33 + s .sources → 1 ≤ gap u) (i j : ℕ) (isSource : 33 ≤ i) (isSource′ : i < 33 + s .sources) (linked : s .link i j ≡ true) where
   isTask : 1 ≤ j
   isTask = G .to-task i j linked .0
 
   isTask′ : j ≤ s .tasks
   isTask′ = G .to-task i j linked .1
 
-  -- an event of i that no run of j has served before tick y
-  abbrev pub WaitsSource : ℕ → ℕ → Type 0
-  WaitsSource = Waits S j (λ x. S .arr x i) taken
-
-  live-before : (y x : ℕ) → WaitsSource y x → liveMid S y j ≡ true
-  live-before = waits-live S j isTask (λ x e f. held-tick S j isTask x (taken x) (holds x e) f)
-
-  -- while it waits, its task is live, in the event's own tick too
-  live-then : (y x : ℕ) → WaitsSource (suc y) x → liveMid S y j ≡ true
-  live-then y x w = go (waits-fresh S j y x w)
-    where
-      go : WaitsSource y x ⊎ ((x ≡ y) × (S .arr y i ≡ true)) → liveMid S y j ≡ true
-      go (inl v) = live-before y x v
-      go (inr v) = held-live (S .used y) (S .pendingMid y) j (taken y) (holds y (v .1))
+  abbrev waits : ℕ → ℕ → Type 0
+  waits = SourceWaits G S T i j linked
 
   -- no event finds one unserved whose wait is at most the spacing
-  pub kept-apart : (y x : ℕ) → WaitsSource y x → y < x + gap i → S .arr y i ≡ true → ⊥
+  pub kept-apart : (y x : ℕ) → waits y x → y < x + gap i → S .arr y i ≡ true → ⊥
   kept-apart y x w b e =
       omega
       (arith, apart (gap i) (λ z. S .arr z i) (λ z. S .age z i) (ages S i isSource isSource′) x y (came S j (w .unserved) .0) e (w .before))
@@ -72,28 +59,24 @@ module _ {s : System} (L : Loaded s) (G : Shaped s) {gap : ℕ → ℕ} (S : Sch
         fire = λ u x. S .arr x u;
         phi = phi L G S j;
         busy = λ x. leb j (S .ran x);
-        wait = WaitsSource;
+        wait = waits;
         counted = λ u p q x n. count-spacings (gap u) (λ z. S .arr z u) (λ z. S .age z u) (spaced u p q) (ages S u p q) x n;
         starts = omega (arith, phi-first L G S j isTask);
         none = λ x w. omega (arith, w .before);
         falls = λ x b. omega (arith, falls L G S x j isTask (leb-true j (S .ran x) b), arrivals L G S x j isTask);
         idle = λ x b. omega (arith, rests L G S P x j isTask (leb-false j (S .ran x) b));
         fresh = λ y x w. fresh y x (waits-fresh S j y x w);
-        clear = λ y x b w. not-both (live-then y x w) (P .above y j (leb-false j (S .ran y) b) isTask′);
-        done = λ y x z w. let p : phi L G S j y ≡ 0 = omega arith in not-both (live-before-tick y x w) (phi-none L G S j y isTask p j (omega arith) isTask′);
+        clear = λ y x b w. not-both (source-live G S T i j linked isSource isSource′ y x w) (P .above y j (leb-false j (S .ran y) b) isTask′);
+        done = λ y x z w. let p : phi L G S j y ≡ 0 = omega arith in not-both (held-live (S .used y) (S .pending y) j (w .begun) (source-held G S T i j linked isSource isSource′ y x w)) (phi-none L G S j y isTask p j (omega arith) isTask′);
       }
         where
-          fresh : (y x : ℕ) → WaitsSource y x ⊎ ((x ≡ y) × (S .arr y i ≡ true)) → WaitsSource y x ⊎ (x ≡ y)
+          fresh : (y x : ℕ) → waits y x ⊎ ((x ≡ y) × (S .arr y i ≡ true)) → waits y x ⊎ (x ≡ y)
           fresh y x (inl v) = inl v
           fresh y x (inr v) = inr (v .0)
 
-          live-before-tick : (y x : ℕ) → WaitsSource y x → liveAt S y j ≡ true
-          live-before-tick y x w =
-              held-live (S .used y) (S .pending y) j (w .begun) (waits-held S j isTask (λ x e f. held-tick S j isTask x (taken x) (holds x e) f) y x w)
-
-      pub wait-bound : (y x : ℕ) → WaitsSource y x → y < x + D
+      pub wait-bound : (y x : ℕ) → waits y x → y < x + D
       unfolding roundOf run
       wait-bound y x w = bounded (λ u. load s u j) gap 33 (s .sources) (startOf s j) 0 D delay-some fixed run y x w
 
-      pub source-kept : D < gap i → (y x : ℕ) → WaitsSource y x → S .arr y i ≡ true → ⊥
+      pub source-kept : D < gap i → (y x : ℕ) → waits y x → S .arr y i ≡ true → ⊥
       source-kept h y x w e = kept-apart y x w (omega (arith, wait-bound y x w)) e

@@ -1,15 +1,15 @@
--- What History reads off a list of ticks, over a schedule whose beginnings and ends of one task's runs the list shows.
+-- What History reads off a list of ticks, over a schedule whose beginnings and ends of one task's runs the list shows. Assumes nothing.
 use Prim.Native.Nat.{ℕ, zero, suc, _+_, _-_, _≤_, _<_}
-use mathlib.Core.Path.{_≡_, refl, sym, _∙_}
+use mathlib.Core.Path.{_≡_, refl}
 use mathlib.Core.Bool.{Bool, true, false, _||_, _&&_}
 use mathlib.Core.List.{List}
 use native.Mathlib.Omega.{arith}
 use lib.ListN.{length}
 use Rattle.model.specs.Graph.{System}
-use Rattle.model.specs.History.{Tick, begins, ends, partDone, tickAt, endsWithin, ticksUntil, servedBefore, waitOf}
+use Rattle.model.specs.History.{Tick, fires, begins, ends, partDone, tickAt, endsWithin, ticksUntil, servedBefore, waitOf}
 use Rattle.lemmas.proofs.Tests.{Cmp, less, same, more, cmp, or-false, or-false-left, or-false-right, and-false-right}
 use Rattle.assurance.proofs.Schedule.{Schedule, beginsAt, endsAt}
-use Rattle.assurance.proofs.Events.{Unserved, new, later, Waits}
+use Rattle.assurance.proofs.Events.{Unserved, new, later, Waits, Takes}
 
 -- no run of j ends in the stretch: nothing is served in it
 none-within : (h : List Tick) (j n : ℕ) (begun : Bool) (x : ℕ) → ((z : ℕ) → x ≤ z → z < x + n → ends (tickAt h z) j ≡ false) → endsWithin h j begun x n ≡ false
@@ -22,49 +22,55 @@ pub served-not : (h : List Tick) (j x y : ℕ) → x ≤ y → ((z : ℕ) → x 
 unfolding servedBefore
 served-not h j x y p f = none-within h j (y - x) (partDone (tickAt h x) j) x (λ z a b. f z a (omega arith))
 
-module _ (h : List Tick) {s : System} {gap : ℕ → ℕ} (S : Schedule s gap) (j : ℕ) (shows-begins : (x : ℕ) → x < length h → begins (tickAt h x) j ≡ beginsAt S j x) (shows-ends : (x : ℕ) → x < length h → ends (tickAt h x) j ≡ endsAt S j x) where
-  module _ {ev taken : ℕ → Bool} where
-    -- one tick more
-    more-unserved : {x y : ℕ} {b : Bool} → y < length h → Unserved S j ev taken x y b → ((b || begins (tickAt h y) j) && ends (tickAt h y) j) ≡ false → Unserved S j ev taken x (suc y) (b || begins (tickAt h y) j)
-    more-unserved {y = y} p u e = rw (shows-begins y p) (later u (rw (shows-begins y p, shows-ends y p) at e))
+-- a list of ticks shows a schedule
+pub record Shows (h : List Tick) {s : System} {gap : ℕ → ℕ} (S : Schedule s gap) (T : Takes S) : Type 0 where
+  pub begins-is : (j x : ℕ) → x < length h → begins (tickAt h x) j ≡ beginsAt S j x
+  pub ends-is : (j x : ℕ) → x < length h → ends (tickAt h x) j ≡ endsAt S j x
+  pub arrives-is : (i x : ℕ) → 33 ≤ i → x < length h → fires (tickAt h x) i ≡ S .arr x i
+  pub taken-is : (j x : ℕ) → x < length h → T .taken j x ≡ partDone (tickAt h x) j
 
-    within : (n : ℕ) {x y z : ℕ} {b : Bool} → y + n ≡ z → z ≤ length h → Unserved S j ev taken x y b → endsWithin h j b y n ≡ false → (c : Bool) × Unserved S j ev taken x z c
-    unfolding endsWithin
-    within zero {y = y} {z = z} {b = b} p q u e = let r : z ≡ y = omega arith in (b, rw r u)
-    within (suc n) {y = y} {b = b} p q u e =
-        within n (omega arith) q (more-unserved (omega arith) u (or-false-left ((b || begins (tickAt h y) j) && ends (tickAt h y) j) _ e)) (or-false-right ((b || begins (tickAt h y) j) && ends (tickAt h y) j) _ e)
+module _ (h : List Tick) {s : System} {gap : ℕ → ℕ} (S : Schedule s gap) (T : Takes S) (W : Shows h S T) (j : ℕ) {ev : ℕ → Bool} where
+  -- one tick more
+  more-unserved : {x y : ℕ} {b : Bool} → y < length h → Unserved S j ev (T .taken j) x y b → ((b || begins (tickAt h y) j) && ends (tickAt h y) j) ≡ false → Unserved S j ev (T .taken j) x (suc y) (b || begins (tickAt h y) j)
+  more-unserved {y = y} p u e = rw (W .begins-is j y p) (later u (rw (W .begins-is j y p, W .ends-is j y p) at e))
 
-    -- a wait is at most a D that no unserved stretch reaches
-    until-le : (n : ℕ) {x y : ℕ} {b : Bool} (D : ℕ) → y + n ≤ length h → Unserved S j ev taken x y b → ((z : ℕ) (c : Bool) → z ≤ y + n → y ≤ z → Unserved S j ev taken x z c → z < y + D) → ticksUntil h j b y n ≤ D
-    unfolding ticksUntil
-    until-le zero D p u f = omega arith
-    until-le (suc n) {x} {y} {b} D p u f = go ((b || begins (tickAt h y) j) && ends (tickAt h y) j) refl (λ v. until-le n (D - 1) (omega arith) v)
-      where
-        some : y < y + D
-        some = f y b (omega arith) (omega arith) u
+  within : (n : ℕ) {x y z : ℕ} {b : Bool} → y + n ≡ z → z ≤ length h → Unserved S j ev (T .taken j) x y b → endsWithin h j b y n ≡ false → (c : Bool) × Unserved S j ev (T .taken j) x z c
+  unfolding endsWithin
+  within zero {y = y} {z = z} {b = b} p q u e = let r : z ≡ y = omega arith in (b, rw r u)
+  within (suc n) {y = y} {b = b} p q u e =
+      within n (omega arith) q (more-unserved (omega arith) u (or-false-left ((b || begins (tickAt h y) j) && ends (tickAt h y) j) _ e)) (or-false-right ((b || begins (tickAt h y) j) && ends (tickAt h y) j) _ e)
 
-        go : (t : Bool) → ((b || begins (tickAt h y) j) && ends (tickAt h y) j) ≡ t → (Unserved S j ev taken x (suc y) (b || begins (tickAt h y) j) → ((z : ℕ) (c : Bool) → z ≤ suc y + n → suc y ≤ z → Unserved S j ev taken x z c → z < suc y + (D - 1)) → ticksUntil h j (b || begins (tickAt h y) j) (suc y) n ≤ D - 1) → ticksUntil h j b y (suc n) ≤ D
-        go true e ih = rw (e, ticksUntil) (omega (arith, some))
-        go false e ih =
-            rw (e, ticksUntil)
-            (omega (arith, some, ih (more-unserved (omega arith) u e) (λ z c a r v. omega (arith, some, f z c (omega arith) (omega arith) v))))
+  -- a wait is at most a D that no unserved stretch reaches
+  until-le : (n : ℕ) {x y : ℕ} {b : Bool} (D : ℕ) → y + n ≤ length h → Unserved S j ev (T .taken j) x y b → ((z : ℕ) (c : Bool) → z ≤ y + n → y ≤ z → Unserved S j ev (T .taken j) x z c → z < y + D) → ticksUntil h j b y n ≤ D
+  unfolding ticksUntil
+  until-le zero D p u f = omega arith
+  until-le (suc n) {x} {y} {b} D p u f = go ((b || begins (tickAt h y) j) && ends (tickAt h y) j) refl (λ v. until-le n (D - 1) (omega arith) v)
+    where
+      some : y < y + D
+      some = f y b (omega arith) (omega arith) u
+
+      go : (t : Bool) → ((b || begins (tickAt h y) j) && ends (tickAt h y) j) ≡ t → (Unserved S j ev (T .taken j) x (suc y) (b || begins (tickAt h y) j) → ((z : ℕ) (c : Bool) → z ≤ suc y + n → suc y ≤ z → Unserved S j ev (T .taken j) x z c → z < suc y + (D - 1)) → ticksUntil h j (b || begins (tickAt h y) j) (suc y) n ≤ D - 1) → ticksUntil h j b y (suc n) ≤ D
+      go true e ih = rw (e, ticksUntil) (omega (arith, some))
+      go false e ih =
+          rw (e, ticksUntil)
+          (omega (arith, some, ih (more-unserved (omega arith) u e) (λ z c a r v. omega (arith, some, f z c (omega arith) (omega arith) v))))
 
   -- in History's words
-  module _ {ev taken : ℕ → Bool} (x : ℕ) (came : ev x ≡ true) (takes : taken x ≡ partDone (tickAt h x) j) where
-    first : Unserved S j ev taken x x (partDone (tickAt h x) j)
-    first = let u : Unserved S j ev taken x x (taken x) = new came in rw takes at u
+  module _ (x : ℕ) (here : x < length h) (came : ev x ≡ true) where
+    first : Unserved S j ev (T .taken j) x x (partDone (tickAt h x) j)
+    first = let u : Unserved S j ev (T .taken j) x x (T .taken j x) = new came in rw (W .taken-is j x here) at u
 
-    pub unserved-waits : (y : ℕ) → x < y → y ≤ length h → servedBefore h j x y ≡ false → Waits S j ev taken y x
+    pub unserved-waits : (y : ℕ) → x < y → y ≤ length h → servedBefore h j x y ≡ false → Waits S j ev (T .taken j) y x
     unfolding servedBefore
     unserved-waits y p q e =
         let (b, u) = within (y - x) (omega arith) q first e in
         record { before = p; begun = b; unserved = u }
 
-    pub wait-le : (D : ℕ) → 1 ≤ D → x < length h → ((y : ℕ) → Waits S j ev taken y x → y < x + D) → waitOf h j x ≤ D
+    pub wait-le : (D : ℕ) → 1 ≤ D → ((y : ℕ) → Waits S j ev (T .taken j) y x → y < x + D) → waitOf h j x ≤ D
     unfolding waitOf
-    wait-le D o p f = until-le (length h - x) D (omega arith) first (λ z c a r u. go z c u r (cmp x z))
+    wait-le D o f = until-le (length h - x) D (omega arith) first (λ z c a r u. go z c u r (cmp x z))
       where
-        go : (z : ℕ) (c : Bool) → Unserved S j ev taken x z c → x ≤ z → Cmp x z → z < x + D
+        go : (z : ℕ) (c : Bool) → Unserved S j ev (T .taken j) x z c → x ≤ z → Cmp x z → z < x + D
         go z c u r (less q) = f z (record { before = q; begun = c; unserved = u })
         go z c u r (same q) = omega arith
         go z c u r (more q) = absurd (omega arith)

@@ -1,14 +1,14 @@
--- A link between tasks with an exclusive neighbourhood: at most one token is under way, so no event finds the one before it unserved.
-use Prim.Native.Nat.{ℕ, zero, suc, _+_, _≤_, _<_}
+-- A link between tasks with an exclusive neighbourhood: at most one token is under way, so none finds another unserved. Assumes nothing.
+use Prim.Native.Nat.{ℕ, zero, suc, _≤_, _<_}
 use mathlib.Core.Path.{_≡_, refl, sym, _∙_}
-use mathlib.Core.Bool.{Bool, true, false, _||_, _&&_}
+use mathlib.Core.Bool.{true, false, _&&_}
 use mathlib.Core.Logic.{_⊎_, inl, inr}
 use native.Mathlib.Omega.{arith}
 use lib.Dec.{ltb}
 use borrow.Author.Tests.{ltb-true}
 use Rattle.model.specs.Graph.{System}
 use Rattle.model.specs.Order.{Set, Neighbourhood}
-use Rattle.lemmas.proofs.Tests.{Cmp, less, same, more, cmp, at-or-not, not-both, false-of, or-cases, and-right}
+use Rattle.lemmas.proofs.Tests.{Cmp, less, same, more, cmp, at-or-not, not-both, or-cases, and-right}
 use Rattle.lemmas.proofs.Range.{Found}
 use Rattle.theory.proofs.WellFormed.{Shaped}
 use Rattle.assurance.proofs.Potential.{live-used, live-pending}

@@ -1,4 +1,4 @@
--- The busy window: no event waits longer than a D that a round leaves unchanged, whatever the potential and the slack.
+-- The busy window: no event waits longer than a D that a round leaves unchanged, whatever the potential and the slack. Assumes nothing.
 use Prim.Native.Nat.{ℕ, zero, suc, _+_, _*_, _≤_, _<_}
 use mathlib.Core.Path.{_≡_, refl, ap, _∙_}
 use mathlib.Core.Bool.{Bool, true, false}

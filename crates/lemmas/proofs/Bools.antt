@@ -1,4 +1,4 @@
--- Laws of tests as equations: what drops out, what a store under a test leaves, and a test over one number more.
+-- Laws of tests as equations: what drops out, what a store under a test leaves, and a test over one number more. Assumes nothing.
 use Prim.Native.Nat.{ℕ, suc, _+_}
 use mathlib.Core.Path.{_≡_, refl, sym, ap, _∙_}
 use mathlib.Core.Bool.{Bool, true, false, _||_, _&&_, not, cond}

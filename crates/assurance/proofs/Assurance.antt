@@ -175,11 +175,11 @@ module _ (d : Description) (q t : ℕ) (F : Facts d q t) (cs : List Call) where
 
       kept : Dropped hist i j → ⊥
       kept k =
-          source-not-dropped (F .loaded) (F .shaped) S P takes hist shows i j linked-here one-spaced isSource few (delay-is .0) fixed (F .settled i j (delay-is .0) (delay-is .1) .1) k
+          source-not-dropped (F .loaded) (F .shaped) S takes hist shows i j linked-here one-spaced isSource few P (delay-is .0) fixed (F .settled i j (delay-is .0) (delay-is .1) .1) k
 
       waits-most : (x : ℕ) → x < length hist → fires (tickAt hist x) i ≡ true → waitOf hist j x ≤ delay-is .0
       waits-most x r e =
-          source-waits (F .loaded) (F .shaped) S P takes hist shows i j linked-here one-spaced isSource few (delay-is .0) fixed x r e
+          source-waits (F .loaded) (F .shaped) S takes hist shows i j linked-here one-spaced isSource few P (delay-is .0) fixed x r e
 
     -- a critical link from a task is held in order
     order-kept : linkAt d l .critical ≡ 1 → IsTask (system d) i → Dropped hist i j → ⊥
@@ -188,7 +188,7 @@ module _ (d : Description) (q t : ℕ) (F : Facts d q t) (cs : List Call) where
       where
         go : (b : Bool) → inOrder (system d) i j ≡ b → ⊥
         go true e =
-            task-not-dropped (F .loaded) (F .shaped) S P takes hist shows i j linked-here own (F .ordered i j own (link-here d wf (F .loaded) t ks l p) e) k
+            task-not-dropped (F .loaded) (F .shaped) S takes hist shows i j linked-here own (F .ordered i j own (link-here d wf (F .loaded) t ks l p) e) P k
         go false e =
             let v : verdictAt d q l ≡ DoubtOrder = rw (crit, lt-ltb i 33 (omega (arith, own .1, F .shaped .few)), e) refl in
             not-both not-doubtful (ap (λ (w : Verdict). not (doubtful w)) v)

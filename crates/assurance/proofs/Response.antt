@@ -77,6 +77,3 @@ module _ {s : System} (L : Loaded s) (G : Shaped s) {gap : ℕ → ℕ} (S : Sch
       pub wait-bound : (y x : ℕ) → waits y x → y < x + D
       unfolding roundOf run
       wait-bound y x w = bounded (λ u. load s u j) gap 33 (s .sources) (startOf s j) 0 D delay-some fixed run y x w
-
-      pub source-kept : D < gap i → (y x : ℕ) → waits y x → S .arr y i ≡ true → ⊥
-      source-kept h y x w e = kept-apart y x w (omega (arith, wait-bound y x w)) e

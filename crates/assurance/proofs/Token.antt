@@ -37,7 +37,7 @@ module _ {s : System} (G : Shaped s) {gap : ℕ → ℕ} (S : Schedule s gap) (i
       go (inl p) = p
       go (inr w) = absurd (no-source x k m w)
 
-  live-now : (x k : ℕ) → N k ≡ true → liveMid S x k ≡ true → liveAt S x k ≡ true
+  pub live-now : (x k : ℕ) → N k ≡ true → liveMid S x k ≡ true → liveAt S x k ≡ true
   live-now x k m e =
       or-cases (ltb 0 (S .used x k)) (S .pendingMid x k) e (λ p. live-used (S .used x) (S .pending x) k (ltb-true 0 (S .used x k) p)) (λ p. live-pending (S .used x) (S .pending x) k (pending-now x k m p))
 

@@ -10,6 +10,7 @@ pub mod Response
 pub mod Token
 pub mod Serving
 pub mod Links
+pub mod Holding
 -- the plain machine
 pub mod Firing
 pub mod Arriving

@@ -12,9 +12,10 @@ use Rattle.model.specs.declared.Machine.{Machine}
 use Rattle.model.specs.Basics.{anyN, upTo}
 use Rattle.model.specs.Graph.{linkAt, linked}
 use Rattle.model.specs.Machine.{awakeAt, waitingAt, droppedAt, ageAt, setAge, fire, arriveOne, arrive}
-use Rattle.lemmas.proofs.Tests.{Cmp, less, same, more, cmp, same-test, and-left, and-right, both, or-left, or-right, or-cases}
+use Rattle.lemmas.proofs.Tests.{Cmp, less, same, more, cmp, same-test, and-left, and-right, and-false-left, and-false-right, both, or-left, or-right, or-cases}
+use Rattle.lemmas.proofs.Bools.{or-idle, or-idle-right, or-assoc, and-on, any-suc}
 use Rattle.theory.proofs.WellFormed.{WellFormed}
-use Rattle.assurance.proofs.Firing.{Sized, Fired, fired, fired-past, getD-set, less-more, drop-more, or-assoc, or-idle}
+use Rattle.assurance.proofs.Firing.{Sized, Fired, fired, fired-past, getD-set, less-more, drop-more}
 
 -- node x is one of the first n sources and its mark is set
 unfoldable pub comes : List Bool → ℕ → ℕ → Bool
@@ -82,19 +83,6 @@ cond-or true true x = refl
 cond-or true false x = refl
 cond-or false b x = refl
 
-any-suc : (p : ℕ → Bool) (a n : ℕ) → anyN p a (suc n) ≡ (anyN p a n || p (a + n))
-unfolding anyN
-any-suc p a n = refl
-
-and-off : (a b : Bool) → b ≡ false → (a && b) ≡ false
-and-off true b e = e
-and-off false b e = refl
-
-or-idle₃ : (a b c d : Bool) → c ≡ false → a ≡ (a || (b && (c && d)))
-or-idle₃ true b c d e = refl
-or-idle₃ false true c d e = rw e refl
-or-idle₃ false false c d e = refl
-
 module _ (d : Description) (wf : WellFormed d) (marks : List Bool) where
   one-off : (u : ℕ) (m : Machine) → getD marks u false ≡ false → arriveOne d marks u m ≡ m
   unfolding arriveOne
@@ -110,9 +98,9 @@ module _ (d : Description) (wf : WellFormed d) (marks : List Bool) where
     used = refl;
     awake = λ k o. or-idle (awakeAt m k) (getD marks u false) _ e;
     waiting = λ l p. or-idle (waitingAt m l) (getD marks u false) _ e;
-    dropped = λ l p. or-idle₃ (droppedAt m l) (waitingAt m l) (getD marks u false) _ e;
+    dropped = λ l p. or-idle-right (droppedAt m l) (waitingAt m l) _ (and-false-left (getD marks u false) _ e);
     past = λ l p. (refl, refl);
-    age = λ v. rw (and-off (eqb v u) (getD marks u false) e) refl;
+    age = λ v. rw (and-false-right (eqb v u) (getD marks u false) e) refl;
   }
 
   fires : (u : ℕ) → u < d .«source_count» → (m : Machine) → Sized m → getD marks u false ≡ true → OneArrived d marks u m (setAge u 0 (fire d (33 + u) m))
@@ -132,12 +120,8 @@ module _ (d : Description) (wf : WellFormed d) (marks : List Bool) where
         waiting = λ l q. rw e (rw (lt-ltb l (d .«link_count») q) at (f .waiting l));
         dropped = λ l q. rw e (rw (lt-ltb l (d .«link_count») q) at (f .dropped l));
         past = λ l q. fired-past d (33 + u) m (fire d (33 + u) m) f l q;
-        age = λ v. getD-set (fire d (33 + u) m .ages) u 0 0 v (omega (arith, f .sized .ages, wf .few-sources)) ∙ rw (e, f .ages) (test (eqb v u) (ageAt m v));
+        age = λ v. getD-set (fire d (33 + u) m .ages) u 0 0 v (omega (arith, f .sized .ages, wf .few-sources)) ∙ rw (e, f .ages, and-on (eqb v u) true refl) refl;
       }
-    where
-      test : (b : Bool) (x : ℕ) → cond b 0 x ≡ cond (b && true) 0 x
-      test true x = refl
-      test false x = refl
 
   one-arrived : (u : ℕ) → u < d .«source_count» → (m : Machine) → Sized m → OneArrived d marks u m (arriveOne d marks u m)
   one-arrived u p m z = go (getD marks u false) refl
@@ -152,8 +136,8 @@ module _ (d : Description) (wf : WellFormed d) (marks : List Bool) where
     sized = z;
     used = refl;
     awake = λ k o. or-idle (awakeAt m k) false false refl;
-    waiting = λ l p. rw (le-ltb (linkAt d l .from - 33) 0 (omega arith), and-off (ltb 32 (linkAt d l .from)) false refl) (or-idle (waitingAt m l) false false refl);
-    dropped = λ l p. rw (le-ltb (linkAt d l .from - 33) 0 (omega arith), and-off (ltb 32 (linkAt d l .from)) false refl) (or-idle₃ (droppedAt m l) (waitingAt m l) false false refl);
+    waiting = λ l p. rw (le-ltb (linkAt d l .from - 33) 0 (omega arith), and-false-right (ltb 32 (linkAt d l .from)) false refl) (or-idle (waitingAt m l) false false refl);
+    dropped = λ l p. rw (le-ltb (linkAt d l .from - 33) 0 (omega arith), and-false-right (ltb 32 (linkAt d l .from)) false refl) (or-idle-right (droppedAt m l) (waitingAt m l) false refl);
     past = λ l p. (refl, refl);
     age = λ v. rw (le-ltb v 0 (omega arith)) refl;
   }

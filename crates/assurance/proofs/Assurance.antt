@@ -1,5 +1,5 @@
 -- Demand 3 for one accepted description, from what the other files show of it. Assumes nothing.
-use Prim.Native.Nat.{ℕ, suc, _+_, _-_, _≤_, _<_}
+use Prim.Native.Nat.{ℕ, _+_, _-_, _≤_, _<_}
 use mathlib.Core.Path.{_≡_, refl, sym, ap, _∙_}
 use mathlib.Core.Bool.{Bool, true, false, _&&_, not, cond}
 use mathlib.Core.List.{List, _∷_}
@@ -7,7 +7,7 @@ use mathlib.Core.Logic.{_⊎_, inl, inr}
 use native.Mathlib.Omega.{arith}
 use lib.ListN.{length, getD}
 use lib.Dec.{ltb, eqb}
-use borrow.Author.Tests.{eqb-true, eq-eqb, lt-ltb, le-ltb, ltb-false}
+use borrow.Author.Tests.{eqb-true, lt-ltb, le-ltb}
 use Rattle.model.specs.declared.Description.{Description}
 use Rattle.model.specs.declared.Machine.{Machine}
 use Rattle.model.specs.declared.Ticked.{Ticked}
@@ -17,20 +17,19 @@ use Rattle.model.specs.Graph.{system, linkAt, linked}
 use Rattle.model.specs.Delays.{Settled, unchanged, reached, delayOf, roundOf, spacingOf}
 use Rattle.model.specs.Order.{inOrder, InOrder}
 use Rattle.model.specs.Verdicts.{settledVerdict, sourceVerdict, orderVerdict, verdictOf, verdictAt, doubtful, delayIn, allHeld}
-use Rattle.model.specs.Machine.{idle, waitingAt, droppedAt, usedAt}
-use Rattle.model.specs.History.{Call, Tick, answers, left, observe, ticks, fires, begins, ends, partDone, tickAt, servedBefore, Dropped, waitOf}
+use Rattle.model.specs.Machine.{idle, droppedAt, usedAt}
+use Rattle.model.specs.History.{Call, Tick, answers, left, observe, ticks, fires, begins, ends, partDone, tickAt, Dropped, waitOf}
 use Rattle.model.specs.Promise.{Calls, none, call, Assured}
-use Rattle.lemmas.proofs.Tests.{Cmp, less, same, more, cmp, not-both, both}
+use Rattle.lemmas.proofs.Tests.{not-both}
 use Rattle.lemmas.proofs.Range.{all-at}
 use Rattle.theory.proofs.WellFormed.{WellFormed, Loaded, Shaped, IsTask}
-use Rattle.assurance.proofs.Firing.{eqb-sym}
-use Rattle.assurance.proofs.Trace.{Trace, endsAt}
-use Rattle.assurance.proofs.Response.{Waits, delay-some, wait-bound, source-kept}
-use Rattle.assurance.proofs.Token.{token-kept}
+use Rattle.assurance.proofs.Schedule.{Schedule, Preempts}
+use Rattle.assurance.proofs.Events.{came, Takes, no-end, joins}
 use Rattle.assurance.proofs.Replay.{callAt, taken, Replayed, replayed}
-use Rattle.assurance.proofs.Machine.{at, highAt, endAt, at-step, trace, trace-ends, trace-arr}
-use Rattle.assurance.proofs.Marks.{Drop, dropped-drop, drop-dropped, firesIn, endsIn, link-here, kind, waiting-next, dropped-next, waiting-first, dropped-first}
-use Rattle.assurance.proofs.Serving.{unserved, served-not, wait-le}
+use Rattle.assurance.proofs.Machine.{at, highAt, endAt, schedule, preempts, schedule-arr, schedule-begins, schedule-ends, schedule-used}
+use Rattle.assurance.proofs.Marks.{Drop, dropped-drop, drop-dropped, firesIn, endsIn, link-here, kind, link-marked}
+use Rattle.assurance.proofs.Serving.{Shows, served-not}
+use Rattle.assurance.proofs.Links.{dropped-waits, source-not-dropped, source-waits, task-not-dropped}
 
 -- what is known of an accepted description d with the quote q, and of a tempo t up to it
 pub record Facts (d : Description) (q t : ℕ) : Type 0 where
@@ -70,8 +69,12 @@ module _ (d : Description) (q t : ℕ) (F : Facts d q t) (cs : List Call) where
   R : Replayed d t (idle d t) cs (taken d t (idle d t) cs)
   R = replayed d t cs (idle d t)
 
-  T : Trace (system d) gap
-  T = trace d wf t ks gap (F .spaced) (R .passed)
+  S : Schedule (system d) gap
+  S = schedule d wf t ks gap (F .spaced) (R .passed)
+
+  P : Preempts S
+  unfolding S
+  P = preempts d wf t ks gap (F .spaced) (R .passed)
 
   -- what History reads off a tick
   shown : (x : ℕ) → x < length hist → tickAt hist x ≡ observe d (at d wf t ks x) (callAt ks x)
@@ -85,41 +88,23 @@ module _ (d : Description) (q t : ℕ) (F : Facts d q t) (cs : List Call) where
   unfolding observe
   ends-is x j p = ap (λ (k : Tick). ends k j) (shown x p)
 
-  ran-is : (x : ℕ) → x < length hist → tickAt hist x .ran ≡ highAt d wf t ks x
-  unfolding observe
-  ran-is x p = ap (λ (k : Tick). k .ran) (shown x p)
+  -- the list shows the schedule
+  takes : Takes S
+  takes = joins S (F .loaded) (F .shaped)
 
-  begins-is : (x j : ℕ) → x < length hist → begins (tickAt hist x) j ≡ (eqb (highAt d wf t ks x) j && eqb (usedAt (at d wf t ks x) (highAt d wf t ks x)) 0)
-  unfolding observe
-  begins-is x j p = ap (λ (k : Tick). begins k j) (shown x p)
-
-  part-is : (x j : ℕ) → x < length hist → partDone (tickAt hist x) j ≡ ltb 0 (usedAt (at d wf t ks x) j)
-  unfolding observe
-  part-is x j p = ap (λ (k : Tick). partDone k j) (shown x p)
-
-  -- what the reading of serves asks for, for a task j
-  module _ (j : ℕ) (isTask : 1 ≤ j) where
-    used-of : ℕ → ℕ
-    used-of x = usedAt (at d wf t ks x) j
-
-    part : (x : ℕ) → x < length hist → partDone (tickAt hist x) j ≡ false → used-of x ≡ 0
-    unfolding used-of
-    part x p e =
-        let z : usedAt (at d wf t ks x) j ≤ 0 = ltb-false 0 (usedAt (at d wf t ks x) j) (sym (part-is x j p) ∙ e) in omega arith
-
-    begin : (x : ℕ) → x < length hist → used-of x ≡ 0 → eqb (tickAt hist x .ran) j ≡ true → begins (tickAt hist x) j ≡ true
-    unfolding used-of
-    begin x p z e =
-        let f : eqb (highAt d wf t ks x) j ≡ true = sym (ap (λ (k : ℕ). eqb k j) (ran-is x p)) ∙ e in
-        let y : usedAt (at d wf t ks x) (highAt d wf t ks x) ≡ 0 = ap (λ (k : ℕ). usedAt (at d wf t ks x) k) (eqb-true (highAt d wf t ks x) j f) ∙ z in
-        begins-is x j p ∙ both (eqb (highAt d wf t ks x) j) _ f (eq-eqb (usedAt (at d wf t ks x) (highAt d wf t ks x)) 0 y)
-
-    still : (x : ℕ) → x < length hist → eqb (tickAt hist x .ran) j ≡ false → used-of (suc x) ≡ used-of x
-    unfolding used-of
-    still x p e =
-        let f : eqb (highAt d wf t ks x) j ≡ false = sym (ap (λ (k : ℕ). eqb k j) (ran-is x p)) ∙ e in
-        let g : eqb j (highAt d wf t ks x) ≡ false = eqb-sym j (highAt d wf t ks x) ∙ f in
-        at-step d wf t ks x .used j isTask ∙ ap (λ (b : Bool). cond b (cond (endAt d wf t ks x) 0 (suc (usedAt (at d wf t ks x) j))) (usedAt (at d wf t ks x) j)) g
+  shows : Shows hist S takes
+  unfolding S takes joins observe
+  shows = record {
+    begins-is = λ j x p. ap (λ (k : Tick). begins k j) (shown x p) ∙ (began j x (eqb (highAt d wf t ks x) j) refl ∙ sym (schedule-begins d wf t ks gap (F .spaced) (R .passed) j x));
+    ends-is = λ j x p. ends-is x j p ∙ sym (schedule-ends d wf t ks gap (F .spaced) (R .passed) j x);
+    arrives-is = λ i x s p. fires-is x i p ∙ (ap (λ (b : Bool). cond b (eqb (highAt d wf t ks x) i && endAt d wf t ks x) (getD (callAt ks x .arrivals .marks) (i - 33) false)) (le-ltb i 33 s) ∙ sym (schedule-arr d wf t ks gap (F .spaced) (R .passed) x i));
+    taken-is = λ j x p. ap (λ (n : ℕ). ltb 0 n) (schedule-used d wf t ks gap (F .spaced) (R .passed) x j) ∙ sym (ap (λ (k : Tick). partDone k j) (shown x p));
+  }
+    where
+      began : (j x : ℕ) (b : Bool) → eqb (highAt d wf t ks x) j ≡ b → (eqb (highAt d wf t ks x) j && eqb (usedAt (at d wf t ks x) (highAt d wf t ks x)) 0) ≡ (eqb (highAt d wf t ks x) j && eqb (usedAt (at d wf t ks x) j) 0)
+      began j x true e =
+          ap (λ (k : ℕ). eqb (highAt d wf t ks x) j && eqb (usedAt (at d wf t ks x) k) 0) (eqb-true (highAt d wf t ks x) j e)
+      began j x false e = rw e refl
 
   -- the link at place l
   module _ (l : ℕ) (p : l < d .«link_count») where
@@ -132,13 +117,10 @@ module _ (d : Description) (q t : ℕ) (F : Facts d q t) (cs : List Call) where
     isTask : 1 ≤ j
     isTask = wf .link-to l p .0
 
-    unserved-ends : (x y : ℕ) → x < y → y ≤ length hist → servedBefore hist j x y ≡ false → (z : ℕ) → x ≤ z → z < y → ends (tickAt hist z) j ≡ false
-    unserved-ends x y = unserved hist j (used-of j isTask) (part j isTask) (begin j isTask) (still j isTask) x y
-
-    -- the marks are set exactly as the events say
+    -- the dropped mark is set exactly as the events say
     marked-drop : droppedAt (at d wf t ks (length hist)) l ≡ true → Dropped hist i j
     marked-drop e =
-        let k : Drop (firesIn d wf (F .loaded) t ks i) (endsIn d wf (F .loaded) t ks j) (λ x. waitingAt (at d wf t ks x) l) (λ x. droppedAt (at d wf t ks x) l) (waiting-first d wf (F .loaded) t ks l p) (dropped-first d wf (F .loaded) t ks l p) (waiting-next d wf (F .loaded) t ks l p) (dropped-next d wf (F .loaded) t ks l p) (length hist) = dropped-drop _ _ _ _ (waiting-first d wf (F .loaded) t ks l p) (dropped-first d wf (F .loaded) t ks l p) (waiting-next d wf (F .loaded) t ks l p) (dropped-next d wf (F .loaded) t ks l p) (length hist) e in
+        let k : Drop (firesIn d wf (F .loaded) t ks i) (endsIn d wf (F .loaded) t ks j) (length hist) = dropped-drop (link-marked d wf (F .loaded) t ks l p) (length hist) e in
         record {
           second = k .second;
           before = k .since;
@@ -147,27 +129,16 @@ module _ (d : Description) (q t : ℕ) (F : Facts d q t) (cs : List Call) where
           fired-second = fires-is (k .second) i (k .early) ∙ k .comes-second;
           fired-before = fires-is (k .since) i (omega (arith, k .held .before, k .early)) ∙ k .held .came;
           none-between = λ x a b. fires-is x i (omega (arith, k .early)) ∙ k .held .last x a b;
-          not-served = served-not hist j (used-of j isTask) (part j isTask) (begin j isTask) (still j isTask) (k .since) (k .second) (omega (arith, k .held .before)) (λ z a b. ends-is z j (omega (arith, k .early)) ∙ k .held .unserved z a b);
+          not-served = served-not hist j (k .since) (k .second) (omega (arith, k .held .before)) (λ z a b. ends-is z j (omega (arith, k .early)) ∙ k .held .unserved z a b);
         }
 
     drop-marked : Dropped hist i j → droppedAt (at d wf t ks (length hist)) l ≡ true
+    unfolding takes joins
     drop-marked k =
-        drop-dropped (firesIn d wf (F .loaded) t ks i) (endsIn d wf (F .loaded) t ks j) (λ x. waitingAt (at d wf t ks x) l) (λ x. droppedAt (at d wf t ks x) l) (waiting-first d wf (F .loaded) t ks l p) (dropped-first d wf (F .loaded) t ks l p) (waiting-next d wf (F .loaded) t ks l p) (dropped-next d wf (F .loaded) t ks l p) (length hist) (k .second) (k .before) (k .in-list) (k .earlier) (sym (fires-is (k .second) i (k .in-list)) ∙ k .fired-second) (sym (fires-is (k .before) i (omega (arith, k .earlier, k .in-list))) ∙ k .fired-before)
-        (λ z a b. sym (ends-is z j (omega (arith, k .in-list))) ∙ unserved-ends (k .before) (k .second) (k .earlier) (omega (arith, k .in-list)) (k .not-served) z a b)
-
-    -- the run's words for firings and ends
-    run-ends : (x k : ℕ) → x < length hist → endsAt (system d) gap T x k ≡ ends (tickAt hist x) k
-    unfolding T
-    run-ends x k r = trace-ends d wf t ks gap (F .spaced) (R .passed) x k ∙ sym (ends-is x k r)
-
-    run-arrives : 33 ≤ i → (x : ℕ) → x < length hist → T .arr x i ≡ fires (tickAt hist x) i
-    unfolding T
-    run-arrives s x r =
-        trace-arr d wf t ks gap (F .spaced) (R .passed) x i ∙ (sym (ap (λ (b : Bool). cond b (eqb (highAt d wf t ks x) i && endAt d wf t ks x) (getD (callAt ks x .arrivals .marks) (i - 33) false)) (le-ltb i 33 s)) ∙ sym (fires-is x i r))
-
-    run-fires : i ≤ 32 → (x : ℕ) → x < length hist → endsAt (system d) gap T x i ≡ fires (tickAt hist x) i
-    run-fires s x r =
-        run-ends x i r ∙ (ends-is x i r ∙ (sym (ap (λ (b : Bool). cond b (eqb (highAt d wf t ks x) i && endAt d wf t ks x) (getD (callAt ks x .arrivals .marks) (i - 33) false)) (lt-ltb i 33 (omega arith))) ∙ sym (fires-is x i r)))
+        let w = dropped-waits hist S takes shows i j {ev = firesIn d wf (F .loaded) t ks i} (λ x r. fires-is x i r) k in
+        let e : firesIn d wf (F .loaded) t ks i (k .before) ≡ true = came S j (w .0 .unserved) .0 in
+        drop-dropped (link-marked d wf (F .loaded) t ks l p) (length hist) (k .second) (k .before) (k .in-list) (k .earlier) (w .1) e
+        (λ z a b. sym (ends-is z j (omega (arith, k .in-list))) ∙ (shows .ends-is j z (omega (arith, k .in-list)) ∙ no-end S j isTask (w .0 .unserved) z a b))
 
     linked-here : system d .link i j ≡ true
     unfolding system
@@ -202,51 +173,24 @@ module _ (d : Description) (q t : ℕ) (F : Facts d q t) (cs : List Call) where
       fixed : roundOf (system d) gap j (delay-is .0) ≡ delay-is .0
       fixed = F .settled i j (delay-is .0) (delay-is .1) .0
 
-      event : (y x : ℕ) → x < y → y ≤ length hist → fires (tickAt hist x) i ≡ true → ((z : ℕ) → x ≤ z → z < y → ends (tickAt hist z) j ≡ false) → Waits (system d) gap T i j y x
-      event y x r s e u = record {
-        before = r;
-        came = run-arrives isSource x (omega arith) ∙ e;
-        unserved = λ z a b. run-ends z j (omega arith) ∙ u z a b;
-      }
+      kept : Dropped hist i j → ⊥
+      kept k =
+          source-not-dropped (F .loaded) (F .shaped) S takes hist shows i j linked-here one-spaced isSource few P (delay-is .0) fixed (F .settled i j (delay-is .0) (delay-is .1) .1) k
 
-      source-not-dropped : Dropped hist i j → ⊥
-      source-not-dropped k =
-          source-kept (system d) (F .loaded) (F .shaped) gap T one-spaced i j isSource few linked-here (delay-is .0) fixed (F .settled i j (delay-is .0) (delay-is .1) .1) (k .second) (k .before)
-          (event (k .second) (k .before) (k .earlier) (omega (arith, k .in-list)) (k .fired-before) (unserved-ends (k .before) (k .second) (k .earlier) (omega (arith, k .in-list)) (k .not-served)))
-          (run-arrives isSource (k .second) (k .in-list) ∙ k .fired-second)
-
-      source-waits : (x : ℕ) → x < length hist → fires (tickAt hist x) i ≡ true → waitOf hist j x ≤ delay-is .0
-      source-waits x r e =
-          wait-le hist j (used-of j isTask) (part j isTask) (begin j isTask) (still j isTask) x (delay-is .0) r (λ y a b u. go y a b u (cmp x y))
-        where
-          go : (y : ℕ) → x ≤ y → y ≤ length hist → ((z : ℕ) → x ≤ z → z < y → ends (tickAt hist z) j ≡ false) → Cmp x y → y < x + delay-is .0
-          go y a b u (less c) = wait-bound (system d) (F .loaded) (F .shaped) gap T one-spaced i j isSource few linked-here (delay-is .0) fixed y x (event y x c b e u)
-          go y a b u (same c) = omega (arith, delay-some (system d) (F .loaded) (F .shaped) gap T one-spaced i j isSource few linked-here (delay-is .0) fixed)
-          go y a b u (more c) = absurd (omega arith)
+      waits-most : (x : ℕ) → x < length hist → fires (tickAt hist x) i ≡ true → waitOf hist j x ≤ delay-is .0
+      waits-most x r e =
+          source-waits (F .loaded) (F .shaped) S takes hist shows i j linked-here one-spaced isSource few P (delay-is .0) fixed x r e
 
     -- a critical link from a task is held in order
-    task-not-dropped : linkAt d l .critical ≡ 1 → IsTask (system d) i → Dropped hist i j → ⊥
+    order-kept : linkAt d l .critical ≡ 1 → IsTask (system d) i → Dropped hist i j → ⊥
     unfolding verdictAt verdictOf orderVerdict
-    task-not-dropped crit own k = go (inOrder (system d) i j) refl
+    order-kept crit own k = go (inOrder (system d) i j) refl
       where
-        small : system d .tasks < 33
-        small = omega (arith, F .shaped .few)
-
-        low : i ≤ 32
-        low = omega (arith, own .1, F .shaped .few)
-
         go : (b : Bool) → inOrder (system d) i j ≡ b → ⊥
         go true e =
-            let o : InOrder (system d) i j = F .ordered i j own (link-here d wf (F .loaded) t ks l p) e in
-            token-kept (system d) gap T (F .loaded) (F .shaped) i j (o .F) (o .N) (o .hood) (o .below) small linked-here (k .second) (k .before)
-            (record {
-              before = k .earlier;
-              came = run-fires low (k .before) (omega (arith, k .earlier, k .in-list)) ∙ k .fired-before;
-              unserved = λ z a b. run-ends z j (omega (arith, k .in-list)) ∙ unserved-ends (k .before) (k .second) (k .earlier) (omega (arith, k .in-list)) (k .not-served) z (omega arith) b;
-            })
-            (run-fires low (k .second) (k .in-list) ∙ k .fired-second)
+            task-not-dropped (F .loaded) (F .shaped) S takes hist shows i j linked-here own (F .ordered i j own (link-here d wf (F .loaded) t ks l p) e) P k
         go false e =
-            let v : verdictAt d q l ≡ DoubtOrder = rw (crit, lt-ltb i 33 (omega arith), e) refl in
+            let v : verdictAt d q l ≡ DoubtOrder = rw (crit, lt-ltb i 33 (omega (arith, own .1, F .shaped .few)), e) refl in
             not-both not-doubtful (ap (λ (w : Verdict). not (doubtful w)) v)
 
     link-not-dropped : linkAt d l .critical ≡ 1 → Dropped hist i j → ⊥
@@ -254,15 +198,15 @@ module _ (d : Description) (q t : ℕ) (F : Facts d q t) (cs : List Call) where
     link-not-dropped crit k = go (wf .link-from l p)
       where
         go : IsTask (system d) i ⊎ ((33 ≤ i) × (i < 33 + d .«source_count»)) → ⊥
-        go (inl own) = task-not-dropped crit own k
-        go (inr s) = source-not-dropped crit (s .0) (s .1) k
+        go (inl own) = order-kept crit own k
+        go (inr s) = kept crit (s .0) (s .1) k
 
     link-waits : linkAt d l .critical ≡ 1 → 33 ≤ i → (x : ℕ) → x < length hist → fires (tickAt hist x) i ≡ true → waitOf hist j x ≤ delayIn (verdictAt d q l)
     link-waits crit s x r e = go (kind d wf (F .loaded) t ks l p)
       where
         go : (i ≤ 32) ⊎ ((33 ≤ i) × (i < 33 + d .«source_count»)) → waitOf hist j x ≤ delayIn (verdictAt d q l)
         go (inl a) = absurd (omega arith)
-        go (inr a) = omega (arith, source-waits crit s (a .1) x r e, delay-is crit s (a .1) .2)
+        go (inr a) = omega (arith, waits-most crit s (a .1) x r e, delay-is crit s (a .1) .2)
 
   left-is : left d t (idle d t) cs ≡ at d wf t ks (length hist)
   left-is = R .ends-at ∙ ap (λ (n : ℕ). at d wf t ks n) (sym (R .as-many))

@@ -1,7 +1,7 @@
 -- The highest awake task, and what the clearing of marks and the rise of ages do to the record. Assumes nothing.
 use Prim.Native.Nat.{ℕ, zero, suc, _+_, _-_, _≤_, _<_, min}
-use mathlib.Core.Path.{_≡_, refl, _∙_}
-use mathlib.Core.Bool.{Bool, true, false, _||_, _&&_, not, cond}
+use mathlib.Core.Path.{_≡_, refl, sym, _∙_}
+use mathlib.Core.Bool.{Bool, true, false, _&&_, not, cond}
 use mathlib.Core.List.{List}
 use native.Mathlib.Omega.{arith}
 use lib.ListN.{getD, length-set}
@@ -13,7 +13,8 @@ use Rattle.model.specs.Basics.{upTo}
 use Rattle.model.specs.Graph.{linkAt}
 use Rattle.model.specs.Delays.{spacingOf}
 use Rattle.model.specs.Machine.{waitingAt, ageAt, highestIn, clearLink, clearInto, ageOne, ageAll}
-use Rattle.lemmas.proofs.Tests.{Cmp, less, same, more, cmp}
+use Rattle.lemmas.proofs.Tests.{Cmp, less, same, more, cmp, and-false-right}
+use Rattle.lemmas.proofs.Bools.{and-on, and-not-or, set-false}
 use Rattle.theory.proofs.WellFormed.{WellFormed}
 use Rattle.assurance.proofs.Firing.{Sized, getD-set, less-more}
 
@@ -56,15 +57,8 @@ pub record Cleared (d : Description) (h n : ℕ) (m m′ : Machine) : Type 0 whe
   pub ages : m′ .ages ≡ m .ages
   pub waiting : (l : ℕ) → waitingAt m′ l ≡ (waitingAt m l && not (ltb l n && eqb (linkAt d l .to) h))
 
-and-two : (w a b : Bool) → (w && not a && not b) ≡ (w && not (a || b))
-and-two true true b = refl
-and-two true false b = refl
-and-two false a b = refl
-
 and-idle : (a b c : Bool) → b ≡ false → a ≡ (a && not (c && b))
-and-idle true b true e = rw e refl
-and-idle true b false e = refl
-and-idle false b c e = refl
+and-idle a b c e = sym (and-on a _ (rw (and-false-right c b e) refl))
 
 -- ages of the first n sources risen
 pub record Aged (d : Description) (t n : ℕ) (m m′ : Machine) : Type 0 where
@@ -81,16 +75,10 @@ module _ (d : Description) (wf : WellFormed d) where
   unfolding clearLink
   clear-one h l p m z k = go (eqb (linkAt d l .to) h) refl
     where
-      test : (b w : Bool) → cond b false w ≡ (w && not (b && true))
-      test true true = refl
-      test true false = refl
-      test false true = refl
-      test false false = refl
-
       go : (b : Bool) → eqb (linkAt d l .to) h ≡ b → waitingAt (clearLink d h l m) k ≡ (waitingAt m k && not (eqb k l && eqb (linkAt d l .to) h))
       go true e =
           rw (e, clearLink)
-          (getD-set (m .waiting) l false false k (omega (arith, z .waitings, wf .few-links)) ∙ test (eqb k l) (waitingAt m k))
+          (getD-set (m .waiting) l false false k (omega (arith, z .waitings, wf .few-links)) ∙ rw (and-on (eqb k l) true refl) (set-false (eqb k l) (waitingAt m k)))
       go false e = rw (e, clearLink) (and-idle (waitingAt m k) false (eqb k l) refl)
 
   clear-rest : (h l : ℕ) (m : Machine) → Sized m → (b : Bool) → eqb (linkAt d l .to) h ≡ b → Sized (clearLink d h l m) × (clearLink d h l m .awake ≡ m .awake) × (clearLink d h l m .used ≡ m .used) × (clearLink d h l m .dropped ≡ m .dropped) × (clearLink d h l m .ages ≡ m .ages)
@@ -120,7 +108,7 @@ module _ (d : Description) (wf : WellFormed d) where
         used = g .2 ∙ f .used;
         dropped = g .3 ∙ f .dropped;
         ages = g .4 ∙ f .ages;
-        waiting = λ l. rw (clear-one h n (omega arith) m₁ (f .sized) l, f .waiting l, less-more (λ k. eqb (linkAt d k .to) h) l n) (and-two (waitingAt m l) (ltb l n && eqb (linkAt d l .to) h) (eqb l n && eqb (linkAt d n .to) h));
+        waiting = λ l. rw (clear-one h n (omega arith) m₁ (f .sized) l, f .waiting l, less-more (λ k. eqb (linkAt d k .to) h) l n) (and-not-or (waitingAt m l) (ltb l n && eqb (linkAt d l .to) h) (eqb l n && eqb (linkAt d n .to) h));
       }
 
   pub cleared : (h : ℕ) (m : Machine) → Sized m → Cleared d h (d .«link_count») m (clearInto d h m)

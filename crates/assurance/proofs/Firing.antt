@@ -4,7 +4,6 @@ use mathlib.Core.Path.{_≡_, refl, sym, ap, _∙_}
 use mathlib.Core.Bool.{Bool, true, false, _||_, _&&_, cond}
 use mathlib.Core.List.{List}
 use native.Mathlib.Omega.{arith}
-use native.Mathlib.Nat.{zero-add}
 use lib.ListN.{length, getD, set, length-set}
 use lib.Seq.{getD-set-same, getD-set-other}
 use lib.Dec.{ltb, eqb}
@@ -14,7 +13,8 @@ use Rattle.model.specs.declared.Machine.{Machine}
 use Rattle.model.specs.Basics.{anyN, upTo}
 use Rattle.model.specs.Graph.{linkAt, system}
 use Rattle.model.specs.Machine.{awakeAt, waitingAt, droppedAt, setAwake, setWaiting, setDropped, markDropped, fireLink, fire}
-use Rattle.lemmas.proofs.Tests.{Cmp, less, same, more, cmp, same-test, and-left}
+use Rattle.lemmas.proofs.Tests.{Cmp, less, same, more, cmp, same-test, and-left, and-false-right}
+use Rattle.lemmas.proofs.Bools.{or-off, or-on, or-idle, or-idle-right, or-assoc, and-on, set-true, any-next}
 use Rattle.theory.proofs.WellFormed.{WellFormed}
 
 -- the record's lists have their lengths
@@ -39,37 +39,18 @@ getD-task l h v d k o p q =
     let e : eqb (k - 1) (h - 1) ≡ eqb k h = same-test (eqb (k - 1) (h - 1)) (eqb k h) (λ x. let y : k - 1 ≡ h - 1 = eqb-true (k - 1) (h - 1) x in eq-eqb k h (omega arith)) (λ x. let y : k ≡ h = eqb-true k h x in eq-eqb (k - 1) (h - 1) (omega arith)) in
     rw (← e) (getD-set l (h - 1) v d (k - 1) (omega arith))
 
--- laws of tests
-pub or-assoc : (a b c : Bool) → (a || b || c) ≡ (a || (b || c))
-or-assoc true b c = refl
-or-assoc false b c = refl
-
-set-true : (b c : Bool) → cond b true c ≡ (c || b)
-set-true true true = refl
-set-true true false = refl
-set-true false true = refl
-set-true false false = refl
-
 -- one more number that a test is tried at
 pub less-more : (f : ℕ → Bool) (k n : ℕ) → (ltb k (suc n) && f k) ≡ ((ltb k n && f k) || (eqb k n && f n))
 less-more f k n = go (cmp k n)
   where
     go : Cmp k n → (ltb k (suc n) && f k) ≡ ((ltb k n && f k) || (eqb k n && f n))
     go (less r) = rw (lt-ltb k n r, lt-ltb k (suc n) (omega arith), ne-eqb k n (λ e. omega arith)) (sym (or-off (f k)))
-      where
-        or-off : (b : Bool) → (b || false) ≡ b
-        or-off true = refl
-        or-off false = refl
     go (same r) = rw (le-ltb k n (omega arith), lt-ltb k (suc n) (omega arith), eq-eqb k n r) (ap f r)
     go (more r) = rw (le-ltb k n (omega arith), le-ltb k (suc n) (omega arith), ne-eqb k n (λ e. omega arith)) refl
 
 pub less-apart : (f : ℕ → Bool) (k n : ℕ) → (ltb k n && f k) ≡ true → (eqb k n && f n) ≡ true → ⊥
 less-apart f k n p q =
     omega (arith, ltb-true k n (and-left (ltb k n) (f k) p), eqb-true k n (and-left (eqb k n) (f n) q))
-
-any-more : (p : ℕ → Bool) (n : ℕ) → anyN p 0 (suc n) ≡ (anyN p 0 n || p n)
-unfolding anyN
-any-more p n = rw (zero-add n)
 
 -- a mark that was set earlier, a link that waited, and the two sets of firings, which are apart
 pub drop-more : (d w a b : Bool) → (a ≡ true → b ≡ true → ⊥) → ((d || (w && a)) || ((w || a) && b)) ≡ (d || (w && (a || b)))
@@ -122,38 +103,15 @@ mark-length false l m = refl
 mark-dropped : (l : ℕ) (m : Machine) → l < length (m .dropped) → (k : ℕ) → droppedAt (markDropped l m) k ≡ (droppedAt m k || (waitingAt m k && eqb k l))
 mark-dropped l m p k = go (waitingAt m l) refl (eqb k l) refl
   where
-    or-off : (a b : Bool) → a ≡ (a || (b && false))
-    or-off true b = refl
-    or-off false true = refl
-    or-off false false = refl
-
     go : (w : Bool) → waitingAt m l ≡ w → (b : Bool) → eqb k l ≡ b → droppedAt (cond (waitingAt m l) (setDropped l true m) m) k ≡ (droppedAt m k || (waitingAt m k && eqb k l))
     go true e true f =
         let q : k ≡ l = eqb-true k l f in
-        rw (e, f) (getD-set (m .dropped) l true false k p ∙ rw (f, q, e) (or-on (droppedAt m l)))
-      where
-        or-on : (a : Bool) → true ≡ (a || true)
-        or-on true = refl
-        or-on false = refl
+        rw (e, f) (getD-set (m .dropped) l true false k p ∙ rw (f, q, e) (sym (or-on (droppedAt m l))))
     go false e true f =
         let q : k ≡ l = eqb-true k l f in
-        rw (e, f, q, e) (or-off (droppedAt m l) false)
-    go true e false f = rw (e, f) (getD-set (m .dropped) l true false k p ∙ rw f (or-off (droppedAt m k) (waitingAt m k)))
-    go false e false f = rw (e, f) (or-off (droppedAt m k) (waitingAt m k))
-
-pub or-idle : (a b c : Bool) → b ≡ false → a ≡ (a || (b && c))
-or-idle true b c e = refl
-or-idle false b c e = rw e refl
-
-or-idle₂ : (a b c d : Bool) → c ≡ false → a ≡ (a || (b && (d && c)))
-or-idle₂ true b c d e = refl
-or-idle₂ false true c true e = sym e
-or-idle₂ false true c false e = refl
-or-idle₂ false false c d e = refl
-
-and-on : (b c : Bool) → c ≡ true → (b && c) ≡ b
-and-on true c e = e
-and-on false c e = refl
+        rw (e, f, q, e) (or-idle-right (droppedAt m l) false false refl)
+    go true e false f = rw (e, f) (getD-set (m .dropped) l true false k p ∙ rw f (or-idle-right (droppedAt m k) (waitingAt m k) false refl))
+    go false e false f = rw (e, f) (or-idle-right (droppedAt m k) (waitingAt m k) false refl)
 
 pub eqb-sym : (a b : ℕ) → eqb a b ≡ eqb b a
 eqb-sym a b =
@@ -199,14 +157,9 @@ module _ (d : Description) (wf : WellFormed d) where
     used = refl;
     ages = refl;
     awake = λ k o. or-idle (awakeAt m k) _ _ e;
-    waiting = λ k. rw e (or-none (waitingAt m k) (eqb k l));
-    dropped = λ k. or-idle₂ (droppedAt m k) (waitingAt m k) _ (eqb k l) e;
+    waiting = λ k. or-idle-right (waitingAt m k) (eqb k l) _ e;
+    dropped = λ k. or-idle-right (droppedAt m k) (waitingAt m k) _ (and-false-right (eqb k l) _ e);
   }
-    where
-      or-none : (a b : Bool) → a ≡ (a || (b && false))
-      or-none true b = refl
-      or-none false true = refl
-      or-none false false = refl
 
   link-fired : (x l : ℕ) → l < d .«link_count» → (m : Machine) → Sized m → LinkFired d x l m (fireLink d x l m)
   link-fired x l p m z = go (eqb (linkAt d l .from) x) refl
@@ -223,7 +176,7 @@ module _ (d : Description) (wf : WellFormed d) where
     ages = refl;
     awake = λ k o. or-idle (awakeAt m k) false false refl;
     waiting = λ l. or-idle (waitingAt m l) (ltb l 0) _ (le-ltb l 0 (omega arith));
-    dropped = λ l. rw (le-ltb l 0 (omega arith)) (or-idle₂ (droppedAt m l) (waitingAt m l) false true refl);
+    dropped = λ l. rw (le-ltb l 0 (omega arith)) (or-idle-right (droppedAt m l) (waitingAt m l) false refl);
   }
 
   fired-more : (x n : ℕ) (m m₁ m₂ : Machine) → Fired d x n m m₁ → LinkFired d x n m₁ m₂ → Fired d x (suc n) m m₂
@@ -233,7 +186,7 @@ module _ (d : Description) (wf : WellFormed d) where
         sized = g .sized;
         used = g .used ∙ f .used;
         ages = g .ages ∙ f .ages;
-        awake = λ k o. rw (g .awake k o, f .awake k o, any-more (λ l. eqb (linkAt d l .from) x && eqb (linkAt d l .to) k) n) (or-assoc (awakeAt m k) _ _);
+        awake = λ k o. rw (g .awake k o, f .awake k o, any-next (λ l. eqb (linkAt d l .from) x && eqb (linkAt d l .to) k) n) (or-assoc (awakeAt m k) _ _);
         waiting = λ l. rw (g .waiting l, f .waiting l, less-more from l n) (or-assoc (waitingAt m l) _ _);
         dropped = λ l. rw (g .dropped l, f .waiting l, f .dropped l, less-more from l n) (drop-more (droppedAt m l) (waitingAt m l) (ltb l n && from l) (eqb l n && from n) (less-apart from l n));
       }
@@ -250,15 +203,6 @@ module _ (d : Description) (wf : WellFormed d) where
   fired x m z = fired-to x (d .«link_count») (omega arith) m z
 
 -- nothing is set past the links
-or-none : (a : Bool) → (a || false) ≡ a
-or-none true = refl
-or-none false = refl
-
-or-none₂ : (a b : Bool) → (a || (b && false)) ≡ a
-or-none₂ true b = refl
-or-none₂ false true = refl
-or-none₂ false false = refl
-
 pub fired-past : (d : Description) (x : ℕ) (m m′ : Machine) → Fired d x (d .«link_count») m m′ → (l : ℕ) → d .«link_count» ≤ l → (waitingAt m′ l ≡ waitingAt m l) × (droppedAt m′ l ≡ droppedAt m l)
 fired-past d x m m′ f l p =
-    (f .waiting l ∙ rw (le-ltb l (d .«link_count») p) (or-none (waitingAt m l)), f .dropped l ∙ rw (le-ltb l (d .«link_count») p) (or-none₂ (droppedAt m l) (waitingAt m l)))
+    (f .waiting l ∙ rw (le-ltb l (d .«link_count») p) (or-off (waitingAt m l)), f .dropped l ∙ rw (le-ltb l (d .«link_count») p) (sym (or-idle-right (droppedAt m l) (waitingAt m l) false refl)))

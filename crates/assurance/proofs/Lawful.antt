@@ -27,7 +27,7 @@ use Rattle.theory.proofs.Fielded.{shaped}
 use Rattle.theory.proofs.LoadLaws.{loaded}
 use Rattle.theory.proofs.Spacing.{gap-some}
 use Rattle.assurance.proofs.Arriving.{Arrived, arrived}
-use Rattle.assurance.proofs.Trace.{after-stays, after-fires, after-wakes}
+use Rattle.assurance.proofs.Stepping.{after-stays, after-fires, after-wakes}
 use Rattle.assurance.proofs.Replay.{stateAt, Passed, taken, Replayed, replayed}
 use Rattle.assurance.proofs.Machine.{getD-same, at, marksAt, highAt, endAt, at-sized, at-step, at-rests, at-below}
 use Rattle.assurance.proofs.Marks.{firesIn, endsIn, link-here, kind, waiting-next, waiting-first}
@@ -133,12 +133,12 @@ module _ (d : Description) (wf : WellFormed d) (L : Loaded (system d)) (G : Shap
             by : (b : Bool) → awakeAt (st x) k ≡ b → (awakeAt (st x) k || eqb (usedAt (st x) k) 0) ≡ true
             by true e = or-left (awakeAt (st x) k) _ e
             by false e =
-                or-right (awakeAt (st x) k) _ (eq-eqb (usedAt (st x) k) 0 (at-rests d wf t ks (spacingOf d t) gaps passed G x k o e))
+                or-right (awakeAt (st x) k) _ (eq-eqb (usedAt (st x) k) 0 (at-rests d wf t ks x k o e))
 
         absent : d .«task_count» < k → (not (awakeAt (st x) k) && eqb (usedAt (st x) k) 0) ≡ true
         absent p =
             let e : awakeAt (st x) k ≡ false = absent-asleep x k o p in
-            both (not (awakeAt (st x) k)) _ (rw e refl) (eq-eqb (usedAt (st x) k) 0 (at-rests d wf t ks (spacingOf d t) gaps passed G x k o e))
+            both (not (awakeAt (st x) k)) _ (rw e refl) (eq-eqb (usedAt (st x) k) 0 (at-rests d wf t ks x k o e))
 
         go : (b : Bool) → leb k (d .«task_count») ≡ b → taskRule d (st x) k ≡ true
         go true e = rw e (here (leb-true k (d .«task_count») e))

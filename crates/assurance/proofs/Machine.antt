@@ -1,27 +1,30 @@
--- The plain machine's accepted ticks as a run by tick numbers, and its marks from tick to tick. Assumes nothing.
+-- The accepted ticks of the plain machine are a schedule, and a preemptive one. Assumes nothing.
 use Prim.Native.Nat.{ℕ, zero, suc, _+_, _-_, _≤_, _<_, min}
-use mathlib.Core.Path.{_≡_, refl, ap}
-use mathlib.Core.Bool.{Bool, true, false, _&&_, not, cond}
+use mathlib.Core.Path.{_≡_, refl, sym, ap, _∙_}
+use mathlib.Core.Bool.{Bool, true, false, _||_, _&&_, not, cond}
 use mathlib.Core.List.{List}
+use mathlib.Core.Logic.{_⊎_, inl, inr}
 use native.Mathlib.Omega.{arith}
 use lib.ListN.{length, getD, replicate, length-replicate, getD-replicate, List·getD-eq-default}
 use lib.Dec.{ltb, eqb, leb}
-use borrow.Author.Tests.{eqb-false, eq-eqb, ne-eqb, ltb-false, le-leb, not-true}
+use borrow.Author.Tests.{eqb-true, eqb-false, eq-eqb, ne-eqb, lt-ltb, ltb-false, le-leb, not-true}
 use Rattle.model.specs.declared.Description.{Description}
 use Rattle.model.specs.declared.Machine.{Machine}
-use Rattle.model.specs.Graph.{system, runOf}
+use Rattle.model.specs.Basics.{anyN}
+use Rattle.model.specs.Graph.{system, runOf, linkAt, linked}
 use Rattle.model.specs.Delays.{spacingOf}
 use Rattle.model.specs.Machine.{awakeAt, usedAt, ageAt, idle, arrive, highest, tooSoon}
 use Rattle.model.specs.History.{Call}
-use Rattle.lemmas.proofs.Tests.{Cmp, less, same, more, cmp, not-both, and-left, or-left, both}
-use Rattle.lemmas.proofs.Range.{none-any}
+use Rattle.lemmas.proofs.Tests.{Cmp, less, same, more, cmp, not-both, false-of, and-left, and-right, and-false-left, or-left, or-right, or-false-left, or-cases, both}
+use Rattle.lemmas.proofs.Range.{Found, any-at, any-found, none-any}
 use Rattle.lemmas.proofs.Table.{length-tab}
 use Rattle.theory.proofs.WellFormed.{WellFormed, Shaped}
 use Rattle.assurance.proofs.Firing.{Sized}
 use Rattle.assurance.proofs.Arriving.{arrived}
 use Rattle.assurance.proofs.Ending.{highest-le, highest-above, highest-awake}
-use Rattle.assurance.proofs.Stepping.{overAt, Stepped, step}
-use Rattle.assurance.proofs.Trace.{Trace, endsAt, good}
+use Rattle.assurance.proofs.Stepping.{after-stays, after-wakes, after-fires, after-on, overAt, Stepped, step}
+use Rattle.assurance.proofs.Potential.{live}
+use Rattle.assurance.proofs.Schedule.{Left, Schedule, beginsAt, endsAt, Preempts, below}
 use Rattle.assurance.proofs.Replay.{quietCall, callAt, stateAt, Passed}
 
 -- an entry of a list of one value is that value, past its end too
@@ -35,6 +38,17 @@ getD-same n i a = go (cmp i n)
     go (less r) = getD-replicate n i a a r
     go (same r) = past (omega arith)
     go (more r) = past (omega arith)
+
+-- a run pends where its task is awake and has used nothing; an awake task is live
+abbrev pub pend : (ℕ → Bool) → (ℕ → ℕ) → ℕ → Bool
+pend aw us k = aw k && eqb (us k) 0
+
+live-on : (aw : ℕ → Bool) (us : ℕ → ℕ) (k : ℕ) → aw k ≡ true → live us (pend aw us) k ≡ true
+live-on aw us k e = go (us k) refl
+  where
+    go : (u : ℕ) → us k ≡ u → (ltb 0 (us k) || (aw k && eqb (us k) 0)) ≡ true
+    go zero q = rw (q, e) refl
+    go (suc u) q = or-left (ltb 0 (us k)) _ (lt-ltb 0 (us k) (omega arith))
 
 idle-sized : (d : Description) (t : ℕ) → Sized (idle d t)
 unfolding idle
@@ -72,6 +86,101 @@ module _ (d : Description) (wf : WellFormed d) (t : ℕ) (ks : List Call) where
   pub high-low : (x : ℕ) → highAt x ≤ d .«task_count»
   high-low x = highest-le (arrive d (marksAt x) (at x) .awake) (d .«task_count»)
 
+  -- the record once the sources have fired
+  abbrev pub midAt : ℕ → Machine
+  midAt x = arrive d (marksAt x) (at x)
+
+  mid-is : (x k : ℕ) → 1 ≤ k → awakeAt (midAt x) k ≡ (awakeAt (at x) k || anyN (λ u. getD (marksAt x) (u - 33) false && linked d u k) 33 (d .«source_count»))
+  mid-is x k o = arrived d wf (marksAt x) (at x) (at-sized x) .awake k o
+
+  mid-keeps : (x k : ℕ) → 1 ≤ k → awakeAt (at x) k ≡ true → awakeAt (midAt x) k ≡ true
+  mid-keeps x k o e = mid-is x k o ∙ or-left (awakeAt (at x) k) _ e
+
+  mid-off : (x k : ℕ) → 1 ≤ k → awakeAt (midAt x) k ≡ false → awakeAt (at x) k ≡ false
+  mid-off x k o e = or-false-left (awakeAt (at x) k) _ (sym (mid-is x k o) ∙ e)
+
+  high-awake : (x : ℕ) → 0 < highAt x → awakeAt (midAt x) (highAt x) ≡ true
+  high-awake x p = highest-awake (midAt x .awake) (d .«task_count») p
+
+  used-else : (x k : ℕ) → 1 ≤ k → (k ≡ highAt x → ⊥) → usedAt (at (suc x)) k ≡ usedAt (at x) k
+  used-else x k o ne = at-step x .used k o ∙ rw (ne-eqb k (highAt x) ne)
+
+  stays-awake : (x k : ℕ) → 1 ≤ k → (k ≡ highAt x → ⊥) → awakeAt (midAt x) k ≡ true → awakeAt (at (suc x)) k ≡ true
+  stays-awake x k o ne e =
+      at-step x .awake k o ∙ after-stays (awakeAt (midAt x) k) (endAt x) (eqb k (highAt x)) (linked d (highAt x) k) e (λ p q. ne (eqb-true k (highAt x) q))
+
+  -- who sleeps has used nothing
+  pub at-rests : (x k : ℕ) → 1 ≤ k → awakeAt (at x) k ≡ false → usedAt (at x) k ≡ 0
+  unfolding stateAt idle
+  at-rests zero k o e = getD-same 32 (k - 1) 0
+  at-rests (suc x) k o e = go (eqb k (highAt x)) refl (endAt x) refl (at-rests x k o)
+    where
+      go : (b : Bool) → eqb k (highAt x) ≡ b → (c : Bool) → endAt x ≡ c → (awakeAt (at x) k ≡ false → usedAt (at x) k ≡ 0) → usedAt (at (suc x)) k ≡ 0
+      go true p true q ih = at-step x .used k o ∙ rw (p, q) refl
+      go true p false q ih =
+          let y : k ≡ highAt x = eqb-true k (highAt x) p in
+          let m : awakeAt (midAt x) k ≡ true = rw y (high-awake x (omega arith)) in
+          absurd (not-both (at-step x .awake k o ∙ (after-on (awakeAt (midAt x) k) (endAt x) (eqb k (highAt x)) (linked d (highAt x) k) q ∙ m)) e)
+      go false p c q ih =
+          let ne : k ≡ highAt x → ⊥ = eqb-false k (highAt x) p in
+          let off : awakeAt (at x) k ≡ false = false-of (awakeAt (at x) k) (λ y. not-both (stays-awake x k o ne (mid-keeps x k o y)) e) in
+          used-else x k o ne ∙ ih off
+
+  mid-rests : (x k : ℕ) → 1 ≤ k → awakeAt (midAt x) k ≡ false → usedAt (at x) k ≡ 0
+  mid-rests x k o e = at-rests x k o (mid-off x k o e)
+
+  -- above the task that runs all sleep
+  high-above : (x k : ℕ) → highAt x < k → k ≤ d .«task_count» → live (usedAt (at x)) (pend (awakeAt (midAt x)) (usedAt (at x))) k ≡ false
+  high-above x k p q =
+      let e : awakeAt (midAt x) k ≡ false = highest-above (midAt x .awake) (d .«task_count») k p q in
+      rw (mid-rests x k (omega arith) e, e) refl
+
+  -- what is pending, from tick to tick
+  abbrev pendAt : ℕ → ℕ → Bool
+  pendAt x = pend (awakeAt (at x)) (usedAt (at x))
+
+  abbrev pendMid : ℕ → ℕ → Bool
+  pendMid x = pend (awakeAt (midAt x)) (usedAt (at x))
+
+  pend-mid : (x k : ℕ) → 1 ≤ k → pendMid x k ≡ true → (pendAt x k ≡ true) ⊎ Found (λ u. getD (marksAt x) (u - 33) false && linked d u k) 33 (d .«source_count»)
+  pend-mid x k o e =
+      let z : eqb (usedAt (at x) k) 0 ≡ true = and-right (awakeAt (midAt x) k) _ e in
+      or-cases (awakeAt (at x) k) _ (sym (mid-is x k o) ∙ and-left (awakeAt (midAt x) k) _ e) (λ p. inl (both (awakeAt (at x) k) _ p z)) (λ p. inr (any-found _ 33 (d .«source_count») p))
+
+  pend-kept : (x k : ℕ) → 1 ≤ k → Left (usedAt (at x)) (pendMid x) (highAt x) k → pendAt (suc x) k ≡ true
+  pend-kept x k o w =
+      let z : usedAt (at x) k ≡ 0 = eqb-true (usedAt (at x) k) 0 (and-right (awakeAt (midAt x) k) _ (w .0)) in
+      let ne : k ≡ highAt x → ⊥ = λ q. omega (arith, w .1 q) in
+      both (awakeAt (at (suc x)) k) _ (stays-awake x k o ne (and-left (awakeAt (midAt x) k) _ (w .0))) (eq-eqb (usedAt (at (suc x)) k) 0 (used-else x k o ne ∙ z))
+
+  pend-from : (x k : ℕ) → 1 ≤ k → pendAt (suc x) k ≡ true → Left (usedAt (at x)) (pendMid x) (highAt x) k ⊎ ((endAt x ≡ true) × (linked d (highAt x) k ≡ true))
+  pend-from x k o e =
+      go (after-wakes (awakeAt (midAt x) k) (endAt x) (eqb k (highAt x)) (linked d (highAt x) k) (sym (at-step x .awake k o) ∙ and-left (awakeAt (at (suc x)) k) _ e))
+    where
+      none : usedAt (at (suc x)) k ≡ 0
+      none = eqb-true (usedAt (at (suc x)) k) 0 (and-right (awakeAt (at (suc x)) k) _ e)
+
+      other : (endAt x ≡ true → eqb k (highAt x) ≡ false) → (c : Bool) → endAt x ≡ c → k ≡ highAt x → ⊥
+      other f true q y = not-both (eq-eqb k (highAt x) y) (f q)
+      other f false q y =
+          let h : usedAt (at (suc x)) k ≡ suc (usedAt (at x) k) = at-step x .used k o ∙ rw (eq-eqb k (highAt x) y, q) refl in
+          omega (arith, none)
+
+      go : ((awakeAt (midAt x) k ≡ true) × (endAt x ≡ true → eqb k (highAt x) ≡ false)) ⊎ ((endAt x ≡ true) × (linked d (highAt x) k ≡ true)) → Left (usedAt (at x)) (pendMid x) (highAt x) k ⊎ ((endAt x ≡ true) × (linked d (highAt x) k ≡ true))
+      go (inr w) = inr w
+      go (inl w) =
+          let ne : k ≡ highAt x → ⊥ = other (w .1) (endAt x) refl in
+          let z : usedAt (at x) k ≡ 0 = sym (used-else x k o ne) ∙ none in
+          inl (both (awakeAt (midAt x) k) _ (w .0) (eq-eqb (usedAt (at x) k) 0 z), λ q. absurd (ne q))
+
+  -- a link leads to a task
+  link-some : (i k : ℕ) → linked d i k ≡ true → 1 ≤ k
+  unfolding linked
+  link-some i k e =
+      let w : Found (λ l. eqb (linkAt d l .from) i && eqb (linkAt d l .to) k) 0 (d .«link_count») = any-found _ 0 (d .«link_count») e in
+      let q : linkAt d (w .at) .to ≡ k = eqb-true (linkAt d (w .at) .to) k (and-right (eqb (linkAt d (w .at) .from) i) _ (w .passes)) in
+      rw q at (wf .link-to (w .at) (omega (arith, w .within)) .0)
+
   end-runs : (x : ℕ) → endAt x ≡ true → 0 < highAt x
   end-runs x e =
       let n : eqb (highAt x) 0 ≡ false = not-true (eqb (highAt x) 0) (and-left (not (eqb (highAt x) 0)) _ e) in
@@ -108,26 +217,31 @@ module _ (d : Description) (wf : WellFormed d) (t : ℕ) (ks : List Call) where
         go (same r) = absurd (late (omega arith))
         go (more r) = absurd (late (omega arith))
 
-    pub trace : Trace (system d) gap
+    pub schedule : Schedule (system d) gap
     unfolding system
-    trace = record {
-      awake = λ x k. awakeAt (at x) k;
-      mid = λ x k. awakeAt (arrive d (marksAt x) (at x)) k;
+    schedule = record {
       used = λ x k. usedAt (at x) k;
+      pending = pendAt;
+      pendingMid = pendMid;
       arr = λ x u. getD (marksAt x) (u - 33) false;
       age = λ x u. ageAt (at x) (u - 33);
-      high = highAt;
+      ran = highAt;
       over = endAt;
-      asleep-first = λ k o. unfold stateAt idle in getD-same 32 (k - 1) false;
       unused-first = λ k o. unfold stateAt idle in getD-same 32 (k - 1) 0;
-      mid-is = λ x k o. arrived d wf (marksAt x) (at x) (at-sized x) .awake k o;
-      high-task = high-low;
-      high-awake = λ x p. highest-awake (arrive d (marksAt x) (at x) .awake) (d .«task_count») p;
-      high-above = λ x k p q. highest-above (arrive d (marksAt x) (at x) .awake) (d .«task_count») k p q;
-      over-runs = end-runs;
+      pending-first = λ k o. and-false-left (awakeAt (at 0) k) _ (unfold stateAt idle in getD-same 32 (k - 1) false);
+      mid-kept = λ x k o e. both (awakeAt (midAt x) k) _ (mid-keeps x k o (and-left (awakeAt (at x) k) _ e)) (and-right (awakeAt (at x) k) _ e);
+      mid-from = pend-mid;
+      mid-live = λ x u k p q e l. live-on (awakeAt (midAt x)) (usedAt (at x)) k (mid-is x k (link-some u k l) ∙ or-right (awakeAt (at x) k) _ (any-at _ 33 (d .«source_count») u p q (both (getD (marksAt x) (u - 33) false) _ e l)));
+      ran-task = high-low;
+      ran-live = λ x p. live-on (awakeAt (midAt x)) (usedAt (at x)) (highAt x) (high-awake x p);
+      ran-begins = λ x z k p q. high-above x k p q;
+      ran-none = λ x z k p q. high-above x k (omega arith) q;
+      over-ran = end-runs;
       over-full = end-full;
-      awake-next = λ x k o. at-step x .awake k o;
       used-next = λ x k o. at-step x .used k o;
+      next-kept = pend-kept;
+      next-from = pend-from;
+      next-live = λ x k e l. live-on (awakeAt (at (suc x))) (usedAt (at (suc x))) k (at-step x .awake k (link-some (highAt x) k l) ∙ after-fires (awakeAt (midAt x) k) (endAt x) (eqb k (highAt x)) (linked d (highAt x) k) e l);
       age-ready = ready;
       age-fired = λ x u p q e. rw (age-next x u p q, e) (omega arith);
       age-older = λ x u p q. rw (age-next x u p q) (older (getD (marksAt x) (u - 33) false) (spacingOf d t u) (ageAt (at x) (u - 33)));
@@ -138,22 +252,30 @@ module _ (d : Description) (wf : WellFormed d) (t : ℕ) (ks : List Call) where
         older true m a = omega arith
         older false m a = omega arith
 
+    pub preempts : Preempts schedule
+    unfolding schedule system
+    preempts = record { above = high-above }
+
     -- the same run, read off the record
-    pub trace-ends : (x j : ℕ) → endsAt (system d) gap trace x j ≡ (eqb (highAt x) j && endAt x)
-    unfolding trace
-    trace-ends x j = refl
+    pub schedule-arr : (x u : ℕ) → schedule .arr x u ≡ getD (marksAt x) (u - 33) false
+    unfolding schedule
+    schedule-arr x u = refl
 
-    pub trace-arr : (x u : ℕ) → trace .arr x u ≡ getD (marksAt x) (u - 33) false
-    unfolding trace
-    trace-arr x u = refl
+    pub schedule-begins : (j x : ℕ) → beginsAt schedule j x ≡ (eqb (highAt x) j && eqb (usedAt (at x) j) 0)
+    unfolding schedule
+    schedule-begins j x = refl
 
-    -- who sleeps has used nothing, and nobody has used a whole run
-    pub at-rests : Shaped (system d) → (x k : ℕ) → 1 ≤ k → awakeAt (at x) k ≡ false → usedAt (at x) k ≡ 0
-    unfolding trace
-    at-rests G x k o e = good (system d) gap trace G x .rests k o e
+    pub schedule-ends : (j x : ℕ) → endsAt schedule j x ≡ (eqb (highAt x) j && endAt x)
+    unfolding schedule
+    schedule-ends j x = refl
 
+    pub schedule-used : (x k : ℕ) → schedule .used x k ≡ usedAt (at x) k
+    unfolding schedule
+    schedule-used x k = refl
+
+    -- nobody has used a whole run
     pub at-below : Shaped (system d) → (x k : ℕ) → 1 ≤ k → k ≤ d .«task_count» → usedAt (at x) k < runOf d k
-    unfolding trace system
+    unfolding schedule system
     at-below G x k o p =
-        let h : usedAt (at x) k < cond (leb k (d .«task_count»)) (runOf d k) 0 = good (system d) gap trace G x .below k o p in
+        let h : usedAt (at x) k < cond (leb k (d .«task_count»)) (runOf d k) 0 = below schedule G x k o p in
         rw (le-leb k (d .«task_count») p) at h

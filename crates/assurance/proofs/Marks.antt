@@ -1,4 +1,4 @@
--- A link's two marks: from tick to tick, and what they say of its events. Assumes nothing.
+-- A link's two marks: from tick to tick, and what they say of its events (waiting: the last is unserved). Assumes nothing.
 use Prim.Native.Nat.{ℕ, zero, suc, _+_, _-_, _≤_, _<_}
 use mathlib.Core.Path.{_≡_, refl, sym, subst, _∙_}
 use mathlib.Core.Bool.{Bool, true, false, _||_, _&&_, not, cond}
@@ -20,8 +20,15 @@ use Rattle.assurance.proofs.Arriving.{comes}
 use Rattle.assurance.proofs.Machine.{getD-same, at, marksAt, highAt, endAt, at-step, high-low}
 use Rattle.assurance.proofs.Replay.{stateAt}
 
--- ev: the ticks in which a link gets an event; sv: those in which a run of its task ends; wa, dr: its two marks before each tick
-module _ (ev sv wa dr : ℕ → Bool) (wa-first : wa 0 ≡ false) (dr-first : dr 0 ≡ false) (wa-next : (x : ℕ) → wa (suc x) ≡ ((wa x || ev x) && not (sv x))) (dr-next : (x : ℕ) → dr (suc x) ≡ (dr x || (wa x && ev x))) where
+-- ev: the ticks in which a link gets an event; sv: those in which the run that takes its last event ends; wa, dr: its two marks before
+-- each tick. In the base machine every end of its task's runs is one of sv (Events, no-end).
+pub record Marked (ev sv wa dr : ℕ → Bool) : Type 0 where
+  pub wa-first : wa 0 ≡ false
+  pub dr-first : dr 0 ≡ false
+  pub wa-next : (x : ℕ) → wa (suc x) ≡ ((wa x || ev x) && not (sv x))
+  pub dr-next : (x : ℕ) → dr (suc x) ≡ (dr x || (wa x && ev x))
+
+module _ (ev sv : ℕ → Bool) where
   -- the event of tick x is the last before tick y, and no run has ended since
   pub record Open (y x : ℕ) : Type 0 where
     pub before : x < y
@@ -53,32 +60,6 @@ module _ (ev sv wa dr : ℕ → Bool) (wa-first : wa 0 ≡ false) (dr-first : dr
     unserved = λ z p q. let s : z ≡ y = omega arith in rw s f;
   }
 
-  pub waiting-open : (y : ℕ) → wa y ≡ true → (x : ℕ) × Open y x
-  waiting-open zero e = absurd (not-both e wa-first)
-  waiting-open (suc y) e = go (ev y) refl (waiting-open y)
-    where
-      on : ((wa y || ev y) && not (sv y)) ≡ true
-      on = sym (wa-next y) ∙ e
-
-      off : sv y ≡ false
-      off = not-true (sv y) (and-right (wa y || ev y) (not (sv y)) on)
-
-      go : (b : Bool) → ev y ≡ b → (wa y ≡ true → (x : ℕ) × Open y x) → (x : ℕ) × Open (suc y) x
-      go true f ih = (y, open-new y f off)
-      go false f ih =
-          let (x, o) = ih (or-else (wa y) (ev y) f (and-left (wa y || ev y) (not (sv y)) on)) in
-          (x, open-step y x o f off)
-
-  pub open-waiting : (y x : ℕ) → x < y → ev x ≡ true → ((z : ℕ) → x ≤ z → z < y → sv z ≡ false) → wa y ≡ true
-  open-waiting zero x p e u = absurd (omega arith)
-  open-waiting (suc y) x p e u =
-      wa-next y ∙ both (wa y || ev y) (not (sv y)) (go (cmp x y) (λ r. open-waiting y x r e (λ z a b. u z a (omega arith)))) (rw (u y (omega arith) (omega arith)) refl)
-    where
-      go : Cmp x y → (x < y → wa y ≡ true) → (wa y || ev y) ≡ true
-      go (less r) ih = or-left (wa y) (ev y) (ih r)
-      go (same r) ih = or-right (wa y) (ev y) (rw r at e)
-      go (more r) ih = absurd (omega arith)
-
   -- an event came while the one before it was open
   pub record Drop (n : ℕ) : Type 0 where
     pub second : ℕ
@@ -87,16 +68,43 @@ module _ (ev sv wa dr : ℕ → Bool) (wa-first : wa 0 ≡ false) (dr-first : dr
     pub since : ℕ
     pub held : Open second since
 
-  pub dropped-drop : (n : ℕ) → dr n ≡ true → Drop n
-  dropped-drop zero e = absurd (not-both e dr-first)
+module _ {ev sv wa dr : ℕ → Bool} (M : Marked ev sv wa dr) where
+  pub waiting-open : (y : ℕ) → wa y ≡ true → (x : ℕ) × Open ev sv y x
+  waiting-open zero e = absurd (not-both e (M .wa-first))
+  waiting-open (suc y) e = go (ev y) refl (waiting-open y)
+    where
+      on : ((wa y || ev y) && not (sv y)) ≡ true
+      on = sym (M .wa-next y) ∙ e
+
+      off : sv y ≡ false
+      off = not-true (sv y) (and-right (wa y || ev y) (not (sv y)) on)
+
+      go : (b : Bool) → ev y ≡ b → (wa y ≡ true → (x : ℕ) × Open ev sv y x) → (x : ℕ) × Open ev sv (suc y) x
+      go true f ih = (y, open-new ev sv y f off)
+      go false f ih =
+          let (x, o) = ih (or-else (wa y) (ev y) f (and-left (wa y || ev y) (not (sv y)) on)) in
+          (x, open-step ev sv y x o f off)
+
+  pub open-waiting : (y x : ℕ) → x < y → ev x ≡ true → ((z : ℕ) → x ≤ z → z < y → sv z ≡ false) → wa y ≡ true
+  open-waiting zero x p e u = absurd (omega arith)
+  open-waiting (suc y) x p e u =
+      M .wa-next y ∙ both (wa y || ev y) (not (sv y)) (go (cmp x y) (λ r. open-waiting y x r e (λ z a b. u z a (omega arith)))) (rw (u y (omega arith) (omega arith)) refl)
+    where
+      go : Cmp x y → (x < y → wa y ≡ true) → (wa y || ev y) ≡ true
+      go (less r) ih = or-left (wa y) (ev y) (ih r)
+      go (same r) ih = or-right (wa y) (ev y) (rw r at e)
+      go (more r) ih = absurd (omega arith)
+
+  pub dropped-drop : (n : ℕ) → dr n ≡ true → Drop ev sv n
+  dropped-drop zero e = absurd (not-both e (M .dr-first))
   dropped-drop (suc n) e = go (dr n) refl (dropped-drop n)
     where
       on : (dr n || (wa n && ev n)) ≡ true
-      on = sym (dr-next n) ∙ e
+      on = sym (M .dr-next n) ∙ e
 
-      go : (b : Bool) → dr n ≡ b → (dr n ≡ true → Drop n) → Drop (suc n)
+      go : (b : Bool) → dr n ≡ b → (dr n ≡ true → Drop ev sv n) → Drop ev sv (suc n)
       go true w ih =
-          let k : Drop n = ih w in
+          let k : Drop ev sv n = ih w in
           record { second = k .second; early = omega (arith, k .early); comes-second = k .comes-second; since = k .since; held = k .held }
       go false w ih =
           let f : (wa n && ev n) ≡ true = or-new (dr n) (wa n && ev n) w on in
@@ -105,7 +113,7 @@ module _ (ev sv wa dr : ℕ → Bool) (wa-first : wa 0 ≡ false) (dr-first : dr
 
   pub drop-dropped : (n y x : ℕ) → y < n → x < y → ev y ≡ true → ev x ≡ true → ((z : ℕ) → x ≤ z → z < y → sv z ≡ false) → dr n ≡ true
   drop-dropped zero y x p q e f u = absurd (omega arith)
-  drop-dropped (suc n) y x p q e f u = dr-next n ∙ go (cmp y n) (λ r. drop-dropped n y x r q e f u)
+  drop-dropped (suc n) y x p q e f u = M .dr-next n ∙ go (cmp y n) (λ r. drop-dropped n y x r q e f u)
     where
       go : Cmp y n → (y < n → dr n ≡ true) → (dr n || (wa n && ev n)) ≡ true
       go (less r) ih = or-left (dr n) _ (ih r)
@@ -240,6 +248,12 @@ module _ (d : Description) (wf : WellFormed d) (L : Loaded (system d)) (t : ℕ)
     unfolding stateAt idle
     waiting-first = getD-same 256 l false
 
-    pub dropped-first : droppedAt (at d wf t ks 0) l ≡ false
+    -- the marks of the link at place l
+    pub link-marked : Marked (firesIn from) (endsIn to) (λ x. waitingAt (at d wf t ks x) l) (λ x. droppedAt (at d wf t ks x) l)
     unfolding stateAt idle
-    dropped-first = getD-same 256 l false
+    link-marked = record {
+      wa-first = getD-same 256 l false;
+      dr-first = getD-same 256 l false;
+      wa-next = waiting-next;
+      dr-next = dropped-next;
+    }

@@ -37,10 +37,10 @@ owed s us ps k = cur (work s k) (us k) + next (ps k) (work s k) (over s us ps k)
 unfoldable pub Owed : System → (ℕ → ℕ) → (ℕ → Bool) → ℕ → ℕ
 Owed s us ps j = sumTo (owed s us ps) j (s .tasks)
 
-live-used : (us : ℕ → ℕ) (ps : ℕ → Bool) (k : ℕ) → 0 < us k → live us ps k ≡ true
+pub live-used : (us : ℕ → ℕ) (ps : ℕ → Bool) (k : ℕ) → 0 < us k → live us ps k ≡ true
 live-used us ps k p = or-left (ltb 0 (us k)) (ps k) (lt-ltb 0 (us k) p)
 
-live-pending : (us : ℕ → ℕ) (ps : ℕ → Bool) (k : ℕ) → ps k ≡ true → live us ps k ≡ true
+pub live-pending : (us : ℕ → ℕ) (ps : ℕ → Bool) (k : ℕ) → ps k ≡ true → live us ps k ≡ true
 live-pending us ps k e = or-right (ltb 0 (us k)) (ps k) e
 
 le-next : (b : Bool) (w o : ℕ) → o ≤ w → o ≤ next b w o
@@ -166,35 +166,34 @@ module _ (s : System) (L : Loaded s) where
       false-of (live us ps k)
       (λ e. omega (arith, live-owed us ps k (h k p q) e, le-sumTo (owed s us ps) j (s .tasks) k p q))
 
-  -- R, a tick of h: a run in progress, or one that begins with nothing live above it
+  -- R, a tick of h: a run in progress, or one that begins with nothing live above it; nothing becomes pending
   pub record Ticks (h : ℕ) (us vs : ℕ → ℕ) (ps qs : ℕ → Bool) : Type 0 where
     pub task : (1 ≤ h) × (h ≤ s .tasks)
     pub runs : live us ps h ≡ true
     pub room : us h < work s h
     pub one-more : vs h ≡ suc (us h)
     pub others : (k : ℕ) → 1 ≤ k → (k ≡ h → ⊥) → vs k ≡ us k
-    pub others-pending : (k : ℕ) → 1 ≤ k → (k ≡ h → ⊥) → qs k ≡ ps k
-    pub goes-on : 0 < us h → qs h ≡ ps h
+    pub fewer : (k : ℕ) → 1 ≤ k → qs k ≡ true → ps k ≡ true
     pub begins : us h ≡ 0 → qs h ≡ false
     pub alone : us h ≡ 0 → All (λ k. live us ps k ≡ false) (suc h) (s .tasks)
 
   module _ (h : ℕ) (us vs : ℕ → ℕ) (ps qs : ℕ → Bool) (t : Ticks h us vs ps qs) where
     -- nothing but h changes, and h is live before
     tick-live : (m : ℕ) → 1 ≤ m → live vs qs m ≡ true → live us ps m ≡ true
-    tick-live m o e = at (t .others m o) (t .others-pending m o)
-      where
-        at : ((m ≡ h → ⊥) → vs m ≡ us m) → ((m ≡ h → ⊥) → qs m ≡ ps m) → live us ps m ≡ true
-        at f g = at-or-not (λ x. x ≡ m → live us ps x ≡ true) h m (λ x. t .runs) (λ ne x. rw (f ne, g ne) at e) refl
+    tick-live m o e =
+        or-cases (ltb 0 (vs m)) (qs m) e (λ x. at-or-not (λ y. y ≡ m → live us ps y ≡ true) h m (λ y. t .runs) (λ ne y. live-used us ps m (rw (t .others m o ne) at (ltb-true 0 (vs m) x))) refl) (λ x. live-pending us ps m (t .fewer m o x))
 
     tick-over : (k : ℕ) → 1 ≤ k → over s vs qs k ≤ over s us ps k
     tick-over k o = over-le vs qs k (over s us ps k) (λ m p q e. le-over us ps k m p q (tick-live m (omega arith) e))
 
+    tick-next : (k : ℕ) → 1 ≤ k → next (qs k) (work s k) (over s vs qs k) ≤ next (ps k) (work s k) (over s us ps k)
+    tick-next k o =
+        omega
+        (arith, next-more (ps k) (qs k) (work s k) (over s us ps k) (over s vs qs k) 0 (over-whole us ps k) (λ x y. absurd (not-both (t .fewer k o y) x)) (omega (arith, tick-over k o)))
+
     tick-else : (k : ℕ) → 1 ≤ k → (k ≡ h → ⊥) → owed s vs qs k ≤ owed s us ps k
     unfolding owed
-    tick-else k o ne =
-        rw (t .others k o ne, t .others-pending k o ne)
-        (omega
-        (arith, next-more (ps k) (ps k) (work s k) (over s us ps k) (over s vs qs k) 0 (over-whole us ps k) (λ x y. absurd (not-both y x)) (omega (arith, tick-over k o))))
+    tick-else k o ne = rw (t .others k o ne) (omega (arith, tick-next k o))
 
     tick-self : owed s vs qs h + 1 ≤ owed s us ps h
     unfolding owed
@@ -208,16 +207,19 @@ module _ (s : System) (L : Loaded s) where
             let pend : ps h ≡ true = or-new (ltb 0 (us h)) (ps h) (rw e refl) (t .runs) in
             let none : over s vs qs h ≤ 0 = over-le vs qs h 0 (λ m p q l. absurd (not-both (tick-live m (omega arith) l) (t .alone e m p q))) in
             rw (t .one-more, t .begins e, pend, e) (first-tick (work s h) (over s us ps h) (over s vs qs h) none (omega (arith, t .room)))
-        go (suc u) e =
-            rw (t .one-more, t .goes-on (omega arith))
-            (omega
-            (arith, cur-tick (work s h) (us h) (omega arith) (t .room), next-more (ps h) (ps h) (work s h) (over s us ps h) (over s vs qs h) 0 (over-whole us ps h) (λ x y. absurd (not-both y x)) (omega (arith, tick-over h high))))
+        go (suc u) e = rw (t .one-more) (omega (arith, cur-tick (work s h) (us h) (omega arith) (t .room), tick-next h high))
+
+    -- up to h the potential falls, above h it does not rise
+    pub ticking-above : (j : ℕ) → h < j → Owed s vs qs j ≤ Owed s us ps j
+    unfolding Owed
+    ticking-above j p =
+        sumTo-le (owed s vs qs) (owed s us ps) j (s .tasks) (λ k q r. tick-else k (omega arith) (λ e. omega arith))
 
     pub ticking : (j : ℕ) → 1 ≤ j → j ≤ h → Owed s vs qs j + 1 ≤ Owed s us ps j
     unfolding Owed
     ticking j o p =
         omega
-        (arith, sumTo-parts (owed s vs qs) (owed s us ps) j h (s .tasks) 1 0 0 p (t .task .1) (λ k q r. tick-else k (omega arith) (λ e. omega arith)) (omega (arith, tick-self)) (omega (arith, sumTo-le (owed s vs qs) (owed s us ps) (suc h) (s .tasks) (λ k q r. tick-else k (omega arith) (λ e. omega arith)))))
+        (arith, sumTo-parts (owed s vs qs) (owed s us ps) j h (s .tasks) 1 0 0 p (t .task .1) (λ k q r. tick-else k (omega arith) (λ e. omega arith)) (omega (arith, tick-self)) (omega (arith, ticking-above (suc h) (omega arith))))
 
   -- E, the end of h's run and its firing
   pub record Ends (h : ℕ) (us vs : ℕ → ℕ) (ps qs : ℕ → Bool) : Type 0 where
@@ -259,17 +261,14 @@ module _ (s : System) (L : Loaded s) where
         (omega
         (arith, cur-off (work s h) 0 (λ e. omega arith), cur-rest (work s h) (us h) (s .run h) (t .some) (t .whole), L .whole h, back s L h h (omega arith), next-brings us vs ps qs (added s h) fewer brings h o (t .task .1)))
 
-    end-high : (j : ℕ) → h < j → Owed s vs qs j ≤ Owed s us ps j + load s h j
+    pub ending-above : (j : ℕ) → h < j → Owed s vs qs j ≤ Owed s us ps j + load s h j
     unfolding Owed load
-    end-high j p =
+    ending-above j p =
         rw (← sumTo-add (owed s us ps) (added s h) j (s .tasks))
         (sumTo-le (owed s vs qs) (λ k. owed s us ps k + added s h k) j (s .tasks) (λ k q r. end-else k (omega arith) r (λ e. omega arith)))
-
-    pub ending-above : (j : ℕ) → h < j → All (λ k. live us ps k ≡ false) j (s .tasks) → Owed s vs qs j ≤ load s h j
-    ending-above j p z = omega (arith, end-high j p, none-owed us ps j z)
 
     pub ending : (j : ℕ) → 1 ≤ j → j ≤ h → Owed s vs qs j ≤ Owed s us ps j
     unfolding Owed load
     ending j o p =
         omega
-        (arith, sumTo-parts (owed s vs qs) (owed s us ps) j h (s .tasks) (sumTo (added s h) (suc h) (s .tasks)) 0 (sumTo (added s h) (suc h) (s .tasks)) p (t .task .1) (λ k q r. end-low k (omega arith) r) (omega (arith, end-self)) (end-high (suc h) (omega arith)))
+        (arith, sumTo-parts (owed s vs qs) (owed s us ps) j h (s .tasks) (sumTo (added s h) (suc h) (s .tasks)) 0 (sumTo (added s h) (suc h) (s .tasks)) p (t .task .1) (λ k q r. end-low k (omega arith) r) (omega (arith, end-self)) (ending-above (suc h) (omega arith)))

@@ -1,94 +1,76 @@
--- The run that takes an event is the first to end from its tick on: History's serves and waits by the ends of runs alone. Assumes nothing.
+-- What History reads off a list of ticks, over a schedule whose beginnings and ends of one task's runs the list shows. Assumes nothing.
 use Prim.Native.Nat.{ℕ, zero, suc, _+_, _-_, _≤_, _<_}
-use mathlib.Core.Path.{_≡_, refl, _∙_}
+use mathlib.Core.Path.{_≡_, refl}
 use mathlib.Core.Bool.{Bool, true, false, _||_, _&&_}
 use mathlib.Core.List.{List}
 use native.Mathlib.Omega.{arith}
 use lib.ListN.{length}
-use lib.Dec.{eqb}
-use Rattle.model.specs.History.{Tick, begins, ends, partDone, tickAt, endsWithin, ticksUntil, servedBefore, waitOf}
-use Rattle.lemmas.proofs.Tests.{Cmp, less, same, more, cmp, not-both, false-of, or-false-left, or-false-right, and-left, both}
+use Rattle.model.specs.Graph.{System}
+use Rattle.model.specs.History.{Tick, fires, begins, ends, partDone, tickAt, endsWithin, ticksUntil, servedBefore, waitOf}
+use Rattle.lemmas.proofs.Tests.{Cmp, less, same, more, cmp, or-false, or-false-left, or-false-right, and-false-right}
+use Rattle.assurance.proofs.Schedule.{Schedule, beginsAt, endsAt}
+use Rattle.assurance.proofs.Events.{Unserved, new, later, Waits, Takes}
 
--- a list of ticks and the ticks that task j has used before each of them
-module _ (h : List Tick) (j : ℕ) (used : ℕ → ℕ) (part : (x : ℕ) → x < length h → partDone (tickAt h x) j ≡ false → used x ≡ 0) (begin : (x : ℕ) → x < length h → used x ≡ 0 → eqb (tickAt h x .ran) j ≡ true → begins (tickAt h x) j ≡ true) (still : (x : ℕ) → x < length h → eqb (tickAt h x .ran) j ≡ false → used (suc x) ≡ used x) where
-  -- a run that has not begun has used nothing
-  abbrev Unbegun : Bool → ℕ → Type 0
-  Unbegun begun x = begun ≡ false → used x ≡ 0
+-- no run of j ends in the stretch: nothing is served in it
+none-within : (h : List Tick) (j n : ℕ) (begun : Bool) (x : ℕ) → ((z : ℕ) → x ≤ z → z < x + n → ends (tickAt h z) j ≡ false) → endsWithin h j begun x n ≡ false
+unfolding endsWithin
+none-within h j zero begun x f = refl
+none-within h j (suc n) begun x f =
+    or-false ((begun || begins (tickAt h x) j) && ends (tickAt h x) j) _ (and-false-right (begun || begins (tickAt h x) j) _ (f x (omega arith) (omega arith))) (none-within h j n (begun || begins (tickAt h x) j) (suc x) (λ z a b. f z (omega arith) (omega arith)))
 
-  -- so one that ends has begun
-  begun-now : (begun : Bool) (x : ℕ) → x < length h → Unbegun begun x → ends (tickAt h x) j ≡ true → (begun || begins (tickAt h x) j) ≡ true
-  begun-now true x p u e = refl
-  begun-now false x p u e = begin x p (u refl) (and-left (eqb (tickAt h x .ran) j) _ e)
+pub served-not : (h : List Tick) (j x y : ℕ) → x ≤ y → ((z : ℕ) → x ≤ z → z < y → ends (tickAt h z) j ≡ false) → servedBefore h j x y ≡ false
+unfolding servedBefore
+served-not h j x y p f = none-within h j (y - x) (partDone (tickAt h x) j) x (λ z a b. f z a (omega arith))
 
-  unbegun-next : (begun : Bool) (x : ℕ) → x < length h → Unbegun begun x → Unbegun (begun || begins (tickAt h x) j) (suc x)
-  unbegun-next begun x p u e =
-      let z : used x ≡ 0 = u (or-false-left begun _ e) in
-      let o : eqb (tickAt h x .ran) j ≡ false = false-of (eqb (tickAt h x .ran) j) (λ y. not-both (begin x p z y) (or-false-right begun _ e)) in
-      still x p o ∙ z
+-- a list of ticks shows a schedule
+pub record Shows (h : List Tick) {s : System} {gap : ℕ → ℕ} (S : Schedule s gap) (T : Takes S) : Type 0 where
+  pub begins-is : (j x : ℕ) → x < length h → begins (tickAt h x) j ≡ beginsAt S j x
+  pub ends-is : (j x : ℕ) → x < length h → ends (tickAt h x) j ≡ endsAt S j x
+  pub arrives-is : (i x : ℕ) → 33 ≤ i → x < length h → fires (tickAt h x) i ≡ S .arr x i
+  pub taken-is : (j x : ℕ) → x < length h → T .taken j x ≡ partDone (tickAt h x) j
 
-  serves : (begun : Bool) (x : ℕ) → x < length h → Unbegun begun x → ((begun || begins (tickAt h x) j) && ends (tickAt h x) j) ≡ false → ends (tickAt h x) j ≡ false
-  serves begun x p u e =
-      false-of (ends (tickAt h x) j)
-      (λ y. not-both (both (begun || begins (tickAt h x) j) (ends (tickAt h x) j) (begun-now begun x p u y) y) e)
+module _ (h : List Tick) {s : System} {gap : ℕ → ℕ} (S : Schedule s gap) (T : Takes S) (W : Shows h S T) (j : ℕ) {ev : ℕ → Bool} where
+  -- one tick more
+  more-unserved : {x y : ℕ} {b : Bool} → y < length h → Unserved S j ev (T .taken j) x y b → ((b || begins (tickAt h y) j) && ends (tickAt h y) j) ≡ false → Unserved S j ev (T .taken j) x (suc y) (b || begins (tickAt h y) j)
+  more-unserved {y = y} p u e = rw (W .begins-is j y p) (later u (rw (W .begins-is j y p, W .ends-is j y p) at e))
 
-  -- not served within n ticks: no run of j ends in them
-  within-none : (n : ℕ) (begun : Bool) (x : ℕ) → x + n ≤ length h → Unbegun begun x → endsWithin h j begun x n ≡ false → (z : ℕ) → x ≤ z → z < x + n → ends (tickAt h z) j ≡ false
+  within : (n : ℕ) {x y z : ℕ} {b : Bool} → y + n ≡ z → z ≤ length h → Unserved S j ev (T .taken j) x y b → endsWithin h j b y n ≡ false → (c : Bool) × Unserved S j ev (T .taken j) x z c
   unfolding endsWithin
-  within-none zero begun x p u e z a b = absurd (omega arith)
-  within-none (suc n) begun x p u e z a b =
-      go (cmp x z) (within-none n (begun || begins (tickAt h x) j) (suc x) (omega arith) (unbegun-next begun x (omega arith) u) (or-false-right ((begun || begins (tickAt h x) j) && ends (tickAt h x) j) _ e) z)
-    where
-      go : Cmp x z → (suc x ≤ z → z < suc x + n → ends (tickAt h z) j ≡ false) → ends (tickAt h z) j ≡ false
-      go (less r) ih = ih r (omega arith)
-      go (same r) ih =
-          let f : ends (tickAt h x) j ≡ false = serves begun x (omega arith) u (or-false-left ((begun || begins (tickAt h x) j) && ends (tickAt h x) j) _ e) in
-          rw (← r) f
-      go (more r) ih = absurd (omega arith)
-
-  -- and the other way round
-  none-within : (n : ℕ) (begun : Bool) (x : ℕ) → ((z : ℕ) → x ≤ z → z < x + n → ends (tickAt h z) j ≡ false) → endsWithin h j begun x n ≡ false
-  unfolding endsWithin
-  none-within zero begun x f = refl
-  none-within (suc n) begun x f =
-      both-off (begun || begins (tickAt h x) j) (ends (tickAt h x) j) _ (f x (omega arith) (omega arith)) (none-within n (begun || begins (tickAt h x) j) (suc x) (λ z a b. f z (omega arith) (omega arith)))
-    where
-      both-off : (a b c : Bool) → b ≡ false → c ≡ false → ((a && b) || c) ≡ false
-      both-off true b c p q = rw p q
-      both-off false b c p q = q
+  within zero {y = y} {z = z} {b = b} p q u e = let r : z ≡ y = omega arith in (b, rw r u)
+  within (suc n) {y = y} {b = b} p q u e =
+      within n (omega arith) q (more-unserved (omega arith) u (or-false-left ((b || begins (tickAt h y) j) && ends (tickAt h y) j) _ e)) (or-false-right ((b || begins (tickAt h y) j) && ends (tickAt h y) j) _ e)
 
   -- a wait is at most a D that no unserved stretch reaches
-  until-le : (n : ℕ) (begun : Bool) (x D : ℕ) → x + n ≤ length h → Unbegun begun x → ((w : ℕ) → w ≤ n → ((z : ℕ) → x ≤ z → z < x + w → ends (tickAt h z) j ≡ false) → w < D) → ticksUntil h j begun x n ≤ D
+  until-le : (n : ℕ) {x y : ℕ} {b : Bool} (D : ℕ) → y + n ≤ length h → Unserved S j ev (T .taken j) x y b → ((z : ℕ) (c : Bool) → z ≤ y + n → y ≤ z → Unserved S j ev (T .taken j) x z c → z < y + D) → ticksUntil h j b y n ≤ D
   unfolding ticksUntil
-  until-le zero begun x D p u f = omega arith
-  until-le (suc n) begun x D p u f = go ((begun || begins (tickAt h x) j) && ends (tickAt h x) j) refl (until-le n (begun || begins (tickAt h x) j) (suc x) (D - 1) (omega arith) (unbegun-next begun x (omega arith) u))
+  until-le zero D p u f = omega arith
+  until-le (suc n) {x} {y} {b} D p u f = go ((b || begins (tickAt h y) j) && ends (tickAt h y) j) refl (λ v. until-le n (D - 1) (omega arith) v)
     where
-      some : 0 < D
-      some = f 0 (omega arith) (λ z a b. absurd (omega arith))
+      some : y < y + D
+      some = f y b (omega arith) (omega arith) u
 
-      go : (b : Bool) → ((begun || begins (tickAt h x) j) && ends (tickAt h x) j) ≡ b → (((w : ℕ) → w ≤ n → ((z : ℕ) → suc x ≤ z → z < suc x + w → ends (tickAt h z) j ≡ false) → w < D - 1) → ticksUntil h j (begun || begins (tickAt h x) j) (suc x) n ≤ D - 1) → ticksUntil h j begun x (suc n) ≤ D
-      go true e ih = rw (e, ticksUntil) some
+      go : (t : Bool) → ((b || begins (tickAt h y) j) && ends (tickAt h y) j) ≡ t → (Unserved S j ev (T .taken j) x (suc y) (b || begins (tickAt h y) j) → ((z : ℕ) (c : Bool) → z ≤ suc y + n → suc y ≤ z → Unserved S j ev (T .taken j) x z c → z < suc y + (D - 1)) → ticksUntil h j (b || begins (tickAt h y) j) (suc y) n ≤ D - 1) → ticksUntil h j b y (suc n) ≤ D
+      go true e ih = rw (e, ticksUntil) (omega (arith, some))
       go false e ih =
           rw (e, ticksUntil)
-          (let g : (w : ℕ) → w ≤ n → ((z : ℕ) → suc x ≤ z → z < suc x + w → ends (tickAt h z) j ≡ false) → w < D - 1 = λ w a b. omega (arith, f (suc w) (omega arith) (λ z k l. each w b z k l (cmp x z))) in
-          omega (arith, ih g, some))
-        where
-          each : (w : ℕ) → ((z : ℕ) → suc x ≤ z → z < suc x + w → ends (tickAt h z) j ≡ false) → (z : ℕ) → x ≤ z → z < x + suc w → Cmp x z → ends (tickAt h z) j ≡ false
-          each w b z k l (less r) = b z r (omega arith)
-          each w b z k l (same r) = rw (← r) (serves begun x (omega arith) u e)
-          each w b z k l (more r) = absurd (omega arith)
+          (omega (arith, some, ih (more-unserved (omega arith) u e) (λ z c a r v. omega (arith, some, f z c (omega arith) (omega arith) v))))
 
   -- in History's words
-  pub unserved : (x y : ℕ) → x < y → y ≤ length h → servedBefore h j x y ≡ false → (z : ℕ) → x ≤ z → z < y → ends (tickAt h z) j ≡ false
-  unfolding servedBefore
-  unserved x y p q e z a b =
-      within-none (y - x) (partDone (tickAt h x) j) x (omega arith) (part x (omega arith)) e z a (omega arith)
+  module _ (x : ℕ) (here : x < length h) (came : ev x ≡ true) where
+    first : Unserved S j ev (T .taken j) x x (partDone (tickAt h x) j)
+    first = let u : Unserved S j ev (T .taken j) x x (T .taken j x) = new came in rw (W .taken-is j x here) at u
 
-  pub served-not : (x y : ℕ) → x ≤ y → ((z : ℕ) → x ≤ z → z < y → ends (tickAt h z) j ≡ false) → servedBefore h j x y ≡ false
-  unfolding servedBefore
-  served-not x y p f = none-within (y - x) (partDone (tickAt h x) j) x (λ z a b. f z a (omega arith))
+    pub unserved-waits : (y : ℕ) → x < y → y ≤ length h → servedBefore h j x y ≡ false → Waits S j ev (T .taken j) y x
+    unfolding servedBefore
+    unserved-waits y p q e =
+        let (b, u) = within (y - x) (omega arith) q first e in
+        record { before = p; begun = b; unserved = u }
 
-  pub wait-le : (x D : ℕ) → x < length h → ((y : ℕ) → x ≤ y → y ≤ length h → ((z : ℕ) → x ≤ z → z < y → ends (tickAt h z) j ≡ false) → y < x + D) → waitOf h j x ≤ D
-  unfolding waitOf
-  wait-le x D p f =
-      until-le (length h - x) (partDone (tickAt h x) j) x D (omega arith) (part x p)
-      (λ w a b. omega (arith, f (x + w) (omega arith) (omega arith) b))
+    pub wait-le : (D : ℕ) → 1 ≤ D → ((y : ℕ) → Waits S j ev (T .taken j) y x → y < x + D) → waitOf h j x ≤ D
+    unfolding waitOf
+    wait-le D o f = until-le (length h - x) D (omega arith) first (λ z c a r u. go z c u r (cmp x z))
+      where
+        go : (z : ℕ) (c : Bool) → Unserved S j ev (T .taken j) x z c → x ≤ z → Cmp x z → z < x + D
+        go z c u r (less q) = f z (record { before = q; begun = c; unserved = u })
+        go z c u r (same q) = omega arith
+        go z c u r (more q) = absurd (omega arith)

@@ -1,8 +1,9 @@
 -- What one tick does to each part of the machine's record. Assumes nothing.
 use Prim.Native.Nat.{ℕ, zero, suc, _+_, _-_, _≤_, _<_, min}
-use mathlib.Core.Path.{_≡_, refl, ap, _∙_}
+use mathlib.Core.Path.{_≡_, refl, sym, ap, _∙_}
 use mathlib.Core.Bool.{Bool, true, false, _||_, _&&_, not, cond}
 use mathlib.Core.List.{List}
+use mathlib.Core.Logic.{_⊎_, inl, inr}
 use native.Mathlib.Omega.{arith}
 use native.Mathlib.Numerals.{add-one}
 use lib.ListN.{length, getD, set, length-set}
@@ -14,11 +15,39 @@ use Rattle.model.specs.declared.Machine.{Machine}
 use Rattle.model.specs.Graph.{linkAt, linked, runOf}
 use Rattle.model.specs.Delays.{spacingOf}
 use Rattle.model.specs.Machine.{awakeAt, usedAt, waitingAt, droppedAt, ageAt, setAwake, setUsed, fire, arrive, highest, runTask, clearInto, endRun, ageAll, stepped}
+use Rattle.lemmas.proofs.Tests.{not-both, or-right}
+use Rattle.lemmas.proofs.Bools.{or-off, or-idle-right, and-on, set-false}
 use Rattle.theory.proofs.WellFormed.{WellFormed}
 use Rattle.assurance.proofs.Firing.{Sized, Fired, fired, fired-past, getD-task}
 use Rattle.assurance.proofs.Arriving.{comes, Arrived, arrived}
 use Rattle.assurance.proofs.Ending.{highest-le, Cleared, cleared, Aged, aged}
-use Rattle.assurance.proofs.Trace.{awakeAfter}
+
+-- a task once the run of one has gone on: awake before it, whether the run ended, whether it was this task's, whether the one that ended has a link to it
+abbrev pub awakeAfter : Bool → Bool → Bool → Bool → Bool
+awakeAfter m o e l = (m && not (o && e)) || (o && l)
+
+pub after-stays : (m o e l : Bool) → m ≡ true → (o ≡ true → e ≡ true → ⊥) → awakeAfter m o e l ≡ true
+after-stays true true true l p q = absurd (q refl refl)
+after-stays true true false l p q = refl
+after-stays true false e l p q = refl
+after-stays false o e l p q = absurd (not-both p refl)
+
+pub after-wakes : (m o e l : Bool) → awakeAfter m o e l ≡ true → ((m ≡ true) × (o ≡ true → e ≡ false)) ⊎ ((o ≡ true) × (l ≡ true))
+after-wakes true true true l p = inr (refl, p)
+after-wakes true true false l p = inl (refl, λ x. refl)
+after-wakes true false e l p = inl (refl, λ x. absurd (not-both x refl))
+after-wakes false true e l p = inr (refl, p)
+after-wakes false false e l p = absurd (not-both p refl)
+
+pub after-fires : (m o e l : Bool) → o ≡ true → l ≡ true → awakeAfter m o e l ≡ true
+after-fires m true e l p q = or-right (m && not (true && e)) l q
+after-fires m false e l p q = absurd (not-both p refl)
+
+pub after-on : (m o e l : Bool) → o ≡ false → awakeAfter m o e l ≡ m
+after-on true true e l p = absurd (not-both refl p)
+after-on false true e l p = absurd (not-both refl p)
+after-on true false e l p = refl
+after-on false false e l p = refl
 
 -- whether the run of h ends in a tick that finds the record m
 abbrev pub overAt : Description → ℕ → Bool → Machine → Bool
@@ -35,19 +64,7 @@ pub record Ran (d : Description) (h : ℕ) (o : Bool) (m m′ : Machine) : Type 
   pub past : (l : ℕ) → d .«link_count» ≤ l → (waitingAt m′ l ≡ waitingAt m l) × (droppedAt m′ l ≡ droppedAt m l)
 
 keep : (b : Bool) → b ≡ (b && true || false)
-keep true = refl
-keep false = refl
-
-keep₂ : (a b : Bool) → a ≡ (a || (b && true && false))
-keep₂ true b = refl
-keep₂ false true = refl
-keep₂ false false = refl
-
-slept : (a e l : Bool) → (cond e false a || l) ≡ ((a && not e) || l)
-slept true true l = refl
-slept true false l = refl
-slept false true l = refl
-slept false false l = refl
+keep b = sym (or-off (b && true) ∙ and-on b true refl)
 
 module _ (d : Description) (wf : WellFormed d) where
   run-none : (m : Machine) → runTask 0 m ≡ m
@@ -77,7 +94,7 @@ module _ (d : Description) (wf : WellFormed d) where
     awake = λ k o. keep (awakeAt m k);
     used = λ k o. rw (ne-eqb k 0 (λ e. omega arith)) refl;
     waiting = λ l p. keep (waitingAt m l);
-    dropped = λ l p. keep₂ (droppedAt m l) (waitingAt m l);
+    dropped = λ l p. or-idle-right (droppedAt m l) (waitingAt m l && true) false refl;
     past = λ l p. (refl, refl);
   }
 
@@ -95,7 +112,7 @@ module _ (d : Description) (wf : WellFormed d) where
     awake = λ k o. keep (awakeAt m k);
     used = λ k o. getD-task (m .used) h (usedAt m h + 1) 0 k o p (omega (arith, z .useds)) ∙ one k (eqb k h) refl;
     waiting = λ l r. keep (waitingAt m l);
-    dropped = λ l r. keep₂ (droppedAt m l) (waitingAt m l);
+    dropped = λ l r. or-idle-right (droppedAt m l) (waitingAt m l && true) false refl;
     past = λ l r. (refl, refl);
   }
     where
@@ -116,17 +133,13 @@ module _ (d : Description) (wf : WellFormed d) where
       record {
         sized = f .sized;
         ages = f .ages ∙ c .ages;
-        awake = λ k o. f .awake k o ∙ rw (c .awake, getD-task (m .awake) h false false k o p (omega (arith, z .awakes))) (slept (awakeAt m k) (eqb k h) _);
+        awake = λ k o. f .awake k o ∙ rw (c .awake, getD-task (m .awake) h false false k o p (omega (arith, z .awakes))) (rw (set-false (eqb k h) (awakeAt m k)) refl);
         used = λ k o. rw (f .used, c .used) (getD-task us h 0 0 k o p (omega arith) ∙ zeroed k o (eqb k h) refl);
         waiting = λ l r. f .waiting l ∙ rw (lt-ltb l (d .«link_count») r, c .waiting l, lt-ltb l (d .«link_count») r) refl;
         dropped = λ l r. f .dropped l ∙ rw (lt-ltb l (d .«link_count») r, c .waiting l, c .dropped, lt-ltb l (d .«link_count») r) refl;
-        past = λ l r. (fired-past d h (clearInto d h m₃) (fire d h (clearInto d h m₃)) f l r .0 ∙ (c .waiting l ∙ rw (le-ltb l (d .«link_count») r) (on (waitingAt m l))), fired-past d h (clearInto d h m₃) (fire d h (clearInto d h m₃)) f l r .1 ∙ ap (λ (ds : List Bool). getD ds l false) (c .dropped));
+        past = λ l r. (fired-past d h (clearInto d h m₃) (fire d h (clearInto d h m₃)) f l r .0 ∙ (c .waiting l ∙ rw (le-ltb l (d .«link_count») r) (and-on (waitingAt m l) true refl)), fired-past d h (clearInto d h m₃) (fire d h (clearInto d h m₃)) f l r .1 ∙ ap (λ (ds : List Bool). getD ds l false) (c .dropped));
       }
     where
-      on : (b : Bool) → (b && true) ≡ b
-      on true = refl
-      on false = refl
-
       zeroed : (k : ℕ) → 1 ≤ k → (b : Bool) → eqb k h ≡ b → cond (eqb k h) 0 (getD (set (m .used) (h - 1) (usedAt m h + 1)) (k - 1) 0) ≡ cond (eqb k h) 0 (usedAt m k)
       zeroed k o true e = rw e refl
       zeroed k o false e =

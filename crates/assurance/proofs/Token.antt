@@ -1,155 +1,157 @@
--- A link between tasks with an exclusive neighbourhood: at most one token is under way, so no event finds the one before it waiting. Assumes nothing.
+-- A link between tasks with an exclusive neighbourhood: at most one token is under way, so none finds another unserved. Assumes nothing.
 use Prim.Native.Nat.{ℕ, zero, suc, _≤_, _<_}
-use mathlib.Core.Path.{_≡_, sym, _∙_}
-use mathlib.Core.Bool.{true, false, _||_}
+use mathlib.Core.Path.{_≡_, refl, sym, _∙_}
+use mathlib.Core.Bool.{true, false, _&&_}
 use mathlib.Core.Logic.{_⊎_, inl, inr}
 use native.Mathlib.Omega.{arith}
-use lib.Dec.{eqb}
-use borrow.Author.Tests.{eqb-true, eq-eqb}
+use lib.Dec.{ltb}
+use borrow.Author.Tests.{ltb-true}
 use Rattle.model.specs.Graph.{System}
 use Rattle.model.specs.Order.{Set, Neighbourhood}
-use Rattle.lemmas.proofs.Tests.{Cmp, less, same, more, cmp, not-both, false-of, or-else, or-cases, and-left, and-right, both}
-use Rattle.lemmas.proofs.Range.{any-none}
-use Rattle.theory.proofs.WellFormed.{Loaded, Shaped}
-use Rattle.assurance.proofs.Trace.{Trace, endsAt, mid-keeps, awake-low, after-stays, after-wakes, after-fires}
+use Rattle.lemmas.proofs.Tests.{Cmp, less, same, more, cmp, at-or-not, not-both, or-cases, and-right}
+use Rattle.lemmas.proofs.Range.{Found}
+use Rattle.theory.proofs.WellFormed.{Shaped}
+use Rattle.assurance.proofs.Potential.{live-used, live-pending}
+use Rattle.assurance.proofs.Schedule.{Left, Schedule, liveAt, liveMid, Preempts, endsAt, ends-ran, ends-over, used-other, used-over}
 
-module _ (s : System) (gap : ℕ → ℕ) (T : Trace s gap) where
-  -- an event of task i in tick x that no run of j has served before tick y
-  pub record WaitsFor (i j y x : ℕ) : Type 0 where
-    pub before : x < y
-    pub came : endsAt s gap T x i ≡ true
-    pub unserved : (z : ℕ) → x < z → z < y → endsAt s gap T z j ≡ false
+-- wait y x: the event of tick x is unserved before tick y; an event comes with an end of i's run
+module _ {s : System} (G : Shaped s) {gap : ℕ → ℕ} (S : Schedule s gap) (i : ℕ) (F N : Set) (H : Neighbourhood s i F N) (wait : ℕ → ℕ → Type 0) where
+  pub record Link : Type 0 where
+    pub none : (x : ℕ) → wait 0 x → ⊥
+    pub fresh : (y x : ℕ) → wait (suc y) x → wait y x ⊎ (endsAt S i y ≡ true)
 
-  ends-high : (x k : ℕ) → endsAt s gap T x k ≡ true → k ≡ T .high x
-  ends-high x k e = sym (eqb-true (T .high x) k (and-left (eqb (T .high x) k) _ e))
+  -- when a task of the frontier runs, no task of the interior is live and nothing on the link is unserved
+  pub record Quiet : Type 0 where
+    pub empty : (x k : ℕ) → F (S .ran x) ≡ true → N k ≡ true → liveMid S x k ≡ false
+    pub clear : (x z : ℕ) → F (S .ran x) ≡ true → wait x z → ⊥
 
-  ends-over : (x k : ℕ) → endsAt s gap T x k ≡ true → T .over x ≡ true
-  ends-over x k e = and-right (eqb (T .high x) k) _ e
+  -- no source wakes a task of the interior
+  no-source : (x k : ℕ) → N k ≡ true → Found (λ u. S .arr x u && s .link u k) 33 (s .sources) → ⊥
+  no-source x k m w =
+      or-cases (F (w .at)) (N (w .at)) (H .c2 (w .at) k m (and-right (S .arr x (w .at)) _ (w .passes))) (λ f. omega (arith, H .frontier-tasks (w .at) f .1, G .few, w .from)) (λ f. omega (arith, H .interior-tasks (w .at) f .1, G .few, w .from))
 
-  ends-of : (x k : ℕ) → T .over x ≡ true → k ≡ T .high x → endsAt s gap T x k ≡ true
-  ends-of x k o e = both (eqb (T .high x) k) (T .over x) (eq-eqb (T .high x) k (sym e)) o
-
-  -- the task that ends a run is awake before it
-  over-mid : (x : ℕ) → T .over x ≡ true → T .mid x (T .high x) ≡ true
-  over-mid x o = T .high-awake x (T .over-runs x o)
-
-  -- awake after a tick: it was so, and did not end its run; or the task that ended one has a link to it
-  pub record Stayed (x k : ℕ) : Type 0 where
-    pub was : T .mid x k ≡ true
-    pub went-on : T .over x ≡ true → k ≡ T .high x → ⊥
-
-  pub record Woken (x k : ℕ) : Type 0 where
-    pub ended : T .over x ≡ true
-    pub by : s .link (T .high x) k ≡ true
-
-  next-awake : (x k : ℕ) → 1 ≤ k → T .awake (suc x) k ≡ true → Stayed x k ⊎ Woken x k
-  next-awake x k o e = go (after-wakes (T .mid x k) (T .over x) (eqb k (T .high x)) (s .link (T .high x) k) (sym (T .awake-next x k o) ∙ e))
+  pending-now : (x k : ℕ) → N k ≡ true → S .pendingMid x k ≡ true → S .pending x k ≡ true
+  pending-now x k m e = go (S .mid-from x k (H .interior-tasks k m .0) e)
     where
-      go : ((T .mid x k ≡ true) × (T .over x ≡ true → eqb k (T .high x) ≡ false)) ⊎ ((T .over x ≡ true) × (s .link (T .high x) k ≡ true)) → Stayed x k ⊎ Woken x k
-      go (inl w) = inl (record { was = w .0; went-on = λ p q. not-both (eq-eqb k (T .high x) q) (w .1 p) })
+      go : (S .pending x k ≡ true) ⊎ Found (λ u. S .arr x u && s .link u k) 33 (s .sources) → S .pending x k ≡ true
+      go (inl p) = p
+      go (inr w) = absurd (no-source x k m w)
+
+  pub live-now : (x k : ℕ) → N k ≡ true → liveMid S x k ≡ true → liveAt S x k ≡ true
+  live-now x k m e =
+      or-cases (ltb 0 (S .used x k)) (S .pendingMid x k) e (λ p. live-used (S .used x) (S .pending x) k (ltb-true 0 (S .used x k) p)) (λ p. live-pending (S .used x) (S .pending x) k (pending-now x k m p))
+
+  -- at most one task of the interior is live, and a task of it that is part done is not pending again
+  record One (x : ℕ) : Type 0 where
+    one : (k k′ : ℕ) → N k ≡ true → N k′ ≡ true → liveAt S x k ≡ true → liveAt S x k′ ≡ true → k ≡ k′
+    single : (k : ℕ) → N k ≡ true → 0 < S .used x k → S .pending x k ≡ true → ⊥
+
+  -- live after a tick: it was so, and did not end its run; or the task that ended one has a link to it
+  record Stayed (x k : ℕ) : Type 0 where
+    was : liveAt S x k ≡ true
+    went-on : S .over x ≡ true → k ≡ S .ran x → ⊥
+
+  record Woken (x k : ℕ) : Type 0 where
+    ended : S .over x ≡ true
+    by : s .link (S .ran x) k ≡ true
+
+  next-live : (x k : ℕ) → One x → N k ≡ true → liveAt S (suc x) k ≡ true → Stayed x k ⊎ Woken x k
+  next-live x k g m e =
+      or-cases (ltb 0 (S .used (suc x) k)) (S .pending (suc x) k) e (λ p. inl (running (ltb-true 0 (S .used (suc x) k) p))) (λ p. go (S .next-from x k o p))
+    where
+      o : 1 ≤ k
+      o = H .interior-tasks k m .0
+
+      running : 0 < S .used (suc x) k → Stayed x k
+      running p = record {
+        was = at-or-not (λ h. h ≡ k → liveAt S x k ≡ true) (S .ran x) k (λ q. live-now x k m (rw q at (S .ran-live x (omega (arith, o))))) (λ ne q. live-used (S .used x) (S .pending x) k (omega (arith, used-other S x k o ne))) refl;
+        went-on = λ v q. omega (arith, used-over S x k o q v);
+      }
+
+      go : Left (S .used x) (S .pendingMid x) (S .ran x) k ⊎ ((S .over x ≡ true) × (s .link (S .ran x) k ≡ true)) → Stayed x k ⊎ Woken x k
+      go (inl w) =
+          let p : S .pending x k ≡ true = pending-now x k m (w .0) in
+          inl (record { was = live-pending (S .used x) (S .pending x) k p; went-on = λ v q. g .single k m (w .1 q) p })
       go (inr w) = inr (record { ended = w .0; by = w .1 })
 
-  module _ (L : Loaded s) (G : Shaped s) (i j : ℕ) (F N : Set) (H : Neighbourhood s i F N) (front : (k : ℕ) → F k ≡ true → k < j) where
-    -- no source wakes a task of the interior
-    mid-now : (x k : ℕ) → s .tasks < 33 → N k ≡ true → T .mid x k ≡ true → T .awake x k ≡ true
-    mid-now x k small m e =
-        or-else (T .awake x k) _ (any-none _ 33 (s .sources) (λ u p q. false-of _ (λ y. none u p (H .c2 u k m (and-right (T .arr x u) _ y))))) (sym (T .mid-is x k (H .interior-tasks k m .0)) ∙ e)
+  ran-now : (x : ℕ) → S .over x ≡ true → N (S .ran x) ≡ true → liveAt S x (S .ran x) ≡ true
+  ran-now x o m = live-now x (S .ran x) m (S .ran-live x (S .over-ran x o))
+
+  -- two successors in the interior are one
+  only : (p k k′ : ℕ) → N k ≡ true → N k′ ≡ true → s .link p k ≡ true → s .link p k′ ≡ true → k ≡ k′
+  only p k k′ m m′ l l′ = go (cmp p i)
+    where
+      other : (p ≡ i → ⊥) → k ≡ k′
+      other ne = H .c3-only p k k′ (H .c2 p k m l) ne m l m′ l′
+
+      go : Cmp p i → k ≡ k′
+      go (less r) = other (λ e. omega arith)
+      go (same r) = absurd (H .c3-none k m (rw r at l))
+      go (more r) = other (λ e. omega arith)
+
+  module _ (K : Link) (Q : Quiet) where
+    -- a task of the interior that stays live, and a run that ends with a link into the interior
+    mixed : (x k k′ : ℕ) → One x → N k ≡ true → N k′ ≡ true → liveAt S x k ≡ true → (k ≡ S .ran x → ⊥) → Woken x k′ → ⊥
+    mixed x k k′ g m m′ e ne v =
+        or-cases (F (S .ran x)) (N (S .ran x)) (H .c2 (S .ran x) k′ m′ (v .by)) (λ f. not-both (mid-of e) (Q .empty x k f m)) (λ f. ne (g .one k (S .ran x) m f e (ran-now x (v .ended) f)))
       where
-        none : (u : ℕ) → 33 ≤ u → (F u || N u) ≡ true → ⊥
-        none u p e′ =
-            or-cases (F u) (N u) e′ (λ f. omega (arith, H .frontier-tasks u f .1)) (λ f. omega (arith, H .interior-tasks u f .1))
+        mid-of : liveAt S x k ≡ true → liveMid S x k ≡ true
+        mid-of l =
+            or-cases (ltb 0 (S .used x k)) (S .pending x k) l (λ p. live-used (S .used x) (S .pendingMid x) k (ltb-true 0 (S .used x k) p)) (λ p. live-pending (S .used x) (S .pendingMid x) k (S .mid-kept x k (H .interior-tasks k m .0) p))
 
-    abbrev One : ℕ → Type 0
-    One x = (k k′ : ℕ) → N k ≡ true → N k′ ≡ true → T .awake x k ≡ true → T .awake x k′ ≡ true → k ≡ k′
-
-    -- two successors in the interior are one
-    only : (p k k′ : ℕ) → N k ≡ true → N k′ ≡ true → s .link p k ≡ true → s .link p k′ ≡ true → k ≡ k′
-    only p k k′ m m′ l l′ = go (cmp p i)
+    one-step : (x : ℕ) → One x → One (suc x)
+    one-step x g = record {
+      one = λ k k′ m m′ e e′. meet k k′ m m′ (next-live x k g m e) (next-live x k′ g m′ e′);
+      single = λ k m p e. alone k m p (S .next-from x k (H .interior-tasks k m .0) e);
+    }
       where
-        other : (p ≡ i → ⊥) → k ≡ k′
-        other ne = H .c3-only p k k′ (H .c2 p k m l) ne m l m′ l′
+        meet : (k k′ : ℕ) → N k ≡ true → N k′ ≡ true → Stayed x k ⊎ Woken x k → Stayed x k′ ⊎ Woken x k′ → k ≡ k′
+        meet k k′ m m′ (inl p) (inl q) = g .one k k′ m m′ (p .was) (q .was)
+        meet k k′ m m′ (inl p) (inr q) = absurd (mixed x k k′ g m m′ (p .was) (p .went-on (q .ended)) q)
+        meet k k′ m m′ (inr p) (inl q) = absurd (mixed x k′ k g m′ m (q .was) (q .went-on (p .ended)) p)
+        meet k k′ m m′ (inr p) (inr q) = only (S .ran x) k k′ m m′ (p .by) (q .by)
 
-        go : Cmp p i → k ≡ k′
-        go (less r) = other (λ e. omega arith)
-        go (same r) = absurd (H .c3-none k m (rw r at l))
-        go (more r) = other (λ e. omega arith)
+        alone : (k : ℕ) → N k ≡ true → 0 < S .used (suc x) k → Left (S .used x) (S .pendingMid x) (S .ran x) k ⊎ ((S .over x ≡ true) × (s .link (S .ran x) k ≡ true)) → ⊥
+        alone k m p (inl w) =
+            let o : 1 ≤ k = H .interior-tasks k m .0 in
+            let u : 0 < S .used x k = at-or-not (λ h. h ≡ k → 0 < S .used x k) (S .ran x) k (λ q. w .1 (sym q)) (λ ne q. omega (arith, used-other S x k o ne)) refl in
+            g .single k m u (pending-now x k m (w .0))
+        alone k m p (inr w) =
+            let o : 1 ≤ k = H .interior-tasks k m .0 in
+            let ne : k ≡ S .ran x → ⊥ = λ q. omega (arith, used-over S x k o q (w .0)) in
+            mixed x k k g m m (live-used (S .used x) (S .pending x) k (omega (arith, used-other S x k o ne))) ne (record { ended = w .0; by = w .1 })
 
-    module _ (small : s .tasks < 33) where
-      -- a task of the interior that stays awake, and a run that ends with a link into the interior
-      mixed : (x k k′ : ℕ) → One x → N k ≡ true → N k′ ≡ true → Stayed x k → Woken x k′ → ⊥
-      mixed x k k′ o m m′ w v =
-          or-cases (F (T .high x)) (N (T .high x)) (H .c2 (T .high x) k′ m′ (v .by))
-          (λ f. omega (arith, H .c4 (T .high x) k f m, awake-low s gap T x k (H .interior-tasks k m .1) (w .was)))
-          (λ f. w .went-on (v .ended) (o k (T .high x) m f (mid-now x k small m (w .was)) (mid-now x (T .high x) small f (over-mid x (v .ended)))))
+    one : (x : ℕ) → One x
+    one zero = record {
+      one = λ k k′ m m′ e e′. absurd (not-both e (rw (S .unused-first k (H .interior-tasks k m .0), S .pending-first k (H .interior-tasks k m .0)) refl));
+      single = λ k m p e. omega (arith, S .unused-first k (H .interior-tasks k m .0));
+    }
+    one (suc x) = one-step x (one x)
 
-      one-step : (x : ℕ) → One x → One (suc x)
-      one-step x o k k′ m m′ e e′ = go (next-awake x k (H .interior-tasks k m .0) e) (next-awake x k′ (H .interior-tasks k′ m′ .0) e′)
-        where
-          go : Stayed x k ⊎ Woken x k → Stayed x k′ ⊎ Woken x k′ → k ≡ k′
-          go (inl p) (inl q) = o k k′ m m′ (mid-now x k small m (p .was)) (mid-now x k′ small m′ (q .was))
-          go (inl p) (inr q) = absurd (mixed x k k′ o m m′ p q)
-          go (inr p) (inl q) = absurd (mixed x k′ k o m′ m q p)
-          go (inr p) (inr q) = only (T .high x) k k′ m m′ (p .by) (q .by)
+    -- while an event of i waits and i is of the interior, nothing in the interior is live
+    empty : (y x : ℕ) → wait y x → N i ≡ true → (k : ℕ) → N k ≡ true → liveAt S y k ≡ true → ⊥
+    empty zero x w m k n e = K .none x w
+    empty (suc y) x w m k n e = go (K .fresh y x w) (next-live y k (one y) n e) (λ v. empty y x v m)
+      where
+        go : wait y x ⊎ (endsAt S i y ≡ true) → Stayed y k ⊎ Woken y k → (wait y x → (h : ℕ) → N h ≡ true → liveAt S y h ≡ true → ⊥) → ⊥
+        go (inl v) (inl p) ih = ih v k n (p .was)
+        go (inl v) (inr p) ih =
+            or-cases (F (S .ran y)) (N (S .ran y)) (H .c2 (S .ran y) k n (p .by)) (λ f. Q .clear y x f v) (λ f. ih v (S .ran y) f (ran-now y (p .ended) f))
+        go (inr v) (inl p) ih =
+            let r : S .ran y ≡ i = ends-ran S i y v in
+            let here : liveAt S y i ≡ true = rw r at (ran-now y (ends-over S i y v) (rw r m)) in
+            p .went-on (ends-over S i y v) (one y .one k i n m (p .was) here ∙ sym r)
+        go (inr v) (inr p) ih = H .c3-none k n (rw (ends-ran S i y v) at (p .by))
 
-      one : (x : ℕ) → One x
-      one zero = λ k k′ m m′ e e′. absurd (not-both e (T .asleep-first k (H .interior-tasks k m .0)))
-      one (suc x) = one-step x (one x)
+    -- i does not end again while an event of it is unserved
+    pub token-kept : (y x : ℕ) → wait y x → endsAt S i y ≡ true → ⊥
+    token-kept y x w e =
+        let r : S .ran y ≡ i = ends-ran S i y e in
+        or-cases (F i) (N i) (H .c1) (λ f. Q .clear y x (rw r f) w) (λ f. empty y x w f i f (rw r at (ran-now y (ends-over S i y e) (rw r f))))
 
-      -- while an event of i waits, j is awake and, if i is of the interior, all of the interior sleeps
-      record Holds (x : ℕ) : Type 0 where
-        awake : T .awake x j ≡ true
-        empty : N i ≡ true → (k : ℕ) → N k ≡ true → T .awake x k ≡ true → ⊥
-
-      module _ (linked : s .link i j ≡ true) where
-        isTask : 1 ≤ j
-        isTask = G .to-task i j linked .0
-
-        isTask′ : j ≤ s .tasks
-        isTask′ = G .to-task i j linked .1
-
-        -- just after the run of i
-        holds-new : (x : ℕ) → endsAt s gap T x i ≡ true → Holds (suc x)
-        holds-new x e = record {
-          awake = T .awake-next x j isTask ∙ after-fires (T .mid x j) (T .over x) (eqb j (T .high x)) (s .link (T .high x) j) (ends-over x i e) (rw (ends-high x i e) at linked);
-          empty = λ m k n f. go m k n (next-awake x k (H .interior-tasks k n .0) f);
-        }
-          where
-            go : N i ≡ true → (k : ℕ) → N k ≡ true → Stayed x k ⊎ Woken x k → ⊥
-            go m k n (inl p) =
-                let here : T .mid x i ≡ true = rw (ends-high x i e) (over-mid x (ends-over x i e)) in
-                let q : k ≡ i = one x k i n m (mid-now x k small n (p .was)) (mid-now x i small m here) in
-                p .went-on (ends-over x i e) (q ∙ ends-high x i e)
-            go m k n (inr p) = H .c3-none k n (rw (ends-high x i e) (p .by))
-
-        holds-step : (x : ℕ) → Holds x → endsAt s gap T x j ≡ false → Holds (suc x)
-        holds-step x g e = record {
-          awake = T .awake-next x j isTask ∙ after-stays (T .mid x j) (T .over x) (eqb j (T .high x)) (s .link (T .high x) j) (mid-keeps s gap T x j isTask (g .awake)) (λ p q. not-both (ends-of x j p (eqb-true j (T .high x) q)) e);
-          empty = λ m k n f. go m k n (next-awake x k (H .interior-tasks k n .0) f);
-        }
-          where
-            go : N i ≡ true → (k : ℕ) → N k ≡ true → Stayed x k ⊎ Woken x k → ⊥
-            go m k n (inl p) = g .empty m k n (mid-now x k small n (p .was))
-            go m k n (inr p) =
-                or-cases (F (T .high x)) (N (T .high x)) (H .c2 (T .high x) k n (p .by))
-                (λ f. omega (arith, front (T .high x) f, awake-low s gap T x j isTask′ (mid-keeps s gap T x j isTask (g .awake))))
-                (λ f. g .empty m (T .high x) f (mid-now x (T .high x) small f (over-mid x (p .ended))))
-
-        holds : (y x : ℕ) → WaitsFor i j y x → Holds y
-        holds zero x w = absurd (omega (arith, w .before))
-        holds (suc y) x w = go (cmp x y) (λ r. holds y x (record { before = r; came = w .came; unserved = λ z p q. w .unserved z p (omega arith) }))
-          where
-            go : Cmp x y → (x < y → Holds y) → Holds (suc y)
-            go (less r) g = holds-step y (g r) (w .unserved y r (omega arith))
-            go (same r) g = holds-new y (rw r at (w .came))
-            go (more r) g = absurd (omega (arith, w .before))
-
-        -- i does not end again before j has
-        pub token-kept : (y x : ℕ) → WaitsFor i j y x → endsAt s gap T y i ≡ true → ⊥
-        token-kept y x w e =
-            or-cases (F i) (N i) (H .c1) (λ f. omega (arith, front i f, up)) (λ f. holds y x w .empty f i f (mid-now y i small f here))
-          where
-            up : j ≤ i
-            up = rw (ends-high y i e) (awake-low s gap T y j isTask′ (mid-keeps s gap T y j isTask (holds y x w .awake)))
-
-            here : T .mid y i ≡ true
-            here = rw (ends-high y i e) (over-mid y (ends-over y i e))
+  -- a preemptive machine runs a task of the frontier only when nothing above it is live, and so neither the interior nor j
+  pub preempts-quiet : Preempts S → (j : ℕ) → j ≤ s .tasks → ((k : ℕ) → F k ≡ true → k < j) → ((y x : ℕ) → wait y x → liveMid S y j ≡ true) → Quiet
+  preempts-quiet P j p front live = record {
+    empty = λ x k f m. P .above x k (H .c4 (S .ran x) k f m) (H .interior-tasks k m .1);
+    clear = λ x z f w. not-both (live x z w) (P .above x j (front (S .ran x) f) p);
+  }

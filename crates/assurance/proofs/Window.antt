@@ -1,4 +1,4 @@
--- The busy window: no event for a task waits longer than a D that a round leaves unchanged. Assumes nothing.
+-- The busy window: no event waits longer than a D that a round leaves unchanged, whatever the potential and the slack. Assumes nothing.
 use Prim.Native.Nat.{ℕ, zero, suc, _+_, _*_, _≤_, _<_}
 use mathlib.Core.Path.{_≡_, refl, ap, _∙_}
 use mathlib.Core.Bool.{Bool, true, false}
@@ -31,32 +31,36 @@ brought-more : (load : ℕ → ℕ) (fire : ℕ → ℕ → Bool) (a n x w : ℕ
 unfolding brought
 brought-more load fire a n x w = simp (count-more, times-given, sumN-add)
 
--- a list of ticks, as task j sees it: the sources' firings, the potential at j, whether a task at or above j runs, and the events that wait
-pub record Run (load gap : ℕ → ℕ) (a n S : ℕ) : Type 1 where
+-- A schedule as the events of one link see it: the sources' firings, a potential that every busy tick lowers by 1 but for what arrives
+-- in it, the events that wait (wait y x: the one of tick x, before tick y), and a slack c. A tick that is not busy opens the window anew.
+-- Preemptive: phi is what is owed at j, c is 0, and a potential of 0 says that nothing waits.
+-- Hold-on: phi is what is owed above j and by the run of a task up to j, and c is 1, the first tick of that run being done when the
+-- window opens. An event waits until its run begins, so with phi 0 it may still wait, but at the width D - 1 no tick is busy.
+pub record Run (load gap : ℕ → ℕ) (a n S c : ℕ) : Type 1 where
   pub fire : ℕ → ℕ → Bool
   pub phi : ℕ → ℕ
   pub busy : ℕ → Bool
   pub wait : ℕ → ℕ → Type 0
   pub counted : (u : ℕ) → a ≤ u → u < a + n → (x w : ℕ) → count (fire u) x w ≤ spacings w (gap u)
-  pub starts : phi 0 ≤ S
+  pub starts : phi 0 + c ≤ S
   pub none : (x : ℕ) → wait 0 x → ⊥
   pub falls : (y : ℕ) → busy y ≡ true → phi (suc y) + 1 ≤ phi y + sumN (λ u. given (fire u y) (load u)) a n
-  pub idle : (y : ℕ) → busy y ≡ false → phi (suc y) ≤ S
+  pub idle : (y : ℕ) → busy y ≡ false → phi (suc y) + c ≤ S
   pub fresh : (y x : ℕ) → wait (suc y) x → wait y x ⊎ (x ≡ y)
   pub clear : (y x : ℕ) → busy y ≡ false → wait (suc y) x → ⊥
-  pub done : (y x : ℕ) → phi y ≡ 0 → wait y x → ⊥
+  pub done : (y x : ℕ) → phi y + c ≡ 0 → wait y x → ⊥
 
-module _ (load gap : ℕ → ℕ) (a n S D : ℕ) (pos : 1 ≤ D) (fix : S + sumN (λ u. load u * spacings D (gap u)) a n ≡ D) (R : Run load gap a n S) where
+module _ (load gap : ℕ → ℕ) (a n S c D : ℕ) (pos : 1 ≤ D) (fix : S + sumN (λ u. load u * spacings D (gap u)) a n ≡ D) (R : Run load gap a n S c) where
   -- the window that tick y stands in: it opened w < D ticks ago, all that is owed came in it, and so did each event that waits
   record Inv (y : ℕ) : Type 0 where
     opened : ℕ
     width : ℕ
     at : opened + width ≡ y
     short : width < D
-    bound : R .phi y + width ≤ S + brought load (R .fire) a n opened width
+    bound : R .phi y + width + c ≤ S + brought load (R .fire) a n opened width
     since : (x : ℕ) → R .wait y x → opened ≤ x
 
-  anew : (y : ℕ) → R .phi y ≤ S → ((x : ℕ) → R .wait y x → ⊥) → Inv y
+  anew : (y : ℕ) → R .phi y + c ≤ S → ((x : ℕ) → R .wait y x → ⊥) → Inv y
   anew y p v = record {
     opened = y;
     width = 0;
@@ -69,7 +73,7 @@ module _ (load gap : ℕ → ℕ) (a n S D : ℕ) (pos : 1 ≤ D) (fix : S + sum
   inv-busy : (y : ℕ) → Inv y → R .busy y ≡ true → Inv (suc y)
   inv-busy y i b = go (cmp (suc (i .width)) D)
     where
-      more-brought : R .phi (suc y) + suc (i .width) ≤ S + brought load (R .fire) a n (i .opened) (suc (i .width))
+      more-brought : R .phi (suc y) + suc (i .width) + c ≤ S + brought load (R .fire) a n (i .opened) (suc (i .width))
       more-brought =
           rw (brought-more load (R .fire) a n (i .opened) (i .width), i .at) (omega (arith, i .bound, R .falls y b))
 
@@ -83,7 +87,8 @@ module _ (load gap : ℕ → ℕ) (a n S D : ℕ) (pos : 1 ≤ D) (fix : S + sum
       most : brought load (R .fire) a n (i .opened) (suc (i .width)) ≤ sumN (λ u. load u * spacings (suc (i .width)) (gap u)) a n
       most = unfold brought in sumN-le _ _ a n (λ u p q. mul-le-mul-left (load u) (R .counted u p q (i .opened) (suc (i .width))))
 
-      full : suc (i .width) ≡ D → R .phi (suc y) ≡ 0
+      -- at the width D nothing is owed, and there is no slack
+      full : suc (i .width) ≡ D → R .phi (suc y) + c ≡ 0
       full q =
           let f : S + sumN (λ u. load u * spacings (suc (i .width)) (gap u)) a n ≡ D = rw q fix in
           omega (arith, more-brought, most)

@@ -58,7 +58,7 @@ slower-requires c κs =
     let w = c .before .before .before .before .before .before .before .before .pre in
     let L = c .before .before .before .before .before .loop in
     let p : L .j < 32 = omega (arith, c .before .before .before .before .loop-test .taken, w .tables .good .few-tasks, w .tables .counted) in
-    let d = w .of in let k = w .tables in (record { of = d; at = suc (L .j); from = level-from d (a .levels .now) (a .starts .now) (a .critical .now) (a .sources) (a .tasks) (L .j) (c .before .before .before .level-of .result) k p (c .before .before .before .level-of .ensures) }, L .inv .1, L .inv .2)
+    let d = w .of in let k = w .tables in (record { of = d; at = suc (L .j); from = level-from d (a .levels .now) (a .starts .now) (a .critical .now) (a .sources) (a .tasks) (L .j) (c .before .before .before .level-of .result) k p (c .before .before .before .level-of .ensures) }, omega (arith, L .inv .1), omega (arith, L .inv .2))
 
 returns-2 : tie.Need-returns-2 Inv-loop μ-loop
 returns-2 c =
@@ -74,7 +74,7 @@ gaps-by-requires-2 c κs =
     let w = c .before .before .before .before .before .before .before .before .before .before .pre in
     let L = c .before .before .before .before .before .before .before .loop in
     let p : L .j < 32 = omega (arith, c .before .before .before .before .before .before .loop-test .taken, w .tables .good .few-tasks, w .tables .counted) in
-    let d = w .of in let k = w .tables in let z = best-slower d (k .good) (L .j) (L .best) (c .before .slower .result) (c .if3 .left) (c .before .slower .ensures d (suc (L .j)) (level-from d (a .levels .now) (a .starts .now) (a .critical .now) (a .sources) (a .tasks) (L .j) (c .before .before .before .before .before .level-of .result) k p (c .before .before .before .before .before .level-of .ensures)) (sym (held-from d (suc (L .j)) (c .before .before .before .before .before .level-of .result) (a .sources) (L .best) (L .gaps) (c .before .before .before .level-held .result) (level-from d (a .levels .now) (a .starts .now) (a .critical .now) (a .sources) (a .tasks) (L .j) (c .before .before .before .before .before .level-of .result) k p (c .before .before .before .before .before .level-of .ensures)) (L .inv .3) (c .before .before .before .level-held .ensures)) ∙ c .before .before .if2 .left)) (L .inv .4 d k) in (scaled-of d (a .sources) (k .good) (k .by-source), z .low, z .high)
+    let d = w .of in let k = w .tables in let z = best-slower d (k .good) (L .j) (L .best) (c .before .slower .result) (c .if3 .left) (c .before .slower .ensures d (suc (L .j)) (level-from d (a .levels .now) (a .starts .now) (a .critical .now) (a .sources) (a .tasks) (L .j) (c .before .before .before .before .before .level-of .result) k p (c .before .before .before .before .before .level-of .ensures)) (sym (held-from d (suc (L .j)) (c .before .before .before .before .before .level-of .result) (a .sources) (L .best) (L .gaps) (c .before .before .before .level-held .result) (level-from d (a .levels .now) (a .starts .now) (a .critical .now) (a .sources) (a .tasks) (L .j) (c .before .before .before .before .before .level-of .result) k p (c .before .before .before .before .before .level-of .ensures)) (L .inv .3) (c .before .before .before .level-held .ensures)) ∙ c .before .before .if2 .left)) (L .inv .4 d k) in (scaled-of d (a .sources) (k .good) (k .by-source), omega (arith, z .low), omega (arith, z .high))
 
 add-j-2 : tie.Need-add-j-2 Inv-loop μ-loop
 add-j-2 c = omega (arith, c .before .before .before .before .before .before .before .before .before .before .before .pre .tables .good .few-tasks, c .before .before .before .before .before .before .before .before .before .before .before .pre .tables .counted)

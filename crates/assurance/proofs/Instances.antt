@@ -1,6 +1,6 @@
 -- Demand 3 at two files of document 01, its hypotheses met by computation, so that it is known to speak of something. Assumes nothing.
 use Prim.Native.Nat.{ℕ, suc, _^_, _≤_, _<_}
-use mathlib.Core.Path.{_≡_, refl, ap, _∙_}
+use mathlib.Core.Path.{_≡_, refl}
 use mathlib.Core.Bool.{Bool, true, false}
 use mathlib.Core.List.{List}
 use native.Mathlib.Omega.{arith}
@@ -13,19 +13,18 @@ use Rattle.model.specs.declared.Description.{Description}
 use Rattle.model.specs.declared.Outcome.the-variants.{Done}
 use Rattle.model.specs.declared.Quote.the-variants.{Tempo}
 use Rattle.model.specs.Basics.{sumN, topN, anyN, allN, joined}
-use Rattle.model.specs.Refusals.{noSource, onDone}
+use Rattle.model.specs.Refusals.{noSource}
 use Rattle.model.specs.Field.{bytesOf, numberIn, bodyOf, fieldBytes, fieldIn, takeField, checkField, fieldOf}
 use Rattle.model.specs.Graph.{linked, system, walks, cyclic}
 use Rattle.model.specs.Loads.{workF, work, added, load, tooHeavy}
 use Rattle.model.specs.File.{SourceFits, Widths, fileOf, lastChecks, parseFrom, parseFile, readFile, overfull, judge}
 use Rattle.model.specs.Delays.{spacing, spacingOf, spacings, startOf, roundOf, settle, delayOf}
 use Rattle.model.specs.Order.{visit, walk, inOrder}
-use Rattle.model.specs.Verdicts.{sourceVerdict, orderVerdict, verdictOf, verdictAt, allHeld, largestBelow, quoteOf}
+use Rattle.model.specs.Verdicts.{sourceVerdict, orderVerdict, verdictOf, verdictAt, allHeld, quoteOf}
 use Rattle.model.specs.Machine.{idle}
 use Rattle.model.specs.History.{Call, ticks, tickAt, fires, waitOf}
 use Rattle.model.specs.Figures.{box, twin}
 use Rattle.lemmas.proofs.Range.{all-at}
-use Rattle.theory.proofs.WellFormed.{WellFormed}
 use Rattle.theory.proofs.FileLaws.{judge-well-formed}
 use Rattle.theory.proofs.Quotes.{quote-at}
 use Rattle.assurance.proofs.PlainCalls.{AssuredOf, plain-assured}

@@ -1,12 +1,12 @@
 -- Laws of the sums, largest values, tests and repeated steps over a range. Assumes nothing.
 use Prim.Native.Nat.{ℕ, zero, suc, _+_, _-_, _*_, _≤_, _<_, max}
-use mathlib.Core.Path.{_≡_, refl, sym, ap, _∙_}
+use mathlib.Core.Path.{_≡_, refl, ap, _∙_}
 use mathlib.Core.Bool.{Bool, true, false, _||_, _&&_}
 use native.Mathlib.Omega.{arith}
-use native.Mathlib.Nat.{zero-add, add-zero, suc-add, add-suc, add-assoc}
+use native.Mathlib.Nat.{zero-add, add-zero, add-suc, add-assoc}
 use native.Mathlib.Numerals.{add-one}
 use Rattle.model.specs.Basics.{sumN, topN, sumTo, topTo, anyN, allN, given, upTo}
-use Rattle.lemmas.proofs.Tests.{Cmp, less, same, more, cmp, not-both, false-of, or-left, or-right, or-cases, or-false, and-left, and-right, both}
+use Rattle.lemmas.proofs.Tests.{Cmp, less, same, more, cmp, not-both, false-of, or-left, or-right, and-left, and-right, both}
 
 -- a fact at each of the n numbers from a on; at each number from a to b
 abbrev pub Each : (ℕ → Type 0) → ℕ → ℕ → Type 0

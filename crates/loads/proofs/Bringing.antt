@@ -5,7 +5,7 @@ use mathlib.Core.Bool.{Bool, true, false}
 use mathlib.Core.List.{List}
 use native.Mathlib.Omega.{arith}
 use lib.ListN.{getD}
-use Rattle.model.specs.Basics.{sumTo, topTo, given}
+use Rattle.model.specs.Basics.{given}
 use Rattle.model.specs.Graph.{System, Reaches, cyclic}
 use Rattle.model.specs.Graph.Reaches.{one as link, more as on}
 use Rattle.model.specs.Loads.{work, added, load}

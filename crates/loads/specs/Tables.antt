@@ -5,7 +5,7 @@ use mathlib.Core.Bool.{Bool, true, false, cond, _&&_, _||_}
 use mathlib.Core.Logic.{_⊎_}
 use mathlib.Core.List.{List, []}
 use lib.ListN.{length, getD, replicate}
-use lib.Dec.{leb, eqb, ltb}
+use lib.Dec.{leb, ltb}
 use Rattle.model.specs.declared.Description.{Description}
 use Rattle.model.specs.declared.Outcome.the-variants.{Done, Refused}
 use Rattle.model.specs.declared.LoadSheet.{LoadSheet}
@@ -13,8 +13,8 @@ use Rattle.model.specs.declared.Refusal.{Refusal}
 use Rattle.model.specs.declared.Row.{Row}
 use Rattle.model.specs.Basics.{anyN, sumTo, given}
 use Rattle.model.specs.Refusals.{onDone}
-use Rattle.model.specs.Graph.{System, system, linked, linkAt, cyclic}
-use Rattle.model.specs.Loads.{work, added, load, tooHeavy, sheet, noRow}
+use Rattle.model.specs.Graph.{System, system, linked, cyclic}
+use Rattle.model.specs.Loads.{work, added, load, sheet, noRow}
 use Rattle.model.specs.File.{lastChecks}
 use Rattle.loads.specs.declared.Worked.{Worked}
 use Rattle.sets.specs.Sets.{member}

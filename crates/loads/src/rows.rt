@@ -1,7 +1,7 @@
 // Loads as sums of works: one node's, a row of them, the sheet.
 use sets::has;
 ghost use mathlib.Core.Path.{_≡_};
-ghost use Prim.Native.Nat.{ℕ, _-_, _≤_, _<_};
+ghost use Prim.Native.Nat.{_-_, _≤_, _<_};
 ghost use lib.ListN.{getD};
 ghost use Rattle.model.specs.Basics.{given, sumTo};
 ghost use Rattle.sets.specs.Sets.{member};

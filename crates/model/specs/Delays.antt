@@ -1,11 +1,11 @@
 -- "Verdicts", from a source to a task: spacings, rounds and the delay. All of it goes by a system and a spacing for each source.
 use Prim.Native.Nat.{ℕ, zero, suc, _+_, _-_, _*_, _/_, max}
-use mathlib.Core.Bool.{Bool, true, false}
+use mathlib.Core.Bool.{true, false}
 use lib.Dec.{ltb, eqb}
 use Rattle.model.specs.declared.Source.{Source}
 use Rattle.model.specs.declared.Source.the-variants.{Fixed, Paced}
 use Rattle.model.specs.declared.Description.{Description}
-use Rattle.model.specs.Basics.{sumN, topTo, topN}
+use Rattle.model.specs.Basics.{sumN, topTo}
 use Rattle.model.specs.Graph.{System, sourceAt}
 use Rattle.model.specs.Loads.{load}
 

@@ -1,10 +1,10 @@
 -- "Figures to keep, marked P": the files they speak of, and the figures as the rows of one statement.
-use Prim.Native.Nat.{ℕ, zero, suc, _+_, _-_, _%_}
+use Prim.Native.Nat.{ℕ, _+_, _-_, _%_}
 use mathlib.Core.Bool.{Bool, true, false, _||_}
 use mathlib.Core.List.{List, [], _∷_, _++_}
 use mathlib.Core.Path.{_≡_}
-use lib.ListN.{length, getD, replicate}
-use lib.Dec.{eqb, ltb}
+use lib.ListN.{length, replicate}
+use lib.Dec.{eqb}
 use Rattle.model.specs.declared.Source.{Source}
 use Rattle.model.specs.declared.Source.the-variants.{Fixed, Paced}
 use Rattle.model.specs.declared.SourceSlot.{SourceSlot}
@@ -13,15 +13,9 @@ use Rattle.model.specs.declared.Description.{Description}
 use Rattle.model.specs.declared.Refusal.the-variants.{NoTask, OutOfTurn, TooSoon}
 use Rattle.model.specs.declared.Outcome.{Outcome}
 use Rattle.model.specs.declared.Outcome.the-variants.{Done, Refused}
-use Rattle.model.specs.declared.Reading.{Reading}
-use Rattle.model.specs.declared.Verdict.{Verdict}
-use Rattle.model.specs.declared.Verdict.the-variants.{Free, HeldOrder, DoubtOrder, Held, Doubt}
-use Rattle.model.specs.declared.Quote.{Quote}
+use Rattle.model.specs.declared.Verdict.the-variants.{HeldOrder, DoubtOrder, Held, Doubt}
 use Rattle.model.specs.declared.Quote.the-variants.{Tempo}
-use Rattle.model.specs.declared.Machine.{Machine}
-use Rattle.model.specs.declared.Arrivals.{Arrivals}
 use Rattle.model.specs.declared.Ticked.{Ticked}
-use Rattle.model.specs.declared.Walk.{Walk}
 use Rattle.model.specs.Basics.{tab}
 use Rattle.model.specs.Refusals.{noSource, noLink}
 use Rattle.model.specs.Graph.{system}
@@ -30,7 +24,7 @@ use Rattle.model.specs.File.{fileOf, readFile}
 use Rattle.model.specs.Delays.{spacing, spacingOf, roundOf, startOf}
 use Rattle.model.specs.Order.{walk}
 use Rattle.model.specs.Verdicts.{verdictAt, quoteOf}
-use Rattle.model.specs.Machine.{idle, droppedAt, plainTick}
+use Rattle.model.specs.Machine.{idle, droppedAt}
 use Rattle.model.specs.History.{Call, answers}
 
 -- a list filled up to n places

@@ -1,7 +1,7 @@
 -- "The description file" as a whole: its bytes, its reading, acceptance, and the judging of a record.
 use Prim.Native.Nat.{ℕ, zero, suc, _+_, _-_, _^_, _<_}
-use mathlib.Core.Bool.{Bool, true, false, cond, _||_}
-use mathlib.Core.List.{List, [], _∷_, _++_}
+use mathlib.Core.Bool.{Bool, cond, _||_}
+use mathlib.Core.List.{List, _++_}
 use mathlib.Core.Path.{_≡_}
 use lib.ListN.{length, getD, take, drop, replicate}
 use lib.Dec.{eqb, ltb}
@@ -9,7 +9,6 @@ use Rattle.model.specs.declared.Source.{Source}
 use Rattle.model.specs.declared.Source.the-variants.{Fixed, Paced}
 use Rattle.model.specs.declared.Description.{Description}
 use Rattle.model.specs.declared.Field.{Field}
-use Rattle.model.specs.declared.Link.{Link}
 use Rattle.model.specs.declared.Refusal.{Refusal}
 use Rattle.model.specs.declared.Refusal.the-variants.{CutShort, TooMany, NoTask, Loop, TooHeavy, ShortPage}
 use Rattle.model.specs.declared.Taken.{Taken}
@@ -25,7 +24,7 @@ use Rattle.model.specs.declared.LoadSheet.{LoadSheet}
 use Rattle.model.specs.Basics.{joined}
 use Rattle.model.specs.Refusals.{blank, noLink, noSource, onDone}
 use Rattle.model.specs.Field.{fieldBytes, takeField, checkField, withField, passed, noProgress, fieldOf, fieldCount}
-use Rattle.model.specs.Graph.{System, system, cyclic}
+use Rattle.model.specs.Graph.{system, cyclic}
 use Rattle.model.specs.Loads.{tooHeavy, sheet, noRow}
 
 -- the numbers of a record below its counts fit the widths that its type and the file have for them; of links the bytes are given

@@ -1,11 +1,11 @@
 -- "Loads": document 000, equation 9.
-use Prim.Native.Nat.{ℕ, zero, suc, _+_, _-_, _*_}
+use Prim.Native.Nat.{ℕ, zero, suc, _+_, _*_}
 use mathlib.Core.Bool.{Bool, true, false}
 use mathlib.Core.List.{List}
 use lib.Dec.{ltb}
 use lib.ListN.{replicate}
 use Rattle.model.specs.declared.Row.{Row}
-use Rattle.model.specs.Basics.{sumTo, topTo, anyN, given, tab, sumN, topN}
+use Rattle.model.specs.Basics.{sumTo, topTo, anyN, given, tab}
 use Rattle.model.specs.Graph.{System}
 
 -- W(j) is e(j) plus the sum of added(j, k) over tasks k > j. added(i, j) is W(j) if a link i to j exists; else the largest

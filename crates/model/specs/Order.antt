@@ -1,5 +1,5 @@
 -- "Verdicts", from a task to a task: exclusive neighbourhoods (document 000, C1 to C4) and the backward walk that finds them.
-use Prim.Native.Nat.{ℕ, zero, suc, _+_, _-_, _<_, _≤_}
+use Prim.Native.Nat.{ℕ, zero, suc, _-_, _<_, _≤_}
 use mathlib.Core.Bool.{Bool, true, false, _||_, cond}
 use mathlib.Core.Path.{_≡_}
 use lib.ListN.{getD, set, replicate}

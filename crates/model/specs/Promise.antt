@@ -5,7 +5,6 @@ use mathlib.Core.List.{List, [], _∷_}
 use mathlib.Core.Path.{_≡_}
 use mathlib.Core.Logic.{_↔_}
 use lib.ListN.{length}
-use Rattle.model.specs.declared.Link.{Link}
 use Rattle.model.specs.declared.Description.{Description}
 use Rattle.model.specs.declared.Machine.{Machine}
 use Rattle.model.specs.declared.Ticked.{Ticked}
@@ -14,7 +13,7 @@ use Rattle.model.specs.Graph.{linkAt}
 use Rattle.model.specs.File.{Widths}
 use Rattle.model.specs.Verdicts.{quoteOf, verdictAt, delayIn}
 use Rattle.model.specs.Machine.{idle, plainTick, droppedAt}
-use Rattle.model.specs.History.{Call, Tick, answers, left, ticks, fires, tickAt, Dropped, waitOf}
+use Rattle.model.specs.History.{Call, answers, left, ticks, fires, tickAt, Dropped, waitOf}
 
 -- what the tick call ensures of its outcome and of the record it leaves
 abbrev pub TickMeets : Description → ℕ → Machine → Call → Ticked → Type 0

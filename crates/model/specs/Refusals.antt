@@ -1,7 +1,6 @@
 -- "Table of refused work": the number of each refusal, and what stands beside one.
 use Prim.Native.Nat.{ℕ}
 use lib.ListN.{replicate}
-use Rattle.model.specs.declared.Source.{Source}
 use Rattle.model.specs.declared.Source.the-variants.{Fixed}
 use Rattle.model.specs.declared.SourceSlot.{SourceSlot}
 use Rattle.model.specs.declared.Link.{Link}

@@ -1,8 +1,7 @@
 -- "Verdicts" and the quote.
-use Prim.Native.Nat.{ℕ, zero, suc, _+_, _-_, _≤_}
-use mathlib.Core.Bool.{Bool, true, false, _||_, _&&_, not, cond}
-use mathlib.Core.List.{List}
-use lib.ListN.{replicate, getD}
+use Prim.Native.Nat.{ℕ, zero, suc, _+_}
+use mathlib.Core.Bool.{Bool, true, false, _&&_, not, cond}
+use lib.ListN.{replicate}
 use lib.Dec.{ltb, leb, eqb}
 use Rattle.model.specs.declared.Link.{Link}
 use Rattle.model.specs.declared.Description.{Description}

@@ -2,16 +2,14 @@
 -- beyond what time allows is settled with no round. Assumes nothing.
 use Prim.Native.Nat.{ℕ, zero, suc, _+_, _-_, _*_, _/_, _≤_, _<_, max}
 use mathlib.Core.Path.{_≡_, refl, sym, ap, _∙_}
-use mathlib.Core.Bool.{Bool, true, false, cond}
+use mathlib.Core.Bool.{cond}
 use native.Mathlib.Omega.{arith}
 use native.Mathlib.Nat.{div-mul-le-self, div-le-self, lt-div-mul-add, mul-le-mul-left, mul-le-mul-right, zero-add, lt-of-mul-lt-mul-left}
 use lib.Dec.{ltb}
 use borrow.Author.Tests.{lt-ltb, le-ltb}
-use Rattle.model.specs.declared.Verdict.{Verdict}
 use Rattle.model.specs.declared.Verdict.the-variants.{Held, Doubt}
 use Rattle.model.specs.Basics.{sumN}
 use Rattle.model.specs.Graph.{System}
-use Rattle.model.specs.Loads.{load}
 use Rattle.model.specs.Delays.{spacings, startOf, roundOf, Settled, unchanged, reached, settle, delayOf}
 use Rattle.model.specs.Verdicts.{settledVerdict, sourceVerdict}
 use Rattle.lemmas.proofs.Tests.{Cmp, less, same, more, cmp}

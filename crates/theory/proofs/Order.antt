@@ -1,19 +1,19 @@
 -- A task link is held by the walk exactly if some exclusive neighbourhood has all its frontier below j. Assumes nothing.
-use Prim.Native.Nat.{ℕ, zero, suc, _+_, _-_, _≤_, _<_}
+use Prim.Native.Nat.{ℕ, zero, suc, _-_, _≤_, _<_}
 use mathlib.Core.Path.{_≡_, refl, sym, ap, subst, _∙_}
 use mathlib.Core.Bool.{Bool, true, false, _||_, _&&_}
 use mathlib.Core.Logic.{_⊎_, inl, inr, _↔_}
 use native.Mathlib.Omega.{arith}
-use lib.ListN.{length, getD, replicate, length-replicate, getD-replicate, List·getD-eq-default}
-use lib.Dec.{eqb, ltb, leb}
+use lib.ListN.{getD, replicate, length-replicate, getD-replicate, List·getD-eq-default}
+use lib.Dec.{ltb, leb}
 use borrow.Author.Tests.{ltb-true, lt-ltb, leb-true, le-leb, eqb-true, eq-eqb}
 use Rattle.model.specs.declared.Walk.{Walk}
 use Rattle.model.specs.Basics.{upTo}
 use Rattle.model.specs.Graph.{System}
-use Rattle.model.specs.Order.{Set, Neighbourhood, InOrder, meet, visit, walk, inOrder}
+use Rattle.model.specs.Order.{Set, InOrder, meet, visit, walk, inOrder}
 use Rattle.lemmas.proofs.Tests.{Cmp, less, same, more, cmp, at-or-not, not-both, false-of, or-left, or-right, or-cases, and-left, and-right, both}
 use Rattle.theory.proofs.WellFormed.{Shaped, Loaded, IsTask, IsSource}
-use Rattle.theory.proofs.Walk.{M, New, Sized, meet-sized, meet-at, meet-other, met-place, stepTo, visit-low, visit-high, step-skip, step-into, place-of, Up, Grown, Part, part, grown}
+use Rattle.theory.proofs.Walk.{M, Sized, meet-sized, meet-at, meet-other, met-place, stepTo, visit-low, visit-high, step-skip, step-into, place-of, Up, Grown, Part, part, grown}
 
 -- the walk's start: nothing has been met
 abbrev fresh : Walk

@@ -3,10 +3,10 @@
 use Prim.Native.Nat.{ℕ, zero, suc, _+_, _-_, _≤_, _<_}
 use mathlib.Core.Path.{_≡_, refl, sym, ap, _∙_}
 use mathlib.Core.Bool.{Bool, true, false, not, cond}
-use mathlib.Core.Logic.{_⊎_, inl, inr, _↔_}
+use mathlib.Core.Logic.{_⊎_, inl, inr}
 use native.Mathlib.Omega.{arith}
 use lib.Dec.{eqb, ltb}
-use borrow.Author.Tests.{ltb-true, ltb-false, not-true}
+use borrow.Author.Tests.{ltb-false, not-true}
 use Rattle.model.specs.declared.Link.{Link}
 use Rattle.model.specs.declared.Description.{Description}
 use Rattle.model.specs.declared.Refusal.{Refusal}
@@ -14,17 +14,14 @@ use Rattle.model.specs.declared.Refusal.the-variants.{NoTempo}
 use Rattle.model.specs.declared.Outcome.{Outcome}
 use Rattle.model.specs.declared.Outcome.the-variants.{Done, Refused}
 use Rattle.model.specs.declared.Verdict.{Verdict}
-use Rattle.model.specs.declared.Verdict.the-variants.{Held, Doubt}
-use Rattle.model.specs.declared.Quote.{Quote}
 use Rattle.model.specs.declared.Quote.the-variants.{Tempo, Unquoted}
-use Rattle.model.specs.Basics.{allN}
 use Rattle.model.specs.Refusals.{onDone}
 use Rattle.model.specs.Graph.{System, system, linkAt}
 use Rattle.model.specs.File.{judge}
 use Rattle.model.specs.Delays.{Settled, unchanged, reached, delayOf, spacingOf}
 use Rattle.model.specs.Verdicts.{settledVerdict, sourceVerdict, orderVerdict, verdictOf, verdictAt, doubtful, allHeld, largestBelow, quoteOf}
-use Rattle.lemmas.proofs.Tests.{Cmp, less, same, more, cmp, not-both, false-of, true-of}
-use Rattle.lemmas.proofs.Range.{Each, all-at, all-of}
+use Rattle.lemmas.proofs.Tests.{Cmp, less, same, more, cmp, not-both, false-of}
+use Rattle.lemmas.proofs.Range.{all-at, all-of}
 use Rattle.theory.proofs.WellFormed.{WellFormed, IsTask, IsSource}
 use Rattle.theory.proofs.Spacing.{gap-anti, gap-some}
 use Rattle.theory.proofs.Rounds.{Spaced, Wider, Kept, held-wider}

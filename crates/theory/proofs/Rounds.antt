@@ -1,16 +1,14 @@
 -- Rounds: the D that a round leaves unchanged is the least one, and it does not grow when spacings do. Assumes nothing.
-use Prim.Native.Nat.{ℕ, zero, suc, _+_, _-_, _*_, _/_, _≤_, _<_, max}
-use mathlib.Core.Path.{_≡_, refl, sym, ap, _∙_}
+use Prim.Native.Nat.{ℕ, zero, suc, _+_, _-_, _*_, _/_, _≤_, _<_}
+use mathlib.Core.Path.{_≡_, refl}
 use mathlib.Core.Bool.{Bool, true, false}
 use native.Mathlib.Omega.{arith}
 use native.Mathlib.Nat.{le-div-iff-mul-le, div-mul-le-self, mul-le-mul-left}
 use lib.Dec.{eqb, ltb}
 use borrow.Author.Tests.{eqb-true, eqb-false, ltb-true, ltb-false, lt-ltb, le-ltb, eq-eqb, ne-eqb}
-use Rattle.model.specs.Basics.{sumN}
 use Rattle.model.specs.Graph.{System}
 use Rattle.model.specs.Loads.{load}
 use Rattle.model.specs.Delays.{spacings, startOf, roundOf, Settled, unchanged, reached, settle, delayOf}
-use Rattle.lemmas.proofs.Tests.{not-both}
 use Rattle.lemmas.proofs.Range.{Each, sumN-le}
 
 -- how many spacings a stretch holds: at least 1, more in a longer stretch, fewer of longer ones

@@ -1,18 +1,18 @@
 -- The backward walk finds a neighbourhood: what a walk that has not failed has met. Assumes nothing.
-use Prim.Native.Nat.{ℕ, zero, suc, _+_, _-_, _≤_, _<_}
+use Prim.Native.Nat.{ℕ, zero, suc, _-_, _≤_, _<_}
 use mathlib.Core.Path.{_≡_, refl, sym, ap, _∙_}
-use mathlib.Core.Bool.{Bool, true, false, _||_, _&&_, cond}
+use mathlib.Core.Bool.{Bool, true, false}
 use mathlib.Core.Logic.{_⊎_, inl, inr}
 use native.Mathlib.Omega.{arith}
-use lib.ListN.{length, getD, set, replicate, length-set, length-replicate, getD-replicate, List·getD-eq-default}
+use lib.ListN.{length, getD, replicate, length-set, List·getD-eq-default}
 use lib.Seq.{getD-set-same, getD-set-other}
-use lib.Dec.{eqb, ltb, leb}
-use borrow.Author.Tests.{ltb-true, ltb-false, eqb-true, eqb-false, eq-eqb, lt-ltb, le-ltb, leb-true, le-leb, lt-leb}
+use lib.Dec.{eqb}
+use borrow.Author.Tests.{eqb-true, eq-eqb, lt-ltb, le-ltb}
 use Rattle.model.specs.declared.Walk.{Walk}
 use Rattle.model.specs.Basics.{upTo}
 use Rattle.model.specs.Graph.{System}
-use Rattle.model.specs.Order.{Neighbourhood, InOrder, failAt, meet, visit, walk, inOrder}
-use Rattle.lemmas.proofs.Tests.{Cmp, less, same, more, cmp, at-or-not, not-both, false-of, or-left, or-right, or-cases, and-left, and-right, both}
+use Rattle.model.specs.Order.{failAt, meet, visit, walk, inOrder}
+use Rattle.lemmas.proofs.Tests.{Cmp, less, same, more, cmp, at-or-not, not-both, false-of}
 use Rattle.lemmas.proofs.Range.{upTo-alike}
 use Rattle.theory.proofs.WellFormed.{Shaped, IsTask, IsSource}
 

@@ -1,6 +1,6 @@
 -- `loads::last_checks` meets its contract. Assumes nothing.
 use borrow.Author.Needs.{needs}
-use mathlib.Core.Path.{refl, sym, ap, _∙_}
+use mathlib.Core.Path.{sym, ap, _∙_}
 use mathlib.Core.List.{List}
 use Rattle.model.specs.declared.Row.{Row}
 use Rattle.model.specs.declared.LoadSheet.{LoadSheet}

@@ -1,6 +1,6 @@
 -- `loads::work_out` meets its contract: a return for each end of the checks. Assumes nothing.
 use borrow.Author.Needs.{needs}
-use mathlib.Core.Path.{refl, sym, _∙_}
+use mathlib.Core.Path.{sym, _∙_}
 use Rattle.model.specs.declared.Refusal.the-variants.{NoTask, Loop, TooHeavy}
 use Rattle.loads.proofs.Tabled.{sets-absent}
 use Rattle.loads.proofs.Checks.{ends-empty, ends-loop, ends-heavy, ends-done, worked-refused, self-is, sets-ready, loads-of, heavy-is}

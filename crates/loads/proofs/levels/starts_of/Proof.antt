@@ -1,10 +1,9 @@
 -- `loads::levels::starts_of` meets its contract: the starts from task j + 1 on are there. Assumes nothing.
 use borrow.Author.Needs.{needs}
 use native.Mathlib.Omega.{arith}
-use Prim.Native.Nat.{ℕ, suc, _+_, _≤_, _<_, _-_}
-use mathlib.Core.Path.{_≡_, refl, sym, ap, _∙_}
-use mathlib.Core.List.{[]}
-use lib.ListN.{length, getD, length-set}
+use Prim.Native.Nat.{ℕ, suc, _≤_, _<_, _-_}
+use mathlib.Core.Path.{_≡_, refl, sym, _∙_}
+use lib.ListN.{length, getD}
 use Rattle.loads.specs.Tables.{loadBy}
 use Rattle.loads.proofs.Working.{loadBy-none, loadBy-most}
 use Rattle.loads.proofs.Columns.{StartsFrom, starts-none, starts-step, zero-entry}

@@ -1,10 +1,10 @@
 -- `loads::levels::task_column` meets its contract. Assumes nothing.
 use borrow.Author.Needs.{needs}
 use native.Mathlib.Omega.{arith}
-use Prim.Native.Nat.{ℕ, suc, _+_, _≤_, _<_, _-_, max}
+use Prim.Native.Nat.{_+_, _≤_, _<_, _-_, max}
 use mathlib.Core.Path.{_≡_, refl, sym, ap, _∙_}
 use lib.ListN.{length, getD}
-use Rattle.model.specs.Basics.{given, topN}
+use Rattle.model.specs.Basics.{topN}
 use Rattle.lemmas.proofs.Range.{given-le}
 use Rattle.sets.specs.Sets.{member}
 use Rattle.loads.specs.Tables.{Column}

@@ -1,10 +1,9 @@
 -- `loads::paths::closed` meets its contract: paths may pass the tasks above v. Assumes nothing.
 use borrow.Author.Needs.{needs}
 use native.Mathlib.Omega.{arith}
-use Prim.Native.Nat.{ℕ, suc, _+_, _≤_, _<_, _-_}
-use mathlib.Core.Path.{_≡_, refl, sym, ap, _∙_}
+use Prim.Native.Nat.{suc, _≤_, _-_}
+use mathlib.Core.Path.{_≡_}
 use lib.ListN.{length}
-use Rattle.loads.specs.Tables.{Absent}
 use Rattle.loads.proofs.PathLaws.{RowsAt, rows-start, rows-step, rows-end, all-grown}
 use Rattle.loads.proofs.paths.closed.Statement.{statement}
 use Rattle.loads.proofs.paths.closed.Tie as tie

@@ -1,8 +1,8 @@
 -- `loads::rows::heavy` meets its contract: no node passed so far is too heavy. Assumes nothing.
 use borrow.Author.Needs.{needs}
 use native.Mathlib.Omega.{arith}
-use Prim.Native.Nat.{ℕ, suc, _+_, _≤_, _<_, _-_}
-use mathlib.Core.Path.{_≡_, refl, sym, ap, _∙_}
+use Prim.Native.Nat.{ℕ, _≤_, _<_, _-_}
+use mathlib.Core.Path.{sym}
 use lib.ListN.{getD}
 use Rattle.loads.specs.Tables.{loadBy}
 use Rattle.loads.proofs.Fill.{under}

@@ -1,9 +1,8 @@
 -- `loads::rows::load_row` meets its contract: the row is filled from the highest task down. Assumes nothing.
 use borrow.Author.Needs.{needs}
 use native.Mathlib.Omega.{arith}
-use Prim.Native.Nat.{ℕ, suc, _+_, _≤_, _<_, _-_}
-use mathlib.Core.Path.{_≡_, refl, sym, ap, _∙_}
-use lib.ListN.{getD}
+use Prim.Native.Nat.{suc, _+_, _≤_, _-_}
+use mathlib.Core.Path.{_≡_, sym}
 use Rattle.loads.specs.Tables.{loadBy}
 use Rattle.loads.proofs.Working.{loadBy-none, loadBy-step, loadBy-most, RowFrom, row-none, row-put}
 use Rattle.loads.proofs.rows.load_row.Statement.{statement}

@@ -1,8 +1,8 @@
 -- `loads::rows::total` meets its contract: a running sum from the highest task down. Assumes nothing.
 use borrow.Author.Needs.{needs}
 use native.Mathlib.Omega.{arith}
-use Prim.Native.Nat.{ℕ, suc, _+_, _≤_, _<_, _-_}
-use mathlib.Core.Path.{_≡_, refl, sym, ap, _∙_}
+use Prim.Native.Nat.{suc, _≤_, _-_}
+use mathlib.Core.Path.{_≡_, sym}
 use Rattle.loads.specs.Tables.{loadBy}
 use Rattle.loads.proofs.Working.{loadBy-none, loadBy-step, loadBy-most}
 use Rattle.loads.proofs.rows.total.Statement.{statement}

@@ -8,7 +8,7 @@ use native.Mathlib.Omega.{arith}
 use Prim.Native.Nat.{_≤_, _-_, _*_, _+_}
 use mathlib.Core.Path.{_≡_, sym, _∙_}
 use Rattle.theory.proofs.Rank.{rankOf}
-use Rattle.loads.specs.Tables.{graph, NodeOf, TaskOf, Memo}
+use Rattle.loads.specs.Tables.{graph, Memo}
 use Rattle.loads.proofs.Working.{tasked, workTo, workTo-more, workTo-start, workTo-end, workTo-most, added-in, added-out, rank-down, memo-put}
 use Rattle.loads.proofs.work.added.Reads as added
 use Rattle.loads.proofs.work.added.Kinds as added-kinds

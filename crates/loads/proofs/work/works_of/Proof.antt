@@ -1,8 +1,8 @@
 -- `loads::work::works_of` meets its contract: the works from task j + 1 on are there. Assumes nothing.
 use borrow.Author.Needs.{needs}
 use native.Mathlib.Omega.{arith}
-use Prim.Native.Nat.{ℕ, suc, _+_, _≤_, _<_, _-_}
-use mathlib.Core.Path.{_≡_, refl, sym, ap, _∙_}
+use Prim.Native.Nat.{suc, _≤_, _-_}
+use mathlib.Core.Path.{_≡_}
 use Rattle.model.specs.Loads.{work}
 use Rattle.loads.specs.Tables.{graph, Memo}
 use Rattle.loads.proofs.Tabled.{graph-work}

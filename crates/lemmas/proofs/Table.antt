@@ -63,3 +63,12 @@ getD-same n i a = go (cmp i n)
     go (less r) = getD-replicate n i a a r
     go (same r) = past (omega arith)
     go (more r) = past (omega arith)
+
+-- what holds below i, and at i, holds below i + 1
+pub under : (P : ℕ → Type 0) (i : ℕ) → ((k : ℕ) → k < i → P k) → P i → (k : ℕ) → k < i + 1 → P k
+under P i all here k q = go (cmp k i)
+  where
+    go : Cmp k i → P k
+    go (less r) = all k r
+    go (same r) = rw r here
+    go (more r) = absurd (omega arith)

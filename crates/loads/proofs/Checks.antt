@@ -22,9 +22,11 @@ use Rattle.lemmas.proofs.Range.{Found, any-at, any-found}
 use Rattle.lemmas.proofs.Table.{is-tab}
 use Rattle.theory.proofs.Fielded.{Fielded}
 use Rattle.loads.specs.declared.Worked.{Worked}
-use Rattle.loads.specs.Tables.{SuccessorsOf, Closed, graph, selfIn, Ready, WorksOf, Scaled, loadBy, heavyBy, LoadsOf, SheetBy, RowsAre, WorkedOf, checkedLoads, refusedLoads}
-use Rattle.loads.proofs.Tabled.{sets-cyclic, sets-load}
-use Rattle.loads.proofs.Bringing.{self-cyclic, adds-ready, load-by}
+use Rattle.paths.specs.Rows.{SuccessorsOf, Closed, graph, selfIn}
+use Rattle.works.specs.Works.{Ready, WorksOf, Scaled, loadBy}
+use Rattle.loads.specs.Tables.{heavyBy, LoadsOf, SheetBy, RowsAre, WorkedOf, checkedLoads, refusedLoads}
+use Rattle.paths.proofs.Tabled.{sets-cyclic, sets-load}
+use Rattle.works.proofs.Bringing.{self-cyclic, adds-ready, load-by}
 
 -- how the last checks end
 module _ (d : Description) where

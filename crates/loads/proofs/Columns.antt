@@ -12,8 +12,9 @@ use Rattle.model.specs.Basics.{sumTo, topN, given}
 use Rattle.lemmas.proofs.Tests.{Cmp, less, same, more, cmp}
 use Rattle.lemmas.proofs.Range.{sumTo-le, given-le, any-at, any-none, top-more}
 use Rattle.sets.specs.Sets.{member}
-use Rattle.loads.specs.Tables.{Column, LevelColumn, loadBy, heavyBy}
-use Rattle.loads.proofs.Working.{loadBy-step, loadBy-none}
+use Rattle.works.specs.Works.{loadBy}
+use Rattle.loads.specs.Tables.{Column, LevelColumn, heavyBy}
+use Rattle.loads.proofs.Sums.{loadBy-step, loadBy-none}
 
 -- one more entry of a column is worked out
 pub column-none : (base : ℕ) (adds : List ℕ) (j w : ℕ) (l : List ℕ) → Column base adds j w 0 l l

@@ -1,8 +1,4 @@
--- Laws that the proofs of this crate's functions cite.
-pub mod Fill
-pub mod Tabled
-pub mod Working
+-- Laws that the proofs of this crate's functions, and those above it, cite.
+pub mod Sums
 pub mod Columns
-pub mod PathLaws
-pub mod Bringing
 pub mod Checks

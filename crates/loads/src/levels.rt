@@ -4,7 +4,8 @@ ghost use mathlib.Core.Path.{_≡_};
 ghost use Prim.Native.Nat.{ℕ, suc, _+_, _*_, _≤_, _<_, max};
 ghost use lib.ListN.{getD, length};
 ghost use Rattle.model.specs.Basics.{topN};
-ghost use Rattle.loads.specs.Tables.{Scaled, loadBy, Column, LevelColumn};
+ghost use Rattle.works.specs.Works.{Scaled, loadBy};
+ghost use Rattle.loads.specs.Tables.{Column, LevelColumn};
 
 // The loads of m sources at task j + 1: those at the task above, and its work w where a source brings it in.
 fn source_column(adds: &[u64; 48], m: usize, j: usize, w: u64, levels: &mut [u64; 528])

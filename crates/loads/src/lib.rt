@@ -6,9 +6,7 @@ use model::Refusal;
 use model::Row;
 
 pub mod levels;
-mod paths;
 mod rows;
-mod work;
 
 ghost use mathlib.Core.Path.{_≡_};
 ghost use Rattle.theory.proofs.Fielded.{Fielded};
@@ -49,7 +47,7 @@ pub fn work_out(d: Description) -> Worked
         return unworked(Refusal::Loop, 0);
     }
     let runs = d.runs;
-    let works = work::works_of(&adds, &runs, n);
+    let works = works::works_of(&adds, &runs, n);
     if rows::heavy(&adds, &works, n) {
         return unworked(Refusal::TooHeavy, 0);
     }

@@ -5,7 +5,8 @@ ghost use Prim.Native.Nat.{_-_, _≤_, _<_};
 ghost use lib.ListN.{getD};
 ghost use Rattle.model.specs.Basics.{given, sumTo};
 ghost use Rattle.sets.specs.Sets.{member};
-ghost use Rattle.loads.specs.Tables.{Scaled, loadBy, RowBy, SheetBy, heavyBy};
+ghost use Rattle.works.specs.Works.{Scaled, loadBy};
+ghost use Rattle.loads.specs.Tables.{RowBy, SheetBy, heavyBy};
 
 // What one task's work adds to a node's load.
 pub fn part(row: u64, j: usize, w: u64) -> u64

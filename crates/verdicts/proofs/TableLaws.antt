@@ -23,7 +23,8 @@ use Rattle.lemmas.proofs.Table.{stored, tab-cong}
 use Rattle.theory.proofs.WellFormed.{WellFormed, IsTask, IsSource}
 use Rattle.theory.proofs.Levels.{levelReach, level-verdict}
 use Rattle.sets.specs.Sets.{member}
-use Rattle.loads.specs.Tables.{loadBy, LoadsOf}
+use Rattle.works.specs.Works.{loadBy}
+use Rattle.loads.specs.Tables.{LoadsOf}
 use Rattle.loads.proofs.Columns.{top-cong}
 use Rattle.spacings.specs.Gaps.{Fit, GapsIn}
 use Rattle.rounds.specs.Level.{LevelOn, reachIn}

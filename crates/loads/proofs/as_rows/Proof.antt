@@ -7,7 +7,7 @@ use mathlib.Core.List.{[]}
 use lib.ListN.{length, getD, length-set}
 use borrow.Author.Count.{below-none}
 use Rattle.model.specs.Loads.{noRow}
-use Rattle.loads.proofs.Fill.{stored}
+use Rattle.lemmas.proofs.Table.{stored}
 use Rattle.loads.proofs.as_rows.Statement.{statement}
 use Rattle.loads.proofs.as_rows.Tie as tie
 

@@ -2,7 +2,7 @@
 use borrow.Author.Needs.{needs}
 use mathlib.Core.Path.{sym, _∙_}
 use Rattle.model.specs.declared.Refusal.the-variants.{NoTask, Loop, TooHeavy}
-use Rattle.loads.proofs.Tabled.{sets-absent}
+use Rattle.paths.proofs.Tabled.{sets-absent}
 use Rattle.loads.proofs.Checks.{ends-empty, ends-loop, ends-heavy, ends-done, worked-refused, self-is, sets-ready, loads-of, heavy-is}
 use Rattle.loads.proofs.work_out.Statement.{statement}
 use Rattle.loads.proofs.work_out.Tie as tie

@@ -4,7 +4,7 @@ use native.Mathlib.Omega.{arith}
 use Prim.Native.Nat.{suc, _+_, _*_, _≤_, _-_}
 use mathlib.Core.Path.{_≡_}
 use lib.ListN.{getD}
-use Rattle.loads.proofs.Working.{loadBy-most}
+use Rattle.loads.proofs.Sums.{loadBy-most}
 use Rattle.loads.proofs.Columns.{LevelsFrom, levels-none, levels-step}
 use Rattle.loads.proofs.levels.levels_of.Statement.{statement}
 use Rattle.loads.proofs.levels.levels_of.Tie as tie

@@ -4,8 +4,8 @@ use native.Mathlib.Omega.{arith}
 use Prim.Native.Nat.{ℕ, suc, _≤_, _<_, _-_}
 use mathlib.Core.Path.{_≡_, refl, sym, _∙_}
 use lib.ListN.{length, getD}
-use Rattle.loads.specs.Tables.{loadBy}
-use Rattle.loads.proofs.Working.{loadBy-none, loadBy-most}
+use Rattle.works.specs.Works.{loadBy}
+use Rattle.loads.proofs.Sums.{loadBy-none, loadBy-most}
 use Rattle.loads.proofs.Columns.{StartsFrom, starts-none, starts-step, zero-entry}
 use Rattle.loads.proofs.levels.starts_of.Statement.{statement}
 use Rattle.loads.proofs.levels.starts_of.Tie as tie

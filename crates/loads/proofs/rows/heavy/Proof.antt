@@ -4,8 +4,8 @@ use native.Mathlib.Omega.{arith}
 use Prim.Native.Nat.{ℕ, _≤_, _<_, _-_}
 use mathlib.Core.Path.{sym}
 use lib.ListN.{getD}
-use Rattle.loads.specs.Tables.{loadBy}
-use Rattle.loads.proofs.Fill.{under}
+use Rattle.works.specs.Works.{loadBy}
+use Rattle.lemmas.proofs.Table.{under}
 use Rattle.loads.proofs.Columns.{load-under, heavy-found, heavy-none}
 use Rattle.loads.proofs.rows.heavy.Statement.{statement}
 use Rattle.loads.proofs.rows.heavy.Tie as tie

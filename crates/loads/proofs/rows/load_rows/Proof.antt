@@ -6,7 +6,7 @@ use mathlib.Core.Path.{_≡_, refl}
 use mathlib.Core.List.{[]}
 use lib.ListN.{length, getD, length-set}
 use Rattle.loads.specs.Tables.{RowBy}
-use Rattle.loads.proofs.Fill.{stored}
+use Rattle.lemmas.proofs.Table.{stored}
 use Rattle.loads.proofs.rows.load_rows.Statement.{statement}
 use Rattle.loads.proofs.rows.load_rows.Tie as tie
 

@@ -6,7 +6,7 @@ use mathlib.Core.Path.{_≡_, refl, ap, _∙_}
 use lib.ListN.{getD}
 use Rattle.model.specs.Basics.{sumN}
 use Rattle.lemmas.proofs.Range.{sumN-more}
-use Rattle.loads.proofs.Working.{sum-most}
+use Rattle.loads.proofs.Sums.{sum-most}
 use Rattle.loads.proofs.rows.sum_of.Statement.{statement}
 use Rattle.loads.proofs.rows.sum_of.Tie as tie
 

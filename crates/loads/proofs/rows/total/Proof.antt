@@ -3,8 +3,8 @@ use borrow.Author.Needs.{needs}
 use native.Mathlib.Omega.{arith}
 use Prim.Native.Nat.{suc, _≤_, _-_}
 use mathlib.Core.Path.{_≡_, sym}
-use Rattle.loads.specs.Tables.{loadBy}
-use Rattle.loads.proofs.Working.{loadBy-none, loadBy-step, loadBy-most}
+use Rattle.works.specs.Works.{loadBy}
+use Rattle.loads.proofs.Sums.{loadBy-none, loadBy-step, loadBy-most}
 use Rattle.loads.proofs.rows.total.Statement.{statement}
 use Rattle.loads.proofs.rows.total.Tie as tie
 

@@ -1,0 +1,65 @@
+-- The links of a description as a set of tasks for each node, and the tasks that a node brings in.
+use Prim.Native.Nat.{ℕ, _+_, _-_, _≤_, _<_}
+use mathlib.Core.Path.{_≡_}
+use mathlib.Core.Bool.{Bool, true, false, cond, _&&_, _||_}
+use mathlib.Core.Logic.{_⊎_}
+use mathlib.Core.List.{List}
+use lib.ListN.{length, getD}
+use lib.Dec.{leb}
+use Rattle.model.specs.declared.Description.{Description}
+use Rattle.model.specs.Basics.{anyN}
+use Rattle.model.specs.Graph.{System, linked}
+use Rattle.theory.proofs.Links.{Linkable}
+use Rattle.sets.specs.Sets.{member}
+use Rattle.paths.specs.Paths.{Through}
+
+-- a node and a task, by number
+abbrev pub NodeOf : ℕ → Type 0
+NodeOf i = (1 ≤ i) × (i ≤ 48)
+
+abbrev pub TaskOf : ℕ → ℕ → Type 0
+TaskOf n j = (1 ≤ j) × (j ≤ n)
+
+-- the set of node i
+abbrev pub rowOf : List ℕ → ℕ → ℕ
+rowOf rows i = getD rows (i - 1) 0
+
+-- the links of a description as a set of tasks for each node
+abbrev pub SuccessorsOf : Description → List ℕ → Type 0
+SuccessorsOf d succ = (i j : ℕ) → Linkable i j → member (rowOf succ i) (j - 1) ≡ linked d i j
+
+-- the links that such sets stand for
+unfoldable pub linkBy : List ℕ → ℕ → ℕ → ℕ → Bool
+linkBy succ n i j = leb 1 i && (leb i 48 && (leb 1 j && (leb j n && member (rowOf succ i) (j - 1))))
+
+-- the system of n tasks that sets of tasks and a table of runs stand for; loads and cycles ask nothing of the sources
+unfoldable pub graph : List ℕ → List ℕ → ℕ → System
+graph succ runs n = record {
+  tasks = n;
+  sources = 0;
+  run = λ j. cond (leb j n) (getD runs (j - 1) 0) 0;
+  link = linkBy succ n;
+}
+
+-- a node's set once paths may pass task v + 1, which brings in the set low
+abbrev pub Grown : ℕ → ℕ → ℕ → ℕ → Type 0
+Grown row low v r = (k : ℕ) → member r k ≡ (member row k || (member row v && member low k))
+
+-- the same for the rows from start on and before end; the others stay
+pub record Allowed (low v start end : ℕ) (rows rows′ : List ℕ) : Type 0 where
+  pub long : length rows′ ≡ 48
+  pub inside : (i : ℕ) → start ≤ i → i < end → Grown (getD rows i 0) low v (getD rows′ i 0)
+  pub outside : (i : ℕ) → (i < start) ⊎ (end ≤ i) → getD rows′ i 0 ≡ getD rows i 0
+
+-- no link leaves a node that is neither one of n tasks nor one of m sources
+abbrev pub Absent : List ℕ → ℕ → ℕ → Type 0
+Absent succ n m = (i k : ℕ) → n < i → (i ≤ 32) ⊎ (32 + m < i) → linkBy succ n i k ≡ false
+
+-- for each node the tasks that a path reaches through higher ones
+pub record Closed (succ : List ℕ) (n : ℕ) (rows : List ℕ) : Type 0 where
+  pub only : (i j : ℕ) → NodeOf i → TaskOf n j → member (rowOf rows i) (j - 1) ≡ true → Through (linkBy succ n) j i j
+  pub all : (i j : ℕ) → NodeOf i → TaskOf n j → Through (linkBy succ n) j i j → member (rowOf rows i) (j - 1) ≡ true
+
+-- whether a task brings itself in
+unfoldable pub selfIn : List ℕ → ℕ → Bool
+selfIn rows n = anyN (λ i. member (getD rows i 0) i) 0 n

@@ -2,9 +2,10 @@
 use Prim.Native.Nat.{ℕ, zero, suc, _+_, _-_, _≤_, _<_}
 use mathlib.Core.Path.{_≡_, refl, sym, ap, _∙_}
 use mathlib.Core.List.{List, [], _∷_, _++_}
+use native.Mathlib.Nat.{not-suc-le-zero, le-of-suc-le-suc}
 use native.Mathlib.Omega.{arith}
 use native.Mathlib.Numerals.{add-one}
-use lib.ListN.{length, getD, set, length-append, List·getD-append}
+use lib.ListN.{length, getD, set, take, drop, length-append, List·getD-append}
 use lib.Seq.{ext-getD, getD-at, getD-set-same, getD-set-other}
 use Rattle.model.specs.Basics.{tab, joined}
 use Rattle.lemmas.proofs.Tests.{Cmp, less, same, more, cmp}
@@ -51,3 +52,14 @@ pub tab-cong : {A : Type 0} (n : ℕ) (f g : ℕ → A) → ((k : ℕ) → k < n
 unfolding tab
 tab-cong zero f g h = refl
 tab-cong (suc n) f g h = rw (tab-cong n f g (λ k p. h k (omega arith)), h n (omega arith))
+
+-- copying a text over the front of a list: one more entry
+pub store-more : (out text : List ℕ) (i : ℕ) → i < length out → i < length text → set (take i text ++ drop i out) i (getD text i 0) ≡ take (i + 1) text ++ drop (i + 1) out
+store-more out text i a b = rw add-one (go out text i a b)
+  where
+    go : (out text : List ℕ) (i : ℕ) → i < length out → i < length text → set (take i text ++ drop i out) i (getD text i 0) ≡ take (suc i) text ++ drop (suc i) out
+    go [] text i a b = absurd (not-suc-le-zero a)
+    go (y ∷ out) [] i a b = absurd (not-suc-le-zero b)
+    go (y ∷ out) (x ∷ text) zero a b = refl
+    go (y ∷ out) (x ∷ text) (suc i) a b =
+        ap (λ (l : List ℕ). x ∷ l) (go out text i (le-of-suc-le-suc a) (le-of-suc-le-suc b))

@@ -6,7 +6,7 @@ use model::Refusal;
 use model::Verdict;
 use refusals::number_of;
 use text::put_byte;
-use text::put_decimal;
+use text::put_numbered;
 use text::put_word;
 ghost use Prim.Native.Nat.{_+_, _<_, _≤_};
 ghost use lib.ListN.{length};
@@ -20,10 +20,8 @@ pub fn tempo_line(page: &mut [u8], at: usize, q: Quote) -> usize
 {
     match q {
         Quote::Tempo(t) => {
-            let word = put_word(&mut *page, at, b"tempo ");
-            let whole = put_decimal(&mut *page, word, (t / 10) as usize);
-            let point = put_byte(&mut *page, whole, b'.');
-            let tenth = put_byte(&mut *page, point, 48 + (t % 10) as u8);
+            let whole = put_numbered(&mut *page, at, b"tempo ", (t / 10) as usize);
+            let tenth = put_numbered(&mut *page, whole, b".", (t % 10) as usize);
             put_byte(&mut *page, tenth, b'\n')
         }
         Quote::Unquoted(_, _) => put_word(&mut *page, at, b"tempo none\n"),
@@ -40,15 +38,10 @@ fn put_verdict(page: &mut [u8], at: usize, v: Verdict) -> usize
         Verdict::HeldOrder => put_word(&mut *page, at, b" held order"),
         Verdict::DoubtOrder => put_word(&mut *page, at, b" doubt order"),
         Verdict::Held(delay, spacing) => {
-            let held = put_word(&mut *page, at, b" held ");
-            let number = put_decimal(&mut *page, held, delay as usize);
-            let of = put_word(&mut *page, number, b" of ");
-            put_decimal(&mut *page, of, spacing as usize)
+            let held = put_numbered(&mut *page, at, b" held ", delay as usize);
+            put_numbered(&mut *page, held, b" of ", spacing as usize)
         }
-        Verdict::Doubt(spacing) => {
-            let of = put_word(&mut *page, at, b" doubt of ");
-            put_decimal(&mut *page, of, spacing as usize)
-        }
+        Verdict::Doubt(spacing) => put_numbered(&mut *page, at, b" doubt of ", spacing as usize),
     }
 }
 
@@ -57,12 +50,9 @@ pub fn link_line(page: &mut [u8], at: usize, l: usize, e: Link, v: Verdict) -> u
     requires { ⌜ (l < 256) × (at + length (linkLine l e v) ≤ length (now page)) ⌝ }
     ensures { λ r. ⌜ Put (now (page .entry)) at (linkLine l e v) (now (page .exit)) r ⌝ }
 {
-    let word = put_word(&mut *page, at, b"link ");
-    let place = put_decimal(&mut *page, word, l + 1);
-    let space = put_byte(&mut *page, place, b' ');
-    let from = put_decimal(&mut *page, space, e.from as usize);
-    let arrow = put_byte(&mut *page, from, b'>');
-    let to = put_decimal(&mut *page, arrow, e.to as usize);
+    let place = put_numbered(&mut *page, at, b"link ", l + 1);
+    let from = put_numbered(&mut *page, place, b" ", e.from as usize);
+    let to = put_numbered(&mut *page, from, b">", e.to as usize);
     let verdict = put_verdict(&mut *page, to, v);
     put_byte(&mut *page, verdict, b'\n')
 }
@@ -73,9 +63,7 @@ pub fn refused_line(page: &mut [u8], at: usize, why: Refusal, place: usize) -> u
     ensures { λ r. ⌜ Put (now (page .entry)) at (refusedLine why place) (now (page .exit)) r ⌝ }
 {
     let number = number_of(why);
-    let word = put_word(&mut *page, at, b"refused ");
-    let given = put_decimal(&mut *page, word, number);
-    let behind = put_word(&mut *page, given, b" at ");
-    let end = put_decimal(&mut *page, behind, place);
+    let given = put_numbered(&mut *page, at, b"refused ", number);
+    let end = put_numbered(&mut *page, given, b" at ", place);
     put_byte(&mut *page, end, b'\n')
 }

@@ -13,7 +13,6 @@ use model::VerdictSlot;
 use text::copy_out;
 use verdicts::plan::orders_of;
 use verdicts::slots_at;
-
 ghost use mathlib.Core.Path.{_≡_};
 ghost use Prim.Native.Nat.{_+_, _≤_};
 ghost use lib.ListN.{length, take};

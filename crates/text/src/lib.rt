@@ -2,7 +2,7 @@
 
 use model::Filled;
 use model::Refusal;
-ghost use mathlib.Core.List.{_∷_, []};
+ghost use mathlib.Core.List.{_∷_, [], _++_};
 ghost use mathlib.Core.Path.{_≡_};
 ghost use Prim.Native.Nat.{_+_, _<_, _≤_};
 ghost use lib.ListN.{length, take};
@@ -43,6 +43,15 @@ pub fn put_word(page: &mut [u8], at: usize, word: &[u8]) -> usize
         i += 1;
     }
     at + word.len()
+}
+
+// A word and a number behind it.
+pub fn put_numbered(page: &mut [u8], at: usize, word: &[u8], n: usize) -> usize
+    requires { ⌜ at + length (now word ++ decimal n) ≤ length (now page) ⌝ }
+    ensures { λ r. ⌜ Put (now (page .entry)) at (now (word .entry) ++ decimal n) (now (page .exit)) r ⌝ }
+{
+    let behind = put_word(&mut *page, at, word);
+    put_decimal(&mut *page, behind, n)
 }
 
 // The first n bytes of a page into a lent buffer: all of them, or not one byte where the buffer is shorter.

@@ -1,103 +1,88 @@
 -- `lines::link_line` meets its contract. Assumes nothing.
-use Prim.Native.Nat.{_+_}
-use mathlib.Core.Path.{_∙_}
-use mathlib.Core.List.{[], _∷_, _++_}
-use native.Mathlib.Omega.{arith}
 use borrow.Author.Needs.{needs}
-use Rattle.model.specs.Report.{decimal, wLink, verdictText, linkLine}
-use Rattle.lines.proofs.LineLaws.{link-parts, link-length}
-use Rattle.text.proofs.Pages.{put-then, put-same}
+use Prim.Native.Nat.{_+_, _≤_}
+use mathlib.Core.List.{_++_}
+use lib.ListN.{length}
+use Rattle.model.specs.Report.{verdictText}
+use Rattle.text.proofs.Pages.{put-then, room-first, room-then, room-byte}
+use Rattle.lines.proofs.LineLaws.{feed, placeText, fromText, toText, link-parts}
 use Rattle.lines.proofs.link_line.Statement.{statement}
 use Rattle.lines.proofs.link_line.Tie as tie
 
-slice-aggregate-put-word : tie.Need-slice-aggregate-put-word
-slice-aggregate-put-word c = search needs
+-- the room that there is before each part
+whole : (c : tie.Start) → c .args .at + length (placeText (c .args .l) ++ (fromText (c .args .e) ++ (toText (c .args .e) ++ (verdictText (c .args .v) ++ feed)))) ≤ length (c .args .page .now)
+whole c = rw (link-parts (c .args .l) (c .args .e) (c .args .v)) at (c .pre .1)
 
-put-word-requires : tie.Need-put-word-requires
-put-word-requires c κs =
-    let S = c .before .before .before in
-    omega (arith, S .pre .1, link-length (S .args .l) (S .args .e) (S .args .v))
+after-1 : (c : tie.After-put-numbered) → c .put-numbered .result + length (fromText (c .before .before .before .before .args .e) ++ (toText (c .before .before .before .before .args .e) ++ (verdictText (c .before .before .before .before .args .v) ++ feed))) ≤ length (c .put-numbered .last .0)
+after-1 c = room-then (placeText (c .before .before .before .before .args .l)) (fromText (c .before .before .before .before .args .e) ++ (toText (c .before .before .before .before .args .e) ++ (verdictText (c .before .before .before .before .args .v) ++ feed))) (c .put-numbered .ensures) (whole (c .before .before .before .before))
 
-add-put-decimal : tie.Need-add-put-decimal
-add-put-decimal c = search needs
+after-2 : (c : tie.After-put-numbered2) → c .put-numbered2 .result + length (toText (c .before .before .before .before .before .before .before .before .before .before .args .e) ++ (verdictText (c .before .before .before .before .before .before .before .before .before .before .args .v) ++ feed)) ≤ length (c .put-numbered2 .last .0)
+after-2 c = room-then (fromText (c .before .before .before .before .before .before .before .before .before .before .args .e)) (toText (c .before .before .before .before .before .before .before .before .before .before .args .e) ++ (verdictText (c .before .before .before .before .before .before .before .before .before .before .args .v) ++ feed)) (c .put-numbered2 .ensures) (after-1 (c .before .before .before .before .before .before))
 
-put-decimal-requires : tie.Need-put-decimal-requires
-put-decimal-requires c κs =
-    let S = c .before .before .before .before .before .before .before in
-    omega (arith, S .pre .1, link-length (S .args .l) (S .args .e) (S .args .v), c .before .before .before .put-word .ensures .put-end, c .before .before .before .put-word .ensures .put-size)
+after-3 : (c : tie.After-put-numbered3) → c .put-numbered3 .result + length (verdictText (c .before .before .before .before .before .before .before .before .before .before .before .before .before .before .before .before .args .v) ++ feed) ≤ length (c .put-numbered3 .last .0)
+after-3 c = room-then (toText (c .before .before .before .before .before .before .before .before .before .before .before .before .before .before .before .before .args .e)) (verdictText (c .before .before .before .before .before .before .before .before .before .before .before .before .before .before .before .before .args .v) ++ feed) (c .put-numbered3 .ensures) (after-2 (c .before .before .before .before .before .before))
 
-put-byte-requires : tie.Need-put-byte-requires
-put-byte-requires c κs =
-    let S = c .before .before .before .before .before .before .before .before .before .before .before in
-    omega (arith, S .pre .1, link-length (S .args .l) (S .args .e) (S .args .v), c .before .before .before .put-decimal .ensures .put-end, c .before .before .before .put-decimal .ensures .put-size, c .before .before .before .before .before .before .before .put-word .ensures .put-end, c .before .before .before .before .before .before .before .put-word .ensures .put-size)
+after-4 : (c : tie.After-put-verdict) → c .put-verdict .result + length (feed) ≤ length (c .put-verdict .last .0)
+after-4 c = room-then (verdictText (c .before .before .before .before .before .before .before .before .before .before .before .before .before .before .before .before .before .before .before .before .args .v)) (feed) (c .put-verdict .ensures) (after-3 (c .before .before .before .before))
 
-cast-put-decimal : tie.Need-cast-put-decimal
-cast-put-decimal c = search needs
+slice-aggregate-put-numbered : tie.Need-slice-aggregate-put-numbered
+slice-aggregate-put-numbered c = search needs
 
-put-decimal-requires-2 : tie.Need-put-decimal-requires-2
-put-decimal-requires-2 c κs =
-    let S = c .before .before .before .before .before .before .before .before .before .before .before .before .before .before .before .before in
-    omega (arith, S .pre .1, link-length (S .args .l) (S .args .e) (S .args .v), c .before .before .before .before .put-byte .ensures .put-end, c .before .before .before .before .put-byte .ensures .put-size, c .before .before .before .before .before .before .before .before .put-decimal .ensures .put-end, c .before .before .before .before .before .before .before .before .put-decimal .ensures .put-size, c .before .before .before .before .before .before .before .before .before .before .before .before .put-word .ensures .put-end, c .before .before .before .before .before .before .before .before .before .before .before .before .put-word .ensures .put-size)
+add-put-numbered : tie.Need-add-put-numbered
+add-put-numbered c = search needs
 
-put-byte-requires-2 : tie.Need-put-byte-requires-2
-put-byte-requires-2 c κs =
-    let S = c .before .before .before .before .before .before .before .before .before .before .before .before .before .before .before .before .before .before .before .before in
-    omega (arith, S .pre .1, link-length (S .args .l) (S .args .e) (S .args .v), c .before .before .before .put-decimal2 .ensures .put-end, c .before .before .before .put-decimal2 .ensures .put-size, c .before .before .before .before .before .before .before .before .put-byte .ensures .put-end, c .before .before .before .before .before .before .before .before .put-byte .ensures .put-size, c .before .before .before .before .before .before .before .before .before .before .before .before .put-decimal .ensures .put-end, c .before .before .before .before .before .before .before .before .before .before .before .before .put-decimal .ensures .put-size, c .before .before .before .before .before .before .before .before .before .before .before .before .before .before .before .before .put-word .ensures .put-end, c .before .before .before .before .before .before .before .before .before .before .before .before .before .before .before .before .put-word .ensures .put-size)
+put-numbered-requires : tie.Need-put-numbered-requires
+put-numbered-requires c κs = room-first (c .before .before .before .args .page .now) (c .before .before .before .args .at) (placeText (c .before .before .before .args .l)) (fromText (c .before .before .before .args .e) ++ (toText (c .before .before .before .args .e) ++ (verdictText (c .before .before .before .args .v) ++ feed))) (whole (c .before .before .before))
 
-cast-put-decimal-2 : tie.Need-cast-put-decimal-2
-cast-put-decimal-2 c = search needs
+slice-aggregate-put-numbered-2 : tie.Need-slice-aggregate-put-numbered-2
+slice-aggregate-put-numbered-2 c = search needs
 
-put-decimal-requires-3 : tie.Need-put-decimal-requires-3
-put-decimal-requires-3 c κs =
-    let S = c .before .before .before .before .before .before .before .before .before .before .before .before .before .before .before .before .before .before .before .before .before .before .before .before .before in
-    omega (arith, S .pre .1, link-length (S .args .l) (S .args .e) (S .args .v), c .before .before .before .before .put-byte2 .ensures .put-end, c .before .before .before .before .put-byte2 .ensures .put-size, c .before .before .before .before .before .before .before .before .put-decimal2 .ensures .put-end, c .before .before .before .before .before .before .before .before .put-decimal2 .ensures .put-size, c .before .before .before .before .before .before .before .before .before .before .before .before .before .put-byte .ensures .put-end, c .before .before .before .before .before .before .before .before .before .before .before .before .before .put-byte .ensures .put-size, c .before .before .before .before .before .before .before .before .before .before .before .before .before .before .before .before .before .put-decimal .ensures .put-end, c .before .before .before .before .before .before .before .before .before .before .before .before .before .before .before .before .before .put-decimal .ensures .put-size, c .before .before .before .before .before .before .before .before .before .before .before .before .before .before .before .before .before .before .before .before .before .put-word .ensures .put-end, c .before .before .before .before .before .before .before .before .before .before .before .before .before .before .before .before .before .before .before .before .before .put-word .ensures .put-size)
+cast-put-numbered : tie.Need-cast-put-numbered
+cast-put-numbered c = search needs
+
+put-numbered-requires-2 : tie.Need-put-numbered-requires-2
+put-numbered-requires-2 c κs = room-first (c .before .before .before .before .before .put-numbered .last .0) (c .before .before .before .before .before .put-numbered .result) (fromText (c .before .before .before .before .before .before .before .before .before .args .e)) (toText (c .before .before .before .before .before .before .before .before .before .args .e) ++ (verdictText (c .before .before .before .before .before .before .before .before .before .args .v) ++ feed)) (after-1 (c .before .before .before .before .before))
+
+slice-aggregate-put-numbered-3 : tie.Need-slice-aggregate-put-numbered-3
+slice-aggregate-put-numbered-3 c = search needs
+
+cast-put-numbered-2 : tie.Need-cast-put-numbered-2
+cast-put-numbered-2 c = search needs
+
+put-numbered-requires-3 : tie.Need-put-numbered-requires-3
+put-numbered-requires-3 c κs = room-first (c .before .before .before .before .before .put-numbered2 .last .0) (c .before .before .before .before .before .put-numbered2 .result) (toText (c .before .before .before .before .before .before .before .before .before .before .before .before .before .before .before .args .e)) (verdictText (c .before .before .before .before .before .before .before .before .before .before .before .before .before .before .before .args .v) ++ feed) (after-2 (c .before .before .before .before .before))
 
 put-verdict-requires : tie.Need-put-verdict-requires
-put-verdict-requires c κs =
-    let S = c .before .before .before .before .before .before .before .before .before .before .before .before .before .before .before .before .before .before .before .before .before .before .before .before .before .before .before .before .before in
-    omega (arith, S .pre .1, link-length (S .args .l) (S .args .e) (S .args .v), c .before .before .before .put-decimal3 .ensures .put-end, c .before .before .before .put-decimal3 .ensures .put-size, c .before .before .before .before .before .before .before .before .put-byte2 .ensures .put-end, c .before .before .before .before .before .before .before .before .put-byte2 .ensures .put-size, c .before .before .before .before .before .before .before .before .before .before .before .before .put-decimal2 .ensures .put-end, c .before .before .before .before .before .before .before .before .before .before .before .before .put-decimal2 .ensures .put-size, c .before .before .before .before .before .before .before .before .before .before .before .before .before .before .before .before .before .put-byte .ensures .put-end, c .before .before .before .before .before .before .before .before .before .before .before .before .before .before .before .before .before .put-byte .ensures .put-size, c .before .before .before .before .before .before .before .before .before .before .before .before .before .before .before .before .before .before .before .before .before .put-decimal .ensures .put-end, c .before .before .before .before .before .before .before .before .before .before .before .before .before .before .before .before .before .before .before .before .before .put-decimal .ensures .put-size, c .before .before .before .before .before .before .before .before .before .before .before .before .before .before .before .before .before .before .before .before .before .before .before .before .before .put-word .ensures .put-end, c .before .before .before .before .before .before .before .before .before .before .before .before .before .before .before .before .before .before .before .before .before .before .before .before .before .put-word .ensures .put-size)
+put-verdict-requires c κs = room-first (c .before .before .before .put-numbered3 .last .0) (c .before .before .before .put-numbered3 .result) (verdictText (c .before .before .before .before .before .before .before .before .before .before .before .before .before .before .before .before .before .before .before .args .v)) feed (after-3 (c .before .before .before))
 
-put-byte-requires-3 : tie.Need-put-byte-requires-3
-put-byte-requires-3 c κs =
-    let S = c .before .before .before .before .before .before .before .before .before .before .before .before .before .before .before .before .before .before .before .before .before .before .before .before .before .before .before .before .before .before .before .before .before in
-    omega (arith, S .pre .1, link-length (S .args .l) (S .args .e) (S .args .v), c .before .before .before .put-verdict .ensures .put-end, c .before .before .before .put-verdict .ensures .put-size, c .before .before .before .before .before .before .before .put-decimal3 .ensures .put-end, c .before .before .before .before .before .before .before .put-decimal3 .ensures .put-size, c .before .before .before .before .before .before .before .before .before .before .before .before .put-byte2 .ensures .put-end, c .before .before .before .before .before .before .before .before .before .before .before .before .put-byte2 .ensures .put-size, c .before .before .before .before .before .before .before .before .before .before .before .before .before .before .before .before .put-decimal2 .ensures .put-end, c .before .before .before .before .before .before .before .before .before .before .before .before .before .before .before .before .put-decimal2 .ensures .put-size, c .before .before .before .before .before .before .before .before .before .before .before .before .before .before .before .before .before .before .before .before .before .put-byte .ensures .put-end, c .before .before .before .before .before .before .before .before .before .before .before .before .before .before .before .before .before .before .before .before .before .put-byte .ensures .put-size, c .before .before .before .before .before .before .before .before .before .before .before .before .before .before .before .before .before .before .before .before .before .before .before .before .before .put-decimal .ensures .put-end, c .before .before .before .before .before .before .before .before .before .before .before .before .before .before .before .before .before .before .before .before .before .before .before .before .before .put-decimal .ensures .put-size, c .before .before .before .before .before .before .before .before .before .before .before .before .before .before .before .before .before .before .before .before .before .before .before .before .before .before .before .before .before .put-word .ensures .put-end, c .before .before .before .before .before .before .before .before .before .before .before .before .before .before .before .before .before .before .before .before .before .before .before .before .before .before .before .before .before .put-word .ensures .put-size)
-
-same-length : tie.Need-same-length
-same-length c =
-    c .before .before .put-byte3 .ensures .put-size ∙ c .before .before .before .before .before .before .put-verdict .ensures .put-size ∙ c .before .before .before .before .before .before .before .before .before .before .put-decimal3 .ensures .put-size ∙ c .before .before .before .before .before .before .before .before .before .before .before .before .before .before .before .put-byte2 .ensures .put-size ∙ c .before .before .before .before .before .before .before .before .before .before .before .before .before .before .before .before .before .before .before .put-decimal2 .ensures .put-size ∙ c .before .before .before .before .before .before .before .before .before .before .before .before .before .before .before .before .before .before .before .before .before .before .before .before .put-byte .ensures .put-size ∙ c .before .before .before .before .before .before .before .before .before .before .before .before .before .before .before .before .before .before .before .before .before .before .before .before .before .before .before .before .put-decimal .ensures .put-size ∙ c .before .before .before .before .before .before .before .before .before .before .before .before .before .before .before .before .before .before .before .before .before .before .before .before .before .before .before .before .before .before .before .before .put-word .ensures .put-size
+put-byte-requires : tie.Need-put-byte-requires
+put-byte-requires c κs = room-byte (c .before .before .before .put-verdict .last .0) (c .before .before .before .put-verdict .result) 10 (after-4 (c .before .before .before))
 
 returns : tie.Need-returns
 returns c =
-    let S = c .before .before .before .before .before .before .before .before .before .before .before .before .before .before .before .before .before .before .before .before .before .before .before .before .before .before .before .before .before .before .before .before .before .before .before .before in
-    let place = decimal (S .args .l + 1) in
-    let from = decimal (S .args .e .from) in
-    let to = decimal (S .args .e .to) in
-    let verdict = verdictText (S .args .v) in
-    put-same (wLink ++ (place ++ (32 ∷ (from ++ (62 ∷ (to ++ (verdict ++ (10 ∷ [])))))))) (linkLine (S .args .l) (S .args .e) (S .args .v)) (link-parts (S .args .l) (S .args .e) (S .args .v))
-    (put-then wLink (place ++ (32 ∷ (from ++ (62 ∷ (to ++ (verdict ++ (10 ∷ []))))))) (c .before .before .before .before .before .before .before .before .before .before .before .before .before .before .before .before .before .before .before .before .before .before .before .before .before .before .before .before .before .before .before .before .put-word .ensures)
-    (put-then place (32 ∷ (from ++ (62 ∷ (to ++ (verdict ++ (10 ∷ [])))))) (c .before .before .before .before .before .before .before .before .before .before .before .before .before .before .before .before .before .before .before .before .before .before .before .before .before .before .before .before .put-decimal .ensures)
-    (put-then (32 ∷ []) (from ++ (62 ∷ (to ++ (verdict ++ (10 ∷ []))))) (c .before .before .before .before .before .before .before .before .before .before .before .before .before .before .before .before .before .before .before .before .before .before .before .before .put-byte .ensures)
-    (put-then from (62 ∷ (to ++ (verdict ++ (10 ∷ [])))) (c .before .before .before .before .before .before .before .before .before .before .before .before .before .before .before .before .before .before .before .put-decimal2 .ensures)
-    (put-then (62 ∷ []) (to ++ (verdict ++ (10 ∷ []))) (c .before .before .before .before .before .before .before .before .before .before .before .before .before .before .before .put-byte2 .ensures)
-    (put-then to (verdict ++ (10 ∷ [])) (c .before .before .before .before .before .before .before .before .before .before .put-decimal3 .ensures)
-    (put-then verdict (10 ∷ []) (c .before .before .before .before .before .before .put-verdict .ensures)
-    (c .before .before .put-byte3 .ensures))))))))
+    rw (link-parts (c .before .before .before .before .before .before .before .before .before .before .before .before .before .before .before .before .before .before .before .before .before .before .before .before .before .before .args .l) (c .before .before .before .before .before .before .before .before .before .before .before .before .before .before .before .before .before .before .before .before .before .before .before .before .before .before .args .e) (c .before .before .before .before .before .before .before .before .before .before .before .before .before .before .before .before .before .before .before .before .before .before .before .before .before .before .args .v))
+    (put-then (placeText (c .before .before .before .before .before .before .before .before .before .before .before .before .before .before .before .before .before .before .before .before .before .before .before .before .before .before .args .l)) (fromText (c .before .before .before .before .before .before .before .before .before .before .before .before .before .before .before .before .before .before .before .before .before .before .before .before .before .before .args .e) ++ (toText (c .before .before .before .before .before .before .before .before .before .before .before .before .before .before .before .before .before .before .before .before .before .before .before .before .before .before .args .e) ++ (verdictText (c .before .before .before .before .before .before .before .before .before .before .before .before .before .before .before .before .before .before .before .before .before .before .before .before .before .before .args .v) ++ feed))) (c .before .before .before .before .before .before .before .before .before .before .before .before .before .before .before .before .before .before .before .before .before .before .put-numbered .ensures)
+    (put-then (fromText (c .before .before .before .before .before .before .before .before .before .before .before .before .before .before .before .before .before .before .before .before .before .before .before .before .before .before .args .e)) (toText (c .before .before .before .before .before .before .before .before .before .before .before .before .before .before .before .before .before .before .before .before .before .before .before .before .before .before .args .e) ++ (verdictText (c .before .before .before .before .before .before .before .before .before .before .before .before .before .before .before .before .before .before .before .before .before .before .before .before .before .before .args .v) ++ feed)) (c .before .before .before .before .before .before .before .before .before .before .before .before .before .before .before .before .put-numbered2 .ensures)
+    (put-then (toText (c .before .before .before .before .before .before .before .before .before .before .before .before .before .before .before .before .before .before .before .before .before .before .before .before .before .before .args .e)) (verdictText (c .before .before .before .before .before .before .before .before .before .before .before .before .before .before .before .before .before .before .before .before .before .before .before .before .before .before .args .v) ++ feed) (c .before .before .before .before .before .before .before .before .before .before .put-numbered3 .ensures)
+    (put-then (verdictText (c .before .before .before .before .before .before .before .before .before .before .before .before .before .before .before .before .before .before .before .before .before .before .before .before .before .before .args .v)) feed (c .before .before .before .before .before .before .put-verdict .ensures) (c .before .before .put-byte .ensures)))))
+
+same-length : tie.Need-same-length
+same-length c = returns c .put-size
 
 pub link-line-spec : {M : Type 1} → statement M
 link-line-spec =
     tie.close
     (tie.spec
-    slice-aggregate-put-word
-    put-word-requires
-    add-put-decimal
-    put-decimal-requires
-    put-byte-requires
-    cast-put-decimal
-    put-decimal-requires-2
-    put-byte-requires-2
-    cast-put-decimal-2
-    put-decimal-requires-3
+    slice-aggregate-put-numbered
+    add-put-numbered
+    put-numbered-requires
+    slice-aggregate-put-numbered-2
+    cast-put-numbered
+    put-numbered-requires-2
+    slice-aggregate-put-numbered-3
+    cast-put-numbered-2
+    put-numbered-requires-3
     put-verdict-requires
-    put-byte-requires-3
+    put-byte-requires
     same-length
     returns)

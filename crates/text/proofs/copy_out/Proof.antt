@@ -23,7 +23,7 @@ returns : tie.Need-returns Inv-loop μ-loop
 unfolding fillWith filledBy
 returns c =
     let S = c .before in
-    rw (length-take-le (S .args .n) (S .args .page .now) (S .pre), lt-ltb _ _ (c .if1 .taken)) (refl, refl)
+    rw (length-take-le (S .args .n) (S .args .page .now) (S .pre), lt-ltb (length (S .args .out .now)) (S .args .n) (omega arith)) (refl, refl)
 
 loop-holds : tie.Need-loop-holds Inv-loop μ-loop
 loop-holds c = (omega arith, refl, refl)
@@ -60,7 +60,7 @@ returns-2 c =
     let S = c .before .before .before in
     let L = c .before .loop in
     let e : L .i ≡ S .args .n = omega arith in
-    rw (length-take-le (S .args .n) (S .args .page .now) (S .pre), le-ltb _ _ (c .before .before .if1 .left))
+    rw (length-take-le (S .args .n) (S .args .page .now) (S .pre), le-ltb (length (S .args .out .now)) (S .args .n) (omega arith))
     (refl, L .inv .2 ∙ ap (λ k. take k (S .args .page .now) ++ drop k (S .args .out .now)) e)
 
 pub copy-out-spec : {M : Type 1} → statement M

@@ -1,4 +1,2 @@
 -- Laws that the proofs of this crate's functions share.
 pub mod Laws
-pub mod RecordSteps
-pub mod Pages

@@ -3,7 +3,7 @@
 use model::Filled;
 use model::Outcome;
 use model::Verdict;
-use report::lines::number_of;
+use refusals::number_of;
 ghost use Prim.Native.Nat.{_≤_};
 
 // How many figures were run, and how many agree.

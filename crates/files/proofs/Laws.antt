@@ -4,30 +4,35 @@ use mathlib.Core.Path.{_≡_, refl, sym, ap, _∙_}
 use mathlib.Core.Bool.{Bool, true, false, cond}
 use mathlib.Core.List.{List}
 use native.Mathlib.Nat.{sub-zero}
-use lib.ListN.{length, replicate}
+use lib.ListN.{length}
 use Rattle.model.specs.declared.Description.{Description}
-use Rattle.model.specs.declared.LoadSheet.{LoadSheet}
-use Rattle.model.specs.declared.Outcome.{Outcome}
 use Rattle.model.specs.declared.Outcome.the-variants.{Done, Refused}
 use Rattle.model.specs.declared.Reading.{Reading}
 use Rattle.model.specs.declared.Refusal.{Refusal}
-use Rattle.model.specs.Refusals.{onDone}
-use Rattle.model.specs.Graph.{system}
-use Rattle.model.specs.Loads.{sheet, noRow}
-use Rattle.model.specs.File.{Widths, fileOf, parseFile, lastChecks, readFile, finished, refusedReading, judge, overfull, loadSheet}
-use Rattle.lemmas.proofs.Tests.{not-both}
-use Rattle.theory.proofs.Fielded.{Fielded}
-use Rattle.theory.proofs.FileLaws.{judge-steps, record-fielded}
-use Rattle.fields.specs.Steps.{recordChecks, parseAt}
-use Rattle.loads.specs.Tables.{checkedLoads}
-use Rattle.files.specs.Answers.{refusedSheet, readFrom}
+use Rattle.model.specs.declared.Refusal.the-variants.{TooMany}
+use Rattle.model.specs.Refusals.{blank, onDone}
+use Rattle.model.specs.File.{Widths, fileOf, parseFile, lastChecks, readFile, finished, refusedReading, Accepted, judge, overfull, loadSheet}
+use Rattle.theory.proofs.NumberBytes.{Bytes}
+use Rattle.theory.proofs.Fielded.{Fielded, well-formed}
+use Rattle.theory.proofs.FileLaws.{judge-steps, judge-well-formed, record-fielded}
+use Rattle.theory.proofs.JudgeLaws.{LastPasses, last-passes}
+use Rattle.theory.proofs.ReadBack.{read-judged, read-whence}
+use Rattle.theory.proofs.WellFormed.{WellFormed}
+use Rattle.refusals.specs.Beside.{refusedSheet}
+use Rattle.refusals.proofs.Laws.{refused-not}
+use Rattle.reading.specs.Steps.{recordChecks, parseAt}
+use Rattle.loads.specs.declared.Worked.{Worked}
+use Rattle.loads.specs.Tables.{WorkedOf, checkedLoads}
+use Rattle.files.specs.declared.Judged.{Judged}
+use Rattle.files.specs.Answers.{readFrom, ReadAs}
+use Rattle.files.proofs.Places.{parsed-fielded-at}
 
 judge-is : (d : Description) → Widths d → judge d ≡ onDone (recordChecks d) (lastChecks d) Refused
 unfolding recordChecks
 judge-is d w = judge-steps d w
 
 -- the fields of a record are refused
-pub sheet-refused : (d : Description) (r : Refusal) (p : ℕ) → Widths d → recordChecks d ≡ Refused r p → refusedSheet (Refused r p) ≡ loadSheet d
+pub sheet-refused : (d : Description) (r : Refusal) (p : ℕ) → Widths d → recordChecks d ≡ Refused r p → refusedSheet r p ≡ loadSheet d
 unfolding loadSheet
 sheet-refused d r p w e = rw (judge-is d w, e)
 
@@ -40,18 +45,9 @@ pub record-good : (d : Description) → Widths d → recordChecks d ≡ Done →
 unfolding recordChecks
 record-good d w e = go (overfull d) refl e
   where
-    go : (b : Bool) → overfull d ≡ b → cond b (Refused Refusal.TooMany 0) (parseFile (fileOf d) .outcome) ≡ Done → Fielded d
-    go true q f = absurd (let z : _≡_ {A = ℕ} 0 1 = cc in native.Mathlib.Nat.not-suc-le-zero (native.Mathlib.Nat.le-of-eq (sym z)))
+    go : (b : Bool) → overfull d ≡ b → cond b (Refused TooMany 0) (parseFile (fileOf d) .outcome) ≡ Done → Fielded d
+    go true q f = refused-not f
     go false q f = record-fielded d w q f
-
--- the outcome of a sheet is the judgement
-pub sheet-outcome : (d : Description) → loadSheet d .outcome ≡ judge d
-unfolding loadSheet
-sheet-outcome d = go (judge d)
-  where
-    go : (o : Outcome) → (onDone o (let x : LoadSheet = record { outcome = Done; rows = sheet (system d) } in x) (λ r place. record { outcome = Refused r place; rows = replicate 48 noRow })) .outcome ≡ o
-    go Done = refl
-    go (Refused r place) = refl
 
 -- a record whose fields are refused is judged so, and one whose fields are accepted is judged by the last checks
 pub judge-refused : (d : Description) (r : Refusal) (p : ℕ) → Widths d → recordChecks d ≡ Refused r p → judge d ≡ Refused r p
@@ -85,16 +81,45 @@ pub read-start : (s : List ℕ) → readFrom s 0 ≡ readFile s
 unfolding readFrom readFile parseFile
 read-start s = rw (sub-zero (length s))
 
-pub parse-start : (s : List ℕ) → parseAt s 0 ≡ parseFile s
-unfolding parseFile
-parse-start s = rw (sub-zero (length s))
+-- a refusal handed on, with nothing beside it
+pub refused-as : (s : List ℕ) (at : ℕ) (r : Refusal) (p : ℕ) (j : Judged) → refusedReading r p ≡ readFrom s at → j .outcome ≡ Refused r p → j .description ≡ blank → ReadAs (readFrom s at) j
+refused-as s at r p j e f g =
+    let o : Refused r p ≡ readFrom s at .outcome = ap (λ (x : Reading). x .outcome) e in
+    record {
+      judged = f ∙ o;
+      same = g ∙ ap (λ (x : Reading). x .description) e;
+      good = λ h. refused-not (o ∙ h);
+      worked = λ h. refused-not (o ∙ h);
+    }
 
--- the same three ways of a whole file
-pub file-refused : (s : List ℕ) (r : Refusal) (p : ℕ) → parseFile s .outcome ≡ Refused r p → refusedReading r p ≡ readFile s
-file-refused s r p e = read-refused s 0 r p (rw (parse-start s) e) ∙ read-start s
+-- a file whose fields are accepted
+pub fields-good : (s : List ℕ) (at : ℕ) → Bytes s → (x : Reading) → x ≡ parseAt s at → x .outcome ≡ Done → Fielded (x .description)
+fields-good s at bytes x parsed fine =
+    rw parsed (parsed-fielded-at s at bytes (sym (ap (λ (y : Reading). y .outcome) parsed) ∙ fine))
 
-pub file-unchecked : (s : List ℕ) (r : Refusal) (p : ℕ) → parseFile s .outcome ≡ Done → lastChecks (parseFile s .description) ≡ Refused r p → refusedReading r p ≡ readFile s
-file-unchecked s r p e q = read-unchecked s 0 r p (rw (parse-start s) e) (rw (parse-start s) q) ∙ read-start s
+-- and then its description by the last checks
+module _ (s : List ℕ) (at : ℕ) (x : Reading) (parsed : x ≡ parseAt s at) (w : Worked) (checked : WorkedOf (x .description) w) (fine : x .outcome ≡ Done) where
+  last-is : lastChecks (parseAt s at .description) ≡ w .outcome
+  last-is = sym (checked .judged ∙ ap (λ (y : Reading). lastChecks (y .description)) parsed)
 
-pub file-checked : (s : List ℕ) → parseFile s .outcome ≡ Done → lastChecks (parseFile s .description) ≡ Done → parseFile s ≡ readFile s
-file-checked s e q = sym (parse-start s) ∙ read-checked s 0 (rw (parse-start s) e) (rw (parse-start s) q) ∙ read-start s
+  parsed-fine : parseAt s at .outcome ≡ Done
+  parsed-fine = sym (ap (λ (y : Reading). y .outcome) parsed) ∙ fine
+
+  pub unchecked-as : (r : Refusal) (p : ℕ) (j : Judged) → w .outcome ≡ Refused r p → j .outcome ≡ Refused r p → j .description ≡ blank → ReadAs (readFrom s at) j
+  unchecked-as r p j e f g = refused-as s at r p j (read-unchecked s at r p parsed-fine (last-is ∙ e)) f g
+
+  pub checked-as : Bytes s → w .outcome ≡ Done → ReadAs (readFrom s at) (record { outcome = Done; description = x .description; adds = w .adds; works = w .works })
+  checked-as b e =
+      let whole : x ≡ readFrom s at = parsed ∙ read-checked s at parsed-fine (last-is ∙ e) in
+      let passes : lastChecks (x .description) ≡ Done = sym (checked .judged) ∙ e in
+      let p : LastPasses (x .description) = last-passes (x .description) passes in
+      record {
+        judged = sym fine ∙ ap (λ (y : Reading). y .outcome) whole;
+        same = ap (λ (y : Reading). y .description) whole;
+        good = λ _. well-formed (fields-good s at b x parsed fine) (p .some) (p .no-loop) (p .light);
+        worked = λ _. checked .worked passes;
+      }
+
+-- a description that is read is well formed
+pub read-good : (s : List ℕ) → Bytes s → Accepted s → WellFormed (readFile s .description)
+read-good s b a = judge-well-formed (readFile s .description) (read-whence s b a .widths) (read-judged s b a)

@@ -1,2 +1,4 @@
+-- Laws that the proofs of this crate's functions share.
 pub mod Laws
 pub mod Places
+pub mod Stages

@@ -18,7 +18,7 @@ use Rattle.model.specs.declared.Taken.the-variants.{Whole, Broken, End}
 use Rattle.model.specs.declared.Progress.{Progress}
 use Rattle.model.specs.declared.Check.{Check}
 use Rattle.model.specs.declared.Check.the-variants.{Fine, Unfit}
-use Rattle.model.specs.declared.Outcome.the-variants.{Done, Refused}
+use Rattle.model.specs.declared.Outcome.the-variants.{Done}
 use Rattle.model.specs.declared.Reading.{Reading}
 use Rattle.model.specs.Refusals.{blank}
 use Rattle.model.specs.Field.{bodyLength, numberIn, fieldIn, takeField, checkField, passed, withField, noProgress}
@@ -28,7 +28,8 @@ use Rattle.theory.proofs.NumberBytes.{Bytes}
 use Rattle.theory.proofs.Fielded.{Fielded}
 use Rattle.theory.proofs.RecordLaws.{parse-fine, parse-unfit, parse-broken, parse-end}
 use Rattle.theory.proofs.ReadBack.{parsed-fielded}
-use Rattle.fields.specs.Steps.{parseAt}
+use Rattle.refusals.proofs.Laws.{refused-not}
+use Rattle.reading.specs.Steps.{parseAt}
 
 number-left : (s : List ℕ) (a b n : ℕ) → numberIn s (a + b) n ≡ numberIn (drop a s) b n
 unfolding numberIn
@@ -101,9 +102,6 @@ take-left s a k =
 -- one reading holds what another does, and is done only if that one is
 abbrev Same : Reading → Reading → Type 0
 Same r q = (r .description ≡ q .description) × (r .outcome ≡ Done → q .outcome ≡ Done)
-
-refused-not : {A : Type 0} {r : Refusal} {place : ℕ} → Refused r place ≡ Done → A
-refused-not q = let z : _≡_ {A = ℕ} 0 1 = cc in absurd (omega arith)
 
 refused-same : (r q : Refusal) (m n : ℕ) → Same (refusedReading r m) (refusedReading q n)
 refused-same r q m n = (refl, λ e. refused-not e)

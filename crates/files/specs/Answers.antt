@@ -1,28 +1,33 @@
--- What stands beside a refusal, and what a reading from a place answers.
+-- What a reading from a place answers, and what judging answers.
 use Prim.Native.Nat.{ℕ}
 use mathlib.Core.List.{List}
 use mathlib.Core.Path.{_≡_}
-use lib.ListN.{replicate}
 use Rattle.model.specs.declared.Description.{Description}
 use Rattle.model.specs.declared.Outcome.{Outcome}
 use Rattle.model.specs.declared.Outcome.the-variants.{Done}
-use Rattle.model.specs.declared.LoadSheet.{LoadSheet}
 use Rattle.model.specs.declared.Reading.{Reading}
 use Rattle.model.specs.Refusals.{onDone}
 use Rattle.model.specs.File.{finished, refusedReading, judge}
-use Rattle.model.specs.Loads.{noRow}
-use Rattle.fields.specs.Steps.{parseAt}
+use Rattle.theory.proofs.WellFormed.{WellFormed}
+use Rattle.reading.specs.Steps.{parseAt}
 use Rattle.loads.specs.declared.Worked.{Worked}
 use Rattle.loads.specs.Tables.{LoadsOf}
-
-abbrev pub refusedSheet : Outcome → LoadSheet
-refusedSheet o = record { outcome = o; rows = replicate 48 noRow }
+use Rattle.files.specs.declared.Judged.{Judged}
 
 -- the reading of the file that begins at a place of the bytes; the place of a refused field is counted from the start of the bytes
 unfoldable pub readFrom : List ℕ → ℕ → Reading
 readFrom s at = let r = parseAt s at in onDone (r .outcome) (finished (r .description)) refusedReading
 
--- a record's judgement, with sets and works that give its loads if it passes
-pub record JudgedOf (d : Description) (r : Worked) : Type 0 where
-  pub judged : r .outcome ≡ judge d
-  pub worked : judge d ≡ Done → LoadsOf d (r .adds) (r .works)
+-- an answer to how a description is judged: its outcome, the description, and sets and works that give its loads if it passes
+pub record JudgedAs (end : Outcome) (d : Description) (outcome : Outcome) (d′ : Description) (adds works : List ℕ) : Type 0 where
+  pub judged : outcome ≡ end
+  pub same : d′ ≡ d
+  pub good : end ≡ Done → WellFormed d′
+  pub worked : end ≡ Done → LoadsOf d′ adds works
+
+-- of a record, and of a file
+abbrev pub JudgedOf : Description → Worked → Type 0
+JudgedOf d r = JudgedAs (judge d) d (r .outcome) d (r .adds) (r .works)
+
+abbrev pub ReadAs : Reading → Judged → Type 0
+ReadAs r j = JudgedAs (r .outcome) (r .description) (j .outcome) (j .description) (j .adds) (j .works)

@@ -1,1 +1,2 @@
+-- What the functions of this crate are stated by, beside the definitions of `model`.
 pub mod Answers

@@ -1,4 +1,4 @@
-// Descriptions: reading a file, judging a record, and its load sheet, with all of the refusals 1 to 10.
+// Descriptions: a file or a record judged by all of the refusals 1 to 10, with its load sheet, and a record written.
 
 use loads::Worked;
 use model::Description;
@@ -7,32 +7,32 @@ use model::LoadSheet;
 use model::Outcome;
 use model::Reading;
 use model::Refusal;
-use model::Row;
+use refusals::blank;
+use refusals::refused_sheet;
 ghost use mathlib.Core.Path.{_≡_};
-ghost use Rattle.model.specs.File.{readFile, judge, loadSheet, refusedReading, written, pageAfter};
-ghost use Rattle.model.specs.Loads.{noRow};
-ghost use Rattle.files.specs.Answers.{refusedSheet, readFrom, JudgedOf};
+ghost use Rattle.model.specs.declared.Outcome.the-variants.{Refused};
+ghost use Rattle.model.specs.Refusals.{blank};
+ghost use Rattle.model.specs.File.{readFile, judge, loadSheet, written, pageAfter};
+ghost use Rattle.files.specs.Answers.{readFrom, JudgedOf, ReadAs};
 
 pub mod reader;
 
-// Beside a refusal every load is 0.
-fn refused_sheet(outcome: Outcome) -> LoadSheet
-    ensures { λ r. ⌜ r ≡ refusedSheet outcome ⌝ }
-{
-    LoadSheet {
-        outcome,
-        rows: [Row { loads: [0u64; 32] }; 48],
-    }
+// A file judged: how that ends, and if it is accepted its description, for each node the tasks it brings in and for each task its work.
+pub struct Judged {
+    pub outcome: Outcome,
+    pub description: Description,
+    pub adds: [u64; 48],
+    pub works: [u64; 32],
 }
 
 // The load sheet of a record, or what its file would be refused for.
 pub fn load_sheet(d: Description) -> LoadSheet
     ensures { λ r. ⌜ r ≡ loadSheet d ⌝ }
 {
-    let fields = fields::check_record(d);
-    let Outcome::Done = fields else {
-        return refused_sheet(fields);
-    };
+    let fields = reading::check_record(d);
+    if let Outcome::Refused(why, place) = fields {
+        return refused_sheet(why, place);
+    }
     loads::last_checks(d)
 }
 
@@ -40,7 +40,7 @@ pub fn load_sheet(d: Description) -> LoadSheet
 pub fn work_out(d: Description) -> Worked
     ensures { λ r. ⌜ JudgedOf d r ⌝ }
 {
-    let fields = fields::check_record(d);
+    let fields = reading::check_record(d);
     if let Outcome::Refused(why, place) = fields {
         return loads::unworked(why, place);
     }
@@ -55,33 +55,62 @@ pub fn judge(d: Description) -> Outcome
     worked.outcome
 }
 
-// Beside a refusal the description is all zeros.
-fn refused_reading(why: Refusal, place: usize) -> Reading
-    ensures { λ r. ⌜ r ≡ refusedReading why place ⌝ }
+// Beside a refusal all is zeros.
+fn refused(why: Refusal, place: usize) -> Judged
+    ensures { λ r. ⌜ (r .outcome ≡ Refused why place) × (r .description ≡ blank) ⌝ }
 {
-    let none = fields::empty();
-    Reading {
+    let none = blank();
+    Judged {
         outcome: Outcome::Refused(why, place),
         description: none,
+        adds: [0u64; 48],
+        works: [0u64; 32],
     }
+}
+
+// The file that begins at a place of the bytes, judged.
+fn examine_at(s: &[u8], at: usize) -> Judged
+    ensures { λ r. ⌜ ReadAs (readFrom (now (s .entry)) at) r ⌝ }
+{
+    let parsed = reading::parse(s, at);
+    let fields = parsed.outcome;
+    if let Outcome::Refused(why, place) = fields {
+        return refused(why, place);
+    }
+    let d = parsed.description;
+    let worked = loads::work_out(d);
+    let last = worked.outcome;
+    if let Outcome::Refused(why, place) = last {
+        return refused(why, place);
+    }
+    let adds = worked.adds;
+    let works = worked.works;
+    Judged {
+        outcome: Outcome::Done,
+        description: d,
+        adds,
+        works,
+    }
+}
+
+// A file judged, with its description and what its loads are sums of if it is accepted.
+pub fn examine(file: &[u8]) -> Judged
+    ensures { λ r. ⌜ ReadAs (readFile (now (file .entry))) r ⌝ }
+{
+    examine_at(file, 0)
 }
 
 // The description of the file that begins at a place of the bytes, or what that file is refused for.
 fn read_at(s: &[u8], at: usize) -> Reading
     ensures { λ r. ⌜ r ≡ readFrom (now (s .entry)) at ⌝ }
 {
-    let parsed = fields::parse(s, at);
-    let fields = parsed.outcome;
-    if let Outcome::Refused(why, place) = fields {
-        return refused_reading(why, place);
+    let judged = examine_at(s, at);
+    let outcome = judged.outcome;
+    let description = judged.description;
+    Reading {
+        outcome,
+        description,
     }
-    let d = parsed.description;
-    let worked = loads::work_out(d);
-    let last = worked.outcome;
-    if let Outcome::Refused(why, place) = last {
-        return refused_reading(why, place);
-    }
-    parsed
 }
 
 // The description of a file, or what the file is refused for: read from the start of its bytes.
@@ -99,5 +128,5 @@ pub fn write(d: Description, out: &mut [u8]) -> Filled
     if let Outcome::Refused(why, place) = judged {
         return Filled::Unfilled(why, place);
     }
-    fields::put_file(d, &mut *out)
+    writing::put_file(d, &mut *out)
 }

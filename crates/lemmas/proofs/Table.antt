@@ -1,10 +1,11 @@
 -- Tables and joined lists: their lengths and entries, and when a list is a table. Assumes nothing.
 use Prim.Native.Nat.{ℕ, zero, suc, _+_, _-_, _≤_, _<_}
-use mathlib.Core.Path.{_≡_, refl, sym, _∙_}
+use mathlib.Core.Path.{_≡_, refl, sym, ap, _∙_}
 use mathlib.Core.List.{List, [], _∷_, _++_}
+use native.Mathlib.Nat.{not-suc-le-zero, le-of-suc-le-suc}
 use native.Mathlib.Omega.{arith}
 use native.Mathlib.Numerals.{add-one}
-use lib.ListN.{length, getD, set, replicate, length-append, length-replicate, getD-replicate, List·getD-append, List·getD-eq-default}
+use lib.ListN.{length, getD, set, take, drop, replicate, length-append, length-replicate, getD-replicate, List·getD-append, List·getD-eq-default}
 use lib.Seq.{ext-getD, getD-at, getD-set-same, getD-set-other}
 use Rattle.model.specs.Basics.{tab, joined}
 use Rattle.lemmas.proofs.Tests.{Cmp, less, same, more, cmp}
@@ -72,3 +73,14 @@ under P i all here k q = go (cmp k i)
     go (less r) = all k r
     go (same r) = rw r here
     go (more r) = absurd (omega arith)
+
+-- copying a text over the front of a list: one more entry
+pub store-more : (out text : List ℕ) (i : ℕ) → i < length out → i < length text → set (take i text ++ drop i out) i (getD text i 0) ≡ take (i + 1) text ++ drop (i + 1) out
+store-more out text i a b = rw add-one (go out text i a b)
+  where
+    go : (out text : List ℕ) (i : ℕ) → i < length out → i < length text → set (take i text ++ drop i out) i (getD text i 0) ≡ take (suc i) text ++ drop (suc i) out
+    go [] text i a b = absurd (not-suc-le-zero a)
+    go (y ∷ out) [] i a b = absurd (not-suc-le-zero b)
+    go (y ∷ out) (x ∷ text) zero a b = refl
+    go (y ∷ out) (x ∷ text) (suc i) a b =
+        ap (λ (l : List ℕ). x ∷ l) (go out text i (le-of-suc-le-suc a) (le-of-suc-le-suc b))

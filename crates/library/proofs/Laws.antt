@@ -33,8 +33,8 @@ use Rattle.theory.proofs.FileLength.{placeIn, read-place}
 use Rattle.theory.proofs.ReadBack.{read-judged}
 use Rattle.loads.specs.declared.Worked.{Worked}
 use Rattle.loads.specs.Tables.{WorkedOf}
-use Rattle.fields.specs.Steps.{parseAt}
-use Rattle.files.proofs.Laws.{parse-start, file-refused, file-unchecked, file-checked}
+use Rattle.reading.specs.Steps.{parseAt}
+use Rattle.files.proofs.Stages.{parse-start, file-refused, file-unchecked, file-checked}
 use Rattle.quotes.proofs.Laws.{quote-judged}
 use Rattle.machine.proofs.RunLaws.{store-turn}
 use Rattle.library.specs.Replies.{bit, byteIn, quotedFile, recordByte, recordBytes}

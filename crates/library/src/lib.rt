@@ -6,7 +6,7 @@ use model::Machine;
 use model::Outcome;
 use model::Quote;
 use model::Refusal;
-use report::lines::number_of;
+use refusals::number_of;
 use ticks::gaps_of;
 ghost use mathlib.Core.Path.{_≡_};
 ghost use Prim.Native.Nat.{ℕ, _<_, _≤_};
@@ -45,7 +45,7 @@ fn refusal_code(why: Refusal, place: usize) -> i64
 fn quote_file(file: &[u8]) -> Quote
     ensures { λ r. ⌜ r ≡ quotedFile (now (file .entry)) ⌝ }
 {
-    let parsed = fields::parse(file, 0);
+    let parsed = reading::parse(file, 0);
     let fields = parsed.outcome;
     if let Outcome::Refused(why, place) = fields {
         return Quote::Unquoted(why, place);

@@ -1,6 +1,4 @@
-pub mod Digits
-pub mod LineLaws
-pub mod Pages
+-- Laws of the report as a whole.
 pub mod ReportLength
 pub mod ReportLaws
 pub mod Stages

@@ -1,6 +1,6 @@
 -- The report by the outcomes of reading, and its length. Assumes nothing.
 use Prim.Native.Nat.{ℕ, zero, suc, _+_, _≤_, _<_}
-use mathlib.Core.Path.{_≡_, refl, sym, ap, _∙_}
+use mathlib.Core.Path.{_≡_, refl, ap, _∙_}
 use mathlib.Core.List.{List, [], _++_}
 use native.Mathlib.Omega.{arith}
 use borrow.Author.Tests.{lt-ltb, le-ltb}
@@ -15,49 +15,35 @@ use Rattle.model.specs.declared.Filled.the-variants.{Bytes as Bytes′, Unfille
 use Rattle.model.specs.declared.VerdictSlot.{VerdictSlot}
 use Rattle.model.specs.Basics.{tab, joined}
 use Rattle.model.specs.Graph.{linkAt}
-use Rattle.model.specs.File.{parseFile, fillWith, filledBy, lastChecks}
+use Rattle.model.specs.File.{readFile, fillWith, filledBy}
 use Rattle.model.specs.Verdicts.{allHeld, largestBelow, slotAt, freeSlot, verdictAt}
 use Rattle.model.specs.Report.{linkLine, linkLines, refusedLine, reportFor, reportOf, reported, pageReported, printed}
 use Rattle.theory.proofs.NumberBytes.{Bytes}
-use Rattle.theory.proofs.Fielded.{well-formed}
-use Rattle.theory.proofs.JudgeLaws.{LastPasses, last-passes}
-use Rattle.theory.proofs.ReadBack.{parsed-fielded}
 use Rattle.theory.proofs.RecordLaws.{joined-cut}
 use Rattle.theory.proofs.FileLength.{read-first}
 use Rattle.lemmas.proofs.Table.{getD-tab, joined-more}
-use Rattle.theory.proofs.WellFormed.{WellFormed}
-use Rattle.files.proofs.Laws.{file-refused, file-unchecked, file-checked}
+use Rattle.files.proofs.Laws.{read-good}
 use Rattle.report.specs.Listing.{lineAt, listing}
 use Rattle.report.proofs.ReportLength.{verdicts-length, refusal-length}
 
--- the three ways that a reading ends
+-- the two ways that a reading ends
 module _ (s : List ℕ) where
-  pub report-unparsed : (r : Refusal) (p : ℕ) → parseFile s .outcome ≡ Refused r p → refusedLine r p ≡ reportOf s
+  pub report-refused : (r : Refusal) (p : ℕ) → readFile s .outcome ≡ Refused r p → refusedLine r p ≡ reportOf s
   unfolding reportOf
-  report-unparsed r p e = rw (← file-refused s r p e)
+  report-refused r p e = rw e
 
-  pub report-unchecked : (r : Refusal) (p : ℕ) → parseFile s .outcome ≡ Done → lastChecks (parseFile s .description) ≡ Refused r p → refusedLine r p ≡ reportOf s
+  pub report-done : readFile s .outcome ≡ Done → reportFor (readFile s .description) (largestBelow (allHeld (readFile s .description)) 2801) ≡ reportOf s
   unfolding reportOf
-  report-unchecked r p e q = rw (← file-unchecked s r p e q)
-
-  pub report-checked : parseFile s .outcome ≡ Done → lastChecks (parseFile s .description) ≡ Done → reportFor (parseFile s .description) (largestBelow (allHeld (parseFile s .description)) 2801) ≡ reportOf s
-  unfolding reportOf
-  report-checked e q = rw (← file-checked s e q, e)
-
-  pub parsed-good : Bytes s → parseFile s .outcome ≡ Done → lastChecks (parseFile s .description) ≡ Done → WellFormed (parseFile s .description)
-  parsed-good b e q =
-      let p : LastPasses (parseFile s .description) = last-passes (parseFile s .description) q in
-      well-formed (parsed-fielded s b e) (p .some) (p .no-loop) (p .light)
+  report-done e = rw e
 
   -- no report is longer than 11,168 bytes
   pub report-length : Bytes s → length (reportOf s) ≤ 11168
-  report-length b = go (parseFile s .outcome) refl (lastChecks (parseFile s .description)) refl
+  report-length b = go (readFile s .outcome) refl
     where
-      go : (o : Outcome) → parseFile s .outcome ≡ o → (c : Outcome) → lastChecks (parseFile s .description) ≡ c → length (reportOf s) ≤ 11168
-      go (Refused r p) e c q = rw (← report-unparsed r p e) (omega (arith, refusal-length r p))
-      go Done e (Refused r p) q = rw (← report-unchecked r p e q) (omega (arith, refusal-length r p))
-      go Done e Done q =
-          rw (← report-checked e q) (verdicts-length (parseFile s .description) (parsed-good b e q) (allHeld (parseFile s .description)))
+      go : (o : Outcome) → readFile s .outcome ≡ o → length (reportOf s) ≤ 11168
+      go (Refused r p) e = rw (← report-refused r p e) (omega (arith, refusal-length r p))
+      go Done e =
+          rw (← report-done e) (verdicts-length (readFile s .description) (read-good s b e) (allHeld (readFile s .description)))
 
 -- the lines by the table of verdicts are the lines of the report
 joined-alike : (n : ℕ) (f g : ℕ → List ℕ) → ((l : ℕ) → l < n → f l ≡ g l) → joined n f ≡ joined n g

@@ -1,10 +1,10 @@
 -- How long a report can be: 11,168 bytes. A link's line has at most 41 bytes beside its place; the places 1 to 256 have one, two or three digits; the
 -- tempo line has 12. Sixteen fixed sources of the largest spacing, each with a held link to the same sixteen tasks above the ninth, reach it. Assumes nothing.
-use Prim.Native.Nat.{ℕ, zero, suc, _+_, _-_, _*_, _/_, _<_, _≤_, min}
+use Prim.Native.Nat.{ℕ, zero, suc, _+_, _*_, _/_, _<_, _≤_, min}
 use mathlib.Core.Path.{_≡_, refl}
 use mathlib.Core.Bool.{Bool, true, false, cond}
 use mathlib.Core.List.{List}
-use mathlib.Core.Logic.{_⊎_, ⊎-elim}
+use mathlib.Core.Logic.{⊎-elim}
 use native.Mathlib.Omega.{arith}
 use borrow.Author.Tests.{ltb-false}
 use lib.Dec.{ltb, eqb}
@@ -25,8 +25,8 @@ use Rattle.theory.proofs.Spacing.{spacing-most}
 use Rattle.theory.proofs.Rounds.{settle-fixed}
 use Rattle.theory.proofs.Quotes.{largest-hit, largest-miss}
 use Rattle.verdicts.proofs.PlanLaws.{from-most, to-most}
-use Rattle.report.proofs.Digits.{decimal-most, decimal-bound}
-use Rattle.report.proofs.LineLaws.{held-length, doubt-length, link-length, tempo-length, refused-length}
+use Rattle.text.proofs.Digits.{decimal-most, decimal-bound}
+use Rattle.lines.proofs.LineLaws.{held-length, doubt-length, link-length, tempo-length, refused-length}
 
 -- a verdict whose delay is below a spacing of at most 10^9
 settled-length : (r : Settled) (m : ℕ) → m ≤ 1000000000 → ((D : ℕ) → r ≡ unchanged D → D < m) → length (verdictText (settledVerdict r m)) ≤ 29

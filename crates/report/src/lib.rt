@@ -13,16 +13,12 @@ use model::VerdictSlot;
 use text::copy_out;
 use verdicts::plan::orders_of;
 use verdicts::slots_at;
-
-pub mod lines;
-pub mod text;
-
 ghost use mathlib.Core.Path.{_≡_};
 ghost use Prim.Native.Nat.{_+_, _≤_};
 ghost use lib.ListN.{length, take};
 ghost use Rattle.model.specs.Report.{shownTempo, reportOf, reported, pageReported};
 ghost use Rattle.report.specs.Listing.{listing};
-ghost use Rattle.report.specs.Page.{Put};
+ghost use Rattle.text.specs.Page.{Put};
 
 // The bytes of the longest report.
 pub const LONGEST: usize = 11168;
@@ -60,21 +56,16 @@ fn put_report(file: &[u8], page: &mut [u8]) -> usize
     requires { ⌜ 11168 ≤ length (now page) ⌝ }
     ensures { λ r. ⌜ Put (now (page .entry)) 0 (reportOf (now (file .entry))) (now (page .exit)) r ⌝ }
 {
-    let parsed = fields::parse(file, 0);
-    let fields = parsed.outcome;
-    if let Outcome::Refused(why, place) = fields {
+    let judged = files::examine(file);
+    let outcome = judged.outcome;
+    if let Outcome::Refused(why, place) = outcome {
         return refused_line(&mut *page, 0, why, place);
     }
-    let d = parsed.description;
-    let worked = loads::work_out(d);
-    let last = worked.outcome;
-    if let Outcome::Refused(why, place) = last {
-        return refused_line(&mut *page, 0, why, place);
-    }
+    let d = judged.description;
     let n = d.task_count;
     let m = d.source_count;
-    let levels = levels_of(&worked.adds, &worked.works, n, m);
-    let starts = starts_of(&worked.adds, &worked.works, n);
+    let levels = levels_of(&judged.adds, &judged.works, n, m);
+    let starts = starts_of(&judged.adds, &judged.works, n);
     let orders = orders_of(d);
     let quote = quotes::quote_by(d, &levels, &starts, &orders);
     let slots = slots_at(d, &levels, &starts, &orders, shown_tempo(quote));

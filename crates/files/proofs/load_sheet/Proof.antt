@@ -1,32 +1,28 @@
 -- `load_sheet` meets its contract: the checks of the fields, then the checks after the last field. Assumes nothing.
-use mathlib.Core.Path.{_≡_, sym, ap, _∙_}
-use Rattle.model.specs.declared.Outcome.{Outcome}
-use Rattle.theory.proofs.Typed.{typed-widths}
-use Rattle.files.specs.Answers.{refusedSheet}
-use Rattle.files.proofs.Laws.{sheet-refused, sheet-checked, record-good}
+use mathlib.Core.Path.{sym, _∙_}
 use borrow.Author.Needs.{needs}
+use Rattle.theory.proofs.Typed.{typed-widths}
+use Rattle.files.proofs.Laws.{sheet-refused, sheet-checked, record-good}
 use Rattle.files.proofs.load_sheet.Statement.{statement}
 use Rattle.files.proofs.load_sheet.Tie as tie
-use Rattle.files.proofs.load_sheet.Reads as reads
-use Rattle.files.proofs.load_sheet.Lts as lts
-use Rattle.fields.proofs.check_record.Reads as check-record-reads
-use Rattle.files.proofs.refused_sheet.Reads as refused-sheet-reads
-use Rattle.loads.proofs.last_checks.Reads as last-checks-reads
 
 check-record-requires : tie.Need-check-record-requires
 check-record-requires c κs = search needs
 
-enum-told : tie.Need-enum-told
-enum-told c = search needs
-
-enum-told-2 : tie.Need-enum-told-2
-enum-told-2 c = search needs
+enum-known-fields : tie.Need-enum-known-fields
+enum-known-fields c = search needs
 
 refused-sheet-requires : tie.Need-refused-sheet-requires
 refused-sheet-requires c κs = search needs
 
 returns : tie.Need-returns
-returns c = let S = c .before .before .before .before in let told = c .before .enum-told2 .given in c .refused-sheet .ensures ∙ ap refusedSheet (told .1) ∙ sheet-refused (S .args .d) (told .0 .0) (told .0 .1 .0) (typed-widths (S .args .d) _ (S .good .0)) (sym (c .before .before .before .check-record .ensures) ∙ told .1)
+returns c =
+    let S = c .before .before .before .before .before in
+    let told = c .before .before .fields .given in
+    c .refused-sheet .ensures ∙ sheet-refused (S .args .d) (told .0 .0) (told .0 .1 .0) (typed-widths (S .args .d) _ (S .good .0)) (sym (c .before .before .before .before .check-record .ensures) ∙ told .1)
+
+enum-told : tie.Need-enum-told
+enum-told c = search needs
 
 last-checks-requires : tie.Need-last-checks-requires
 last-checks-requires c κs = let S = c .before .before .before in record-good (S .args .d) (typed-widths (S .args .d) _ (S .good .0)) (sym (c .before .before .check-record .ensures) ∙ c .enum-told .given .1)
@@ -39,9 +35,9 @@ load-sheet-spec =
     tie.close
     (tie.spec
     check-record-requires
-    enum-told
-    enum-told-2
+    enum-known-fields
     refused-sheet-requires
     returns
+    enum-told
     last-checks-requires
     returns-2)

@@ -1,8 +1,9 @@
 -- `work_out` meets its contract: the checks of the fields, then the checks after the last field. Assumes nothing.
 use borrow.Author.Needs.{needs}
-use mathlib.Core.Path.{sym, _∙_}
+use mathlib.Core.Path.{refl, sym, _∙_}
+use Rattle.theory.proofs.FileLaws.{judge-well-formed}
 use Rattle.theory.proofs.Typed.{typed-widths}
-use Rattle.loads.proofs.Checks.{not-done}
+use Rattle.refusals.proofs.Laws.{refused-not}
 use Rattle.files.proofs.Laws.{judge-refused, judge-checked, record-good}
 use Rattle.files.proofs.work_out.Statement.{statement}
 use Rattle.files.proofs.work_out.Tie as tie
@@ -21,7 +22,7 @@ returns c =
     let S = c .before .before .before .before .before in
     let told = c .before .before .fields .given in
     let e = judge-refused (S .args .d) (told .0 .0) (told .0 .1 .0) (typed-widths (S .args .d) _ (S .good .0)) (sym (c .before .before .before .before .check-record .ensures) ∙ told .1) in
-    record { judged = c .unworked .ensures ∙ sym e; worked = λ f. absurd (not-done (told .0 .0) (told .0 .1 .0) (sym e ∙ f)) }
+    record { judged = c .unworked .ensures ∙ sym e; same = refl; good = λ f. refused-not (sym e ∙ f); worked = λ f. refused-not (sym e ∙ f) }
 
 enum-told : tie.Need-enum-told
 enum-told c = search needs
@@ -32,8 +33,9 @@ work-out-requires c κs = let S = c .before .before .before in record-good (S .a
 returns-2 : tie.Need-returns-2
 returns-2 c =
     let S = c .before .before .before .before in
-    let e = judge-checked (S .args .d) (typed-widths (S .args .d) _ (S .good .0)) (sym (c .before .before .before .check-record .ensures) ∙ c .before .enum-told .given .1) in
-    record { judged = c .work-out .ensures .judged ∙ sym e; worked = λ f. c .work-out .ensures .worked (sym e ∙ f) }
+    let w = typed-widths (S .args .d) _ (S .good .0) in
+    let e = judge-checked (S .args .d) w (sym (c .before .before .before .check-record .ensures) ∙ c .before .enum-told .given .1) in
+    record { judged = c .work-out .ensures .judged ∙ sym e; same = refl; good = λ f. judge-well-formed (S .args .d) w f; worked = λ f. c .work-out .ensures .worked (sym e ∙ f) }
 
 pub work-out-spec : {M : Type 1} → statement M
 work-out-spec =

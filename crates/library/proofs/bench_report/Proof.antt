@@ -17,7 +17,7 @@ use Rattle.library.proofs.bench_report.Reads as reads
 use Rattle.library.proofs.bench_report.Lts as lts
 use Rattle.library.proofs.negative.Reads as negative-reads
 use Rattle.library.proofs.positive.Reads as positive-reads
-use Rattle.report.proofs.lines.number_of.Reads as number-of-reads
+use Rattle.refusals.proofs.number_of.Reads as number-of-reads
 use Rattle.report.proofs.report.Reads as report-reads
 
 report-requires : tie.Need-report-requires

@@ -1,6 +1,6 @@
 -- `quote_file` meets its contract: parsed, checked and quoted once each. Assumes nothing.
 use borrow.Author.Needs.{needs}
-use Rattle.report.proofs.Stages.{stage-fields, stage-good, stage-loads}
+use Rattle.files.proofs.Stages.{stage-fields, stage-good, stage-loads}
 use Rattle.library.proofs.Laws.{quoted-unparsed, quoted-unchecked, quoted-done}
 use Rattle.library.proofs.quote_file.Statement.{statement}
 use Rattle.library.proofs.quote_file.Tie as tie

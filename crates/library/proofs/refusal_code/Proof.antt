@@ -12,7 +12,7 @@ use Rattle.library.proofs.refusal_code.Tie as tie
 use Rattle.library.proofs.refusal_code.Reads as reads
 use Rattle.library.proofs.refusal_code.Lts as lts
 use Rattle.library.proofs.negative.Reads as negative-reads
-use Rattle.report.proofs.lines.number_of.Reads as number-of-reads
+use Rattle.refusals.proofs.number_of.Reads as number-of-reads
 
 number-of-requires : tie.Need-number-of-requires
 number-of-requires c κs = search needs

@@ -4,9 +4,9 @@ use Prim.Native.Nat.{_+_, _-_, _≤_}
 use mathlib.Core.Path.{_≡_, sym, ap}
 use mathlib.Core.List.{[]}
 use native.Mathlib.Omega.{arith}
-use Rattle.report.specs.Page.{Put}
+use Rattle.text.specs.Page.{Put}
 use Rattle.report.specs.Listing.{lineAt, listing}
-use Rattle.report.proofs.Pages.{put-none, put-then, put-same}
+use Rattle.text.proofs.Pages.{put-none, put-then, put-same}
 use Rattle.report.proofs.ReportLaws.{listing-none, listing-more, listing-room}
 use Rattle.report.proofs.link_lines.Statement.{statement}
 use Rattle.report.proofs.link_lines.Tie as tie

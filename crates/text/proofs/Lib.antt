@@ -1,0 +1,3 @@
+-- Laws of decimal digits and of texts on a page.
+pub mod Digits
+pub mod Pages

@@ -29,5 +29,8 @@ pub record JudgedAs (end : Outcome) (d : Description) (outcome : Outcome) (d′ 
 abbrev pub JudgedOf : Description → Worked → Type 0
 JudgedOf d r = JudgedAs (judge d) d (r .outcome) d (r .adds) (r .works)
 
+abbrev pub RecordAs : Description → Judged → Type 0
+RecordAs d j = JudgedAs (judge d) d (j .outcome) (j .description) (j .adds) (j .works)
+
 abbrev pub ReadAs : Reading → Judged → Type 0
 ReadAs r j = JudgedAs (r .outcome) (r .description) (j .outcome) (j .description) (j .adds) (j .works)

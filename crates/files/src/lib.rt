@@ -13,11 +13,11 @@ ghost use mathlib.Core.Path.{_≡_};
 ghost use Rattle.model.specs.declared.Outcome.the-variants.{Refused};
 ghost use Rattle.model.specs.Refusals.{blank};
 ghost use Rattle.model.specs.File.{readFile, judge, loadSheet, written, pageAfter};
-ghost use Rattle.files.specs.Answers.{readFrom, JudgedOf, ReadAs};
+ghost use Rattle.files.specs.Answers.{readFrom, JudgedOf, RecordAs, ReadAs};
 
 pub mod reader;
 
-// A file judged: how that ends, and if it is accepted its description, for each node the tasks it brings in and for each task its work.
+// A file or a record judged: how that ends, and if it is accepted its description, for each node the tasks it brings in and for each task its work.
 pub struct Judged {
     pub outcome: Outcome,
     pub description: Description,
@@ -37,7 +37,7 @@ pub fn load_sheet(d: Description) -> LoadSheet
 }
 
 // A record judged as its file would be, with what its loads are sums of if it passes.
-pub fn work_out(d: Description) -> Worked
+fn work_out(d: Description) -> Worked
     ensures { λ r. ⌜ JudgedOf d r ⌝ }
 {
     let fields = reading::check_record(d);
@@ -53,6 +53,22 @@ pub fn judge(d: Description) -> Outcome
 {
     let worked = work_out(d);
     worked.outcome
+}
+
+// The same beside the record.
+pub fn examine_record(d: Description) -> Judged
+    ensures { λ r. ⌜ RecordAs d r ⌝ }
+{
+    let worked = work_out(d);
+    let outcome = worked.outcome;
+    let adds = worked.adds;
+    let works = worked.works;
+    Judged {
+        outcome,
+        description: d,
+        adds,
+        works,
+    }
 }
 
 // Beside a refusal all is zeros.

@@ -37,9 +37,6 @@ abbrev pub quoteReply : Quote → ℤ
 quoteReply (Tempo t) = pos t
 quoteReply (Unquoted r place) = refusalCode r place
 
-unfoldable pub quotedFile : List ℕ → Quote
-quotedFile s = onDone (readFile s .outcome) (quoteOf (readFile s .description)) Unquoted
-
 -- a machine's record in 736 bytes: 32 awake, 32 times 4 used, 256 waiting, 256 dropped, 16 times 4 ages, numbers high byte first
 abbrev pub bit : Bool → ℕ
 bit b = cond b 1 0

@@ -1,6 +1,7 @@
 -- "Verdicts" and the quote.
 use Prim.Native.Nat.{ℕ, zero, suc, _+_}
 use mathlib.Core.Bool.{Bool, true, false, _&&_, not, cond}
+use mathlib.Core.List.{List}
 use lib.ListN.{replicate}
 use lib.Dec.{ltb, leb, eqb}
 use Rattle.model.specs.declared.Link.{Link}
@@ -19,7 +20,7 @@ use Rattle.model.specs.Refusals.{onDone}
 use Rattle.model.specs.Graph.{System, system, linkAt}
 use Rattle.model.specs.Delays.{Settled, unchanged, reached, delayOf, spacingOf}
 use Rattle.model.specs.Order.{inOrder}
-use Rattle.model.specs.File.{judge}
+use Rattle.model.specs.File.{readFile, judge}
 
 -- "the link is held if the delay is below i's spacing, doubtful otherwise"
 abbrev pub settledVerdict : Settled → ℕ → Verdict
@@ -89,3 +90,7 @@ largestBelow good (suc n) = elim (good (200 + n)) [ true ↦ Tempo (200 + n) | f
 -- "the quote is the largest T at which every critical link is held"
 unfoldable pub quoteOf : Description → Quote
 quoteOf d = onDone (judge d) (largestBelow (allHeld d) 2801) Unquoted
+
+-- the quote of a file
+unfoldable pub quotedFile : List ℕ → Quote
+quotedFile s = onDone (readFile s .outcome) (quoteOf (readFile s .description)) Unquoted

@@ -10,10 +10,12 @@ use Rattle.model.specs.declared.Refusal.{Refusal}
 use Rattle.model.specs.declared.Refusal.the-variants.{NoTempo}
 use Rattle.model.specs.declared.Quote.the-variants.{Tempo, Unquoted}
 use Rattle.model.specs.Delays.{spacingOf}
-use Rattle.model.specs.File.{judge}
-use Rattle.model.specs.Verdicts.{allHeld, largestBelow, quoteOf}
+use Rattle.model.specs.File.{readFile, judge}
+use Rattle.model.specs.Verdicts.{allHeld, largestBelow, quoteOf, quotedFile}
 use Rattle.lemmas.proofs.Tests.{Cmp, less, same, more, cmp, not-both}
 use Rattle.theory.proofs.WellFormed.{WellFormed}
+use Rattle.theory.proofs.NumberBytes.{Bytes}
+use Rattle.theory.proofs.ReadBack.{read-judged}
 use Rattle.theory.proofs.Quotes.{spaced, wider, quote-at, quote-none}
 use Rattle.spacings.specs.declared.Sources.{Sources}
 use Rattle.spacings.specs.Gaps.{GapsBy}
@@ -111,3 +113,13 @@ quote-refused d r p e = rw e
 pub quote-judged : (d : Description) → judge d ≡ Done → largestBelow (allHeld d) 2801 ≡ quoteOf d
 unfolding quoteOf
 quote-judged d e = rw e
+
+-- the quote of a file, refused or accepted
+module _ (s : List ℕ) where
+  pub file-refused : (r : Refusal) (p : ℕ) → readFile s .outcome ≡ Refused r p → Unquoted r p ≡ quotedFile s
+  unfolding quotedFile
+  file-refused r p e = rw e
+
+  pub file-quoted : Bytes s → (d : Description) → d ≡ readFile s .description → readFile s .outcome ≡ Done → largestBelow (allHeld d) 2801 ≡ quotedFile s
+  unfolding quotedFile
+  file-quoted b d f e = rw (e, f) (quote-judged (readFile s .description) (read-judged s b e))

@@ -17,7 +17,7 @@ ghost use mathlib.Core.Bool.{false};
 ghost use Prim.Native.Nat.{ℕ, _≤_};
 ghost use Rattle.model.specs.declared.Description.{Description};
 ghost use Rattle.model.specs.Delays.{spacingOf};
-ghost use Rattle.model.specs.Verdicts.{quoteOf};
+ghost use Rattle.model.specs.Verdicts.{quoteOf, quotedFile};
 ghost use Rattle.verdicts.specs.Held.{levelHeld};
 ghost use Rattle.quotes.specs.Best.{LevelFrom, Searched, Slower, Tabled, QuoteBy};
 
@@ -91,12 +91,33 @@ pub fn quote_by<'a>(
 pub fn quote(d: Description) -> Quote
     ensures { λ r. ⌜ r ≡ quoteOf d ⌝ }
 {
-    let worked = files::work_out(d);
-    let judged = worked.outcome;
-    if let Outcome::Refused(why, place) = judged {
+    let judged = files::examine_record(d);
+    let outcome = judged.outcome;
+    if let Outcome::Refused(why, place) = outcome {
         return Quote::Unquoted(why, place);
     }
-    let t = tables_of(d, &worked.adds, &worked.works);
+    let t = tables_of(d, &judged.adds, &judged.works);
+    quote_by(
+        &t.levels,
+        &t.starts,
+        &t.critical,
+        t.ordered,
+        t.sources,
+        t.tasks,
+    )
+}
+
+// The quote of a file.
+pub fn quote_file(file: &[u8]) -> Quote
+    ensures { λ r. ⌜ r ≡ quotedFile (now (file .entry)) ⌝ }
+{
+    let judged = files::examine(file);
+    let outcome = judged.outcome;
+    if let Outcome::Refused(why, place) = outcome {
+        return Quote::Unquoted(why, place);
+    }
+    let d = judged.description;
+    let t = tables_of(d, &judged.adds, &judged.works);
     quote_by(
         &t.levels,
         &t.starts,

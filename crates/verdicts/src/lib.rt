@@ -81,15 +81,15 @@ fn refused(why: Refusal, place: usize) -> Verdicts
 pub fn verdicts(d: Description, t: u32) -> Verdicts
     ensures { λ r. ⌜ r ≡ verdicts d t ⌝ }
 {
-    let worked = files::work_out(d);
-    let judged = worked.outcome;
-    if let Outcome::Refused(why, place) = judged {
+    let judged = files::examine_record(d);
+    let outcome = judged.outcome;
+    if let Outcome::Refused(why, place) = outcome {
         return refused(why, place);
     }
     if !on_knob(t) {
         return refused(Refusal::OffKnob, 0);
     }
-    let tables = tables_of(d, &worked.adds, &worked.works);
+    let tables = tables_of(d, &judged.adds, &judged.works);
     let gaps = gaps_by(tables.sources, t);
     let slots = slots_at(d, &tables.levels, &tables.starts, &tables.orders, &gaps);
     Verdicts {

@@ -7,33 +7,33 @@ use borrow.Author.Needs.{needs}
 use Rattle.quotes.proofs.quote.Statement.{statement}
 use Rattle.quotes.proofs.quote.Tie as tie
 
-work-out-requires : tie.Need-work-out-requires
-work-out-requires c κs = search needs
+examine-record-requires : tie.Need-examine-record-requires
+examine-record-requires c κs = search needs
 
-enum-known-judged : tie.Need-enum-known-judged
-enum-known-judged c = search needs
+enum-known-outcome : tie.Need-enum-known-outcome
+enum-known-outcome c = search needs
 
 returns : tie.Need-returns
-returns c = quote-refused (c .before .before .before .before .args .d) _ _ (sym (c .before .before .before .work-out .ensures .judged) ∙ c .before .judged .given .1)
+returns c = quote-refused (c .before .before .before .before .args .d) _ _ (sym (c .before .before .before .examine-record .ensures .judged) ∙ c .before .outcome .given .1)
 
 enum-told : tie.Need-enum-told
 enum-told c = search needs
 
 tables-of-requires : tie.Need-tables-of-requires
-tables-of-requires c κs = let S = c .before .before .before .before .before .before in (judge-well-formed (S .args .d) (typed-widths (S .args .d) _ (S .good .0)) (sym (c .before .before .before .before .before .work-out .ensures .judged) ∙ c .before .before .before .enum-told .given .1), c .before .before .before .before .before .work-out .ensures .worked (sym (c .before .before .before .before .before .work-out .ensures .judged) ∙ c .before .before .before .enum-told .given .1))
+tables-of-requires c κs = let S = c .before .before .before .before .before .before in (judge-well-formed (S .args .d) (typed-widths (S .args .d) _ (S .good .0)) (sym (c .before .before .before .before .before .examine-record .ensures .judged) ∙ c .before .before .before .enum-told .given .1), rw (c .before .before .before .before .before .examine-record .ensures .same) at (c .before .before .before .before .before .examine-record .ensures .worked (sym (c .before .before .before .before .before .examine-record .ensures .judged) ∙ c .before .before .before .enum-told .given .1)))
 
 quote-by-requires : tie.Need-quote-by-requires
 quote-by-requires c κs = record { of = c .before .before .before .before .before .before .before .before .before .before .before .before .args .d; tables = c .before .before .before .before .before .tables-of .ensures .by-levels }
 
 returns-2 : tie.Need-returns-2
-returns-2 c = let t = c .before .before .before .before .before .before .tables-of .ensures in c .quote-by .ensures (c .before .before .before .before .before .before .before .before .before .before .before .before .before .args .d) (t .by-levels) (t .all-ordered) ∙ quote-judged (c .before .before .before .before .before .before .before .before .before .before .before .before .before .args .d) (sym (c .before .before .before .before .before .before .before .before .before .before .before .before .work-out .ensures .judged) ∙ c .before .before .before .before .before .before .before .before .before .before .enum-told .given .1)
+returns-2 c = let t = c .before .before .before .before .before .before .tables-of .ensures in c .quote-by .ensures (c .before .before .before .before .before .before .before .before .before .before .before .before .before .args .d) (t .by-levels) (t .all-ordered) ∙ quote-judged (c .before .before .before .before .before .before .before .before .before .before .before .before .before .args .d) (sym (c .before .before .before .before .before .before .before .before .before .before .before .before .examine-record .ensures .judged) ∙ c .before .before .before .before .before .before .before .before .before .before .enum-told .given .1)
 
 pub quote-spec : {M : Type 1} → statement M
 quote-spec =
     tie.close
     (tie.spec
-    work-out-requires
-    enum-known-judged
+    examine-record-requires
+    enum-known-outcome
     returns
     enum-told
     tables-of-requires

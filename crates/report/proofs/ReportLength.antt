@@ -24,7 +24,8 @@ use Rattle.theory.proofs.WellFormed.{WellFormed, IsTask, IsSource}
 use Rattle.theory.proofs.Spacing.{spacing-most}
 use Rattle.theory.proofs.Rounds.{settle-fixed}
 use Rattle.theory.proofs.Quotes.{largest-hit, largest-miss}
-use Rattle.verdicts.proofs.PlanLaws.{from-most, to-most}
+use Rattle.theory.proofs.Fielded.{fields-of}
+use Rattle.theory.proofs.Links.{from-most, to-most}
 use Rattle.text.proofs.Digits.{decimal-most, decimal-bound}
 use Rattle.lines.proofs.LineLaws.{held-length, doubt-length, link-length, tempo-length, refused-length}
 
@@ -64,7 +65,7 @@ module _ (d : Description) (good : WellFormed d) (t : ℕ) where
   line-length : (l : ℕ) → l < d .«link_count» → length (linkLine l (linkAt d l) (verdictAt d t l)) ≤ 41 + length (decimal (l + 1))
   line-length l h =
       omega
-      (arith, link-length l (linkAt d l) (verdictAt d t l), verdict-length l h, decimal-most 1 (linkAt d l .from) (omega (arith, from-most d good l h)), decimal-most 1 (linkAt d l .to) (omega (arith, to-most d good l h)))
+      (arith, link-length l (linkAt d l) (verdictAt d t l), verdict-length l h, decimal-most 1 (linkAt d l .from) (omega (arith, from-most d (fields-of good) l h)), decimal-most 1 (linkAt d l .to) (omega (arith, to-most d (fields-of good) l h)))
 
 -- how many of the first n numbers are below k
 below : ℕ → ℕ → ℕ

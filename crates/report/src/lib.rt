@@ -3,16 +3,16 @@
 use lines::link_line;
 use lines::refused_line;
 use lines::tempo_line;
-use loads::levels::levels_of;
-use loads::levels::starts_of;
 use model::Description;
 use model::Filled;
 use model::Outcome;
 use model::Quote;
 use model::VerdictSlot;
+use quotes::quote_by;
+use spacings::gaps_by;
 use text::copy_out;
-use verdicts::plan::orders_of;
-use verdicts::slots_at;
+use verdicts::slots::slots_at;
+use verdicts::tables_of;
 ghost use mathlib.Core.Path.{_≡_};
 ghost use Prim.Native.Nat.{_+_, _≤_};
 ghost use lib.ListN.{length, take};
@@ -62,13 +62,17 @@ fn put_report(file: &[u8], page: &mut [u8]) -> usize
         return refused_line(&mut *page, 0, why, place);
     }
     let d = judged.description;
-    let n = d.task_count;
-    let m = d.source_count;
-    let levels = levels_of(&judged.adds, &judged.works, n, m);
-    let starts = starts_of(&judged.adds, &judged.works, n);
-    let orders = orders_of(d);
-    let quote = quotes::quote_by(d, &levels, &starts, &orders);
-    let slots = slots_at(d, &levels, &starts, &orders, shown_tempo(quote));
+    let t = tables_of(d, &judged.adds, &judged.works);
+    let quote = quote_by(
+        &t.levels,
+        &t.starts,
+        &t.critical,
+        t.ordered,
+        t.sources,
+        t.tasks,
+    );
+    let gaps = gaps_by(t.sources, shown_tempo(quote));
+    let slots = slots_at(d, &t.levels, &t.starts, &t.orders, &gaps);
     let at = tempo_line(&mut *page, 0, quote);
     link_lines(&mut *page, at, d, slots)
 }

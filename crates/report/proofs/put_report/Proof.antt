@@ -5,13 +5,14 @@ use mathlib.Core.Path.{_≡_, ap, sym, _∙_}
 use mathlib.Core.List.{_++_}
 use native.Mathlib.Omega.{arith}
 use lib.ListN.{length, length-append}
-use Rattle.model.specs.Basics.{tab}
-use Rattle.model.specs.Verdicts.{slotAt}
-use Rattle.model.specs.Report.{tempoLine, refusedLine, reportOf}
+use Rattle.model.specs.Delays.{spacingOf}
+use Rattle.model.specs.Verdicts.{largestBelow, allHeld}
+use Rattle.model.specs.Report.{tempoLine, refusedLine, shownTempo, reportOf}
 use Rattle.theory.proofs.WellFormed.{WellFormed}
 use Rattle.loads.specs.Tables.{LoadsOf}
-use Rattle.verdicts.specs.Plan.{Tables}
-use Rattle.verdicts.proofs.TableLaws.{tables-made}
+use Rattle.spacings.specs.Gaps.{GapsOf}
+use Rattle.spacings.proofs.GapLaws.{gaps-of, scaled-of}
+use Rattle.verdicts.proofs.TableLaws.{slots-at-tempo}
 use Rattle.text.proofs.Pages.{put-then, put-same}
 use Rattle.report.specs.Listing.{listing}
 use Rattle.report.proofs.ReportLength.{refusal-length}
@@ -27,17 +28,24 @@ good c = stage-good (c .before .before .before .before .before .args .file .now)
 loads : (c : tie.After-enum-told) → LoadsOf (c .before .before .examine .result .description) (c .before .before .examine .result .adds) (c .before .before .examine .result .works)
 loads c = stage-loads (c .before .before .before .before .before .args .file .now) (c .before .before .examine .result) (c .before .before .examine .ensures) (c .enum-told .given .1)
 
-tables : (c : tie.After-orders-of) → Tables (c .before .before .before .before .before .before .before .before .before .before .before .before .examine .result .description) (c .before .before .before .before .before .levels-of .result) (c .before .starts-of .result) (c .orders-of .result)
-tables c = tables-made (c .before .before .before .before .before .before .before .before .before .before .before .before .examine .result .description) (c .before .before .before .before .before .before .before .before .before .before .before .before .examine .result .adds) (c .before .before .before .before .before .before .before .before .before .before .before .before .examine .result .works) (c .before .before .before .before .before .levels-of .result) (c .before .starts-of .result) (c .orders-of .result) (good (c .before .before .before .before .before .before .before .before .before .before)) (loads (c .before .before .before .before .before .before .before .before .before .before)) (c .before .before .before .before .before .levels-of .ensures) (c .before .starts-of .ensures) (c .orders-of .ensures)
+-- its tables and its quote
+quoted : (c : tie.After-quote-by) → c .quote-by .result ≡ largestBelow (allHeld (c .before .before .before .before .before .before .before .before .before .before .before .before .before .examine .result .description)) 2801
+quoted c = let t = c .before .before .before .before .before .before .tables-of .ensures in c .quote-by .ensures (c .before .before .before .before .before .before .before .before .before .before .before .before .before .examine .result .description) (t .by-levels) (t .all-ordered)
+
+-- the spacings at the tempo shown
+spaced : (c : tie.After-gaps-by) → GapsOf (c .before .before .before .before .before .before .before .before .before .before .before .before .before .before .before .before .examine .result .description) (shownTempo (c .before .before .before .quote-by .result)) (c .gaps-by .result)
+spaced c =
+    let z = gaps-of (c .before .before .before .before .before .before .before .before .before .before .before .before .before .before .before .before .examine .result .description) (c .before .before .before .before .before .before .before .before .before .tables-of .result .sources) (c .before .shown-tempo .result) (c .gaps-by .result) (c .before .before .before .before .before .before .before .before .before .tables-of .ensures .by-levels .by-source) (c .gaps-by .ensures) in
+    rw (c .before .shown-tempo .ensures) at z
 
 -- what is known once the verdicts are there: the parts of the report, and that they fit
-parts : (c : tie.After-slots-at) → tempoLine (c .before .before .before .before .before .quote-by .result) ++ listing (c .before .before .before .before .before .before .before .before .before .before .before .before .before .before .before .before .before .before .before .before .before .examine .result .description) (c .slots-at .result) (c .before .before .before .before .before .before .before .before .before .before .before .before .before .before .before .before .before .before .before .before .before .examine .result .description .«link_count») ≡ reportOf (c .before .before .before .before .before .before .before .before .before .before .before .before .before .before .before .before .before .before .before .before .before .before .before .before .args .file .now)
-parts c = stage-parts (c .before .before .before .before .before .before .before .before .before .before .before .before .before .before .before .before .before .before .before .before .before .before .before .before .args .file .now) (c .before .before .before .before .before .before .before .before .before .before .before .before .before .before .before .before .before .before .before .before .before .examine .result) (c .before .before .before .before .before .before .before .before .before .before .before .before .before .before .before .before .before .before .before .before .before .examine .ensures) (c .before .before .before .before .before .before .before .before .before .before .before .before .before .before .before .before .before .before .before .enum-told .given .1) (c .before .before .before .before .before .quote-by .result) (c .slots-at .result) (c .before .before .before .before .before .quote-by .ensures) (c .slots-at .ensures ∙ ap (λ t. tab 256 (slotAt (c .before .before .before .before .before .before .before .before .before .before .before .before .before .before .before .before .before .before .before .before .before .examine .result .description) t)) (c .before .shown-tempo .ensures))
+parts : (c : tie.After-slots-at) → tempoLine (c .before .before .before .before .before .before .before .before .before .quote-by .result) ++ listing (c .before .before .before .before .before .before .before .before .before .before .before .before .before .before .before .before .before .before .before .before .before .before .examine .result .description) (c .slots-at .result) (c .before .before .before .before .before .before .before .before .before .before .before .before .before .before .before .before .before .before .before .before .before .before .examine .result .description .«link_count») ≡ reportOf (c .before .before .before .before .before .before .before .before .before .before .before .before .before .before .before .before .before .before .before .before .before .before .before .before .before .args .file .now)
+parts c = stage-parts (c .before .before .before .before .before .before .before .before .before .before .before .before .before .before .before .before .before .before .before .before .before .before .before .before .before .args .file .now) (c .before .before .before .before .before .before .before .before .before .before .before .before .before .before .before .before .before .before .before .before .before .before .examine .result) (c .before .before .before .before .before .before .before .before .before .before .before .before .before .before .before .before .before .before .before .before .before .before .examine .ensures) (c .before .before .before .before .before .before .before .before .before .before .before .before .before .before .before .before .before .before .before .before .enum-told .given .1) (c .before .before .before .before .before .before .before .before .before .quote-by .result) (c .slots-at .result) (quoted (c .before .before .before .before .before .before .before .before .before)) (c .slots-at .ensures (spacingOf (c .before .before .before .before .before .before .before .before .before .before .before .before .before .before .before .before .before .before .before .before .before .before .examine .result .description) (shownTempo (c .before .before .before .before .before .before .before .before .before .quote-by .result))) (spaced (c .before .before .before .before .before .before)) ∙ slots-at-tempo (c .before .before .before .before .before .before .before .before .before .before .before .before .before .before .before .before .before .before .before .before .before .before .examine .result .description) (shownTempo (c .before .before .before .before .before .before .before .before .before .quote-by .result)))
 
-room : (c : tie.After-slots-at) → length (tempoLine (c .before .before .before .before .before .quote-by .result)) + length (listing (c .before .before .before .before .before .before .before .before .before .before .before .before .before .before .before .before .before .before .before .before .before .examine .result .description) (c .slots-at .result) (c .before .before .before .before .before .before .before .before .before .before .before .before .before .before .before .before .before .before .before .before .before .examine .result .description .«link_count»)) ≤ 11168
+room : (c : tie.After-slots-at) → length (tempoLine (c .before .before .before .before .before .before .before .before .before .quote-by .result)) + length (listing (c .before .before .before .before .before .before .before .before .before .before .before .before .before .before .before .before .before .before .before .before .before .before .examine .result .description) (c .slots-at .result) (c .before .before .before .before .before .before .before .before .before .before .before .before .before .before .before .before .before .before .before .before .before .before .examine .result .description .«link_count»)) ≤ 11168
 room c =
-    let d = c .before .before .before .before .before .before .before .before .before .before .before .before .before .before .before .before .before .before .before .before .before .examine .result .description in
-    omega (arith, report-length (c .before .before .before .before .before .before .before .before .before .before .before .before .before .before .before .before .before .before .before .before .before .before .before .before .args .file .now) (λ i. c .before .before .before .before .before .before .before .before .before .before .before .before .before .before .before .before .before .before .before .before .before .before .before .shared-slice-known .given i .fits), sym (ap length (parts c)) ∙ length-append (tempoLine (c .before .before .before .before .before .quote-by .result)) (listing d (c .slots-at .result) (d .«link_count»)))
+    let d = c .before .before .before .before .before .before .before .before .before .before .before .before .before .before .before .before .before .before .before .before .before .before .examine .result .description in
+    omega (arith, report-length (c .before .before .before .before .before .before .before .before .before .before .before .before .before .before .before .before .before .before .before .before .before .before .before .before .before .args .file .now) (λ i. c .before .before .before .before .before .before .before .before .before .before .before .before .before .before .before .before .before .before .before .before .before .before .before .before .shared-slice-known .given i .fits), sym (ap length (parts c)) ∙ length-append (tempoLine (c .before .before .before .before .before .before .before .before .before .quote-by .result)) (listing d (c .slots-at .result) (d .«link_count»)))
 
 examine-requires : tie.Need-examine-requires
 examine-requires c κs = search needs
@@ -59,41 +67,40 @@ returns c =
 enum-told : tie.Need-enum-told
 enum-told c = search needs
 
-levels-of-requires : tie.Need-levels-of-requires
-levels-of-requires c κs = let g = good (c .before .before .before .before) in (g .few-tasks, g .few-sources, loads (c .before .before .before .before) .scaled)
-
-starts-of-requires : tie.Need-starts-of-requires
-starts-of-requires c κs = (good (c .before .before .before .before .before .before .before .before) .few-tasks, loads (c .before .before .before .before .before .before .before .before) .scaled)
-
-orders-of-requires : tie.Need-orders-of-requires
-orders-of-requires c κs = good (c .before .before .before .before .before .before .before .before .before)
+tables-of-requires : tie.Need-tables-of-requires
+tables-of-requires c κs = (good (c .before .before .before .before), loads (c .before .before .before .before))
 
 quote-by-requires : tie.Need-quote-by-requires
-quote-by-requires c κs = (good (c .before .before .before .before .before .before .before .before .before .before .before .before .before), tables (c .before .before .before))
+quote-by-requires c κs = record { of = c .before .before .before .before .before .before .before .before .before .before .before .before .examine .result .description; tables = c .before .before .before .before .before .tables-of .ensures .by-levels }
 
 shown-tempo-requires : tie.Need-shown-tempo-requires
 shown-tempo-requires c κs = search needs
 
+gaps-by-requires : tie.Need-gaps-by-requires
+gaps-by-requires c κs =
+    let on = shown-on (c .before .before .before .before .before .before .before .before .before .before .before .before .before .before .before .examine .result .description) (c .before .before .quote-by .result) (quoted (c .before .before)) in
+    (scaled-of (c .before .before .before .before .before .before .before .before .before .before .before .before .before .before .before .examine .result .description) (c .before .before .before .before .before .before .before .before .tables-of .result .sources) (good (c .before .before .before .before .before .before .before .before .before .before .before .before .before)) (c .before .before .before .before .before .before .before .before .tables-of .ensures .by-levels .by-source), omega (arith, on .0, c .shown-tempo .ensures), omega (arith, on .1, c .shown-tempo .ensures))
+
 slots-at-requires : tie.Need-slots-at-requires
 slots-at-requires c κs =
-    let on = shown-on (c .before .before .before .before .before .before .before .before .before .before .before .before .before .before .before .before .before .before .before .before .examine .result .description) (c .before .before .before .before .quote-by .result) (c .before .before .before .before .quote-by .ensures) in
-    (good (c .before .before .before .before .before .before .before .before .before .before .before .before .before .before .before .before .before .before), tables (c .before .before .before .before .before .before .before .before), omega (arith, on .0, c .shown-tempo .ensures), omega (arith, on .1, c .shown-tempo .ensures))
+    let t = c .before .before .before .before .before .before .before .before .before .before .before .before .before .before .tables-of .ensures in
+    (record { good = t .by-levels .good; by-level = t .by-levels .by-level; by-start = t .by-levels .by-start; by-order = t .by-order }, spaced (c .before .before .before .before .before) .fit)
 
 tempo-line-requires : tie.Need-tempo-line-requires
-tempo-line-requires c κs = omega (arith, c .before .before .before .before .before .before .before .before .before .before .before .before .before .before .before .before .before .before .before .before .before .before .before .before .before .pre, room (c .before))
+tempo-line-requires c κs = omega (arith, c .before .before .before .before .before .before .before .before .before .before .before .before .before .before .before .before .before .before .before .before .before .before .before .before .before .before .pre, room (c .before))
 
 link-lines-requires : tie.Need-link-lines-requires
 link-lines-requires c κs =
     let t = c .before .before .before .tempo-line .ensures in
-    (good (c .before .before .before .before .before .before .before .before .before .before .before .before .before .before .before .before .before .before .before .before .before .before .before .before) .few-links, omega (arith, c .before .before .before .before .before .before .before .before .before .before .before .before .before .before .before .before .before .before .before .before .before .before .before .before .before .before .before .before .before .pre, room (c .before .before .before .before .before), t .put-end, t .put-size))
+    (good (c .before .before .before .before .before .before .before .before .before .before .before .before .before .before .before .before .before .before .before .before .before .before .before .before .before) .few-links, omega (arith, c .before .before .before .before .before .before .before .before .before .before .before .before .before .before .before .before .before .before .before .before .before .before .before .before .before .before .before .before .before .before .pre, room (c .before .before .before .before .before), t .put-end, t .put-size))
 
 same-length-2 : tie.Need-same-length-2
 same-length-2 c = search needs
 
 returns-2 : tie.Need-returns-2
 returns-2 c =
-    let d = c .before .before .before .before .before .before .before .before .before .before .before .before .before .before .before .before .before .before .before .before .before .before .before .before .before .before .before .before .before .examine .result .description in
-    put-same _ (reportOf (c .before .before .before .before .before .before .before .before .before .before .before .before .before .before .before .before .before .before .before .before .before .before .before .before .before .before .before .before .before .before .before .before .args .file .now)) (parts (c .before .before .before .before .before .before .before .before)) (put-then (tempoLine (c .before .before .before .before .before .before .before .before .before .before .before .before .before .quote-by .result)) (listing d (c .before .before .before .before .before .before .before .before .slots-at .result) (d .«link_count»)) (c .before .before .before .before .before .before .tempo-line .ensures) (c .before .before .link-lines .ensures))
+    let d = c .before .before .before .before .before .before .before .before .before .before .before .before .before .before .before .before .before .before .before .before .before .before .before .before .before .before .before .before .before .before .examine .result .description in
+    put-same _ (reportOf (c .before .before .before .before .before .before .before .before .before .before .before .before .before .before .before .before .before .before .before .before .before .before .before .before .before .before .before .before .before .before .before .before .before .args .file .now)) (parts (c .before .before .before .before .before .before .before .before)) (put-then (tempoLine (c .before .before .before .before .before .before .before .before .before .before .before .before .before .before .before .before .before .quote-by .result)) (listing d (c .before .before .before .before .before .before .before .before .slots-at .result) (d .«link_count»)) (c .before .before .before .before .before .before .tempo-line .ensures) (c .before .before .link-lines .ensures))
 
 pub put-report-spec : {M : Type 1} → statement M
 put-report-spec =
@@ -105,11 +112,10 @@ put-report-spec =
     same-length
     returns
     enum-told
-    levels-of-requires
-    starts-of-requires
-    orders-of-requires
+    tables-of-requires
     quote-by-requires
     shown-tempo-requires
+    gaps-by-requires
     slots-at-requires
     tempo-line-requires
     link-lines-requires

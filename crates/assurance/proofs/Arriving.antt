@@ -120,7 +120,7 @@ module _ (d : Description) (wf : WellFormed d) (marks : List Bool) where
         waiting = λ l q. rw e (rw (lt-ltb l (d .«link_count») q) at (f .waiting l));
         dropped = λ l q. rw e (rw (lt-ltb l (d .«link_count») q) at (f .dropped l));
         past = λ l q. fired-past d (33 + u) m (fire d (33 + u) m) f l q;
-        age = λ v. getD-set (fire d (33 + u) m .ages) u 0 0 v (omega (arith, f .sized .ages, wf .few-sources)) ∙ rw (e, f .ages, and-on (eqb v u) true refl) refl;
+        age = λ v. getD-set (fire d (33 + u) m .ages) u 0 0 v (omega (arith, f .sized .ages, wf .fields .few-sources)) ∙ rw (e, f .ages, and-on (eqb v u) true refl) refl;
       }
 
   one-arrived : (u : ℕ) → u < d .«source_count» → (m : Machine) → Sized m → OneArrived d marks u m (arriveOne d marks u m)

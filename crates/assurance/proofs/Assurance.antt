@@ -115,7 +115,7 @@ module _ (d : Description) (q t : ℕ) (F : Facts d q t) (cs : List Call) where
     j = linkAt d l .to
 
     isTask : 1 ≤ j
-    isTask = wf .link-to l p .0
+    isTask = wf .fields .link-to l p .0
 
     -- the dropped mark is set exactly as the events say
     marked-drop : droppedAt (at d wf t ks (length hist)) l ≡ true → Dropped hist i j
@@ -195,7 +195,7 @@ module _ (d : Description) (q t : ℕ) (F : Facts d q t) (cs : List Call) where
 
     link-not-dropped : linkAt d l .critical ≡ 1 → Dropped hist i j → ⊥
     unfolding system
-    link-not-dropped crit k = go (wf .link-from l p)
+    link-not-dropped crit k = go (wf .fields .link-from l p)
       where
         go : IsTask (system d) i ⊎ ((33 ≤ i) × (i < 33 + d .«source_count»)) → ⊥
         go (inl own) = order-kept crit own k

@@ -33,7 +33,7 @@ facts d q t w e low high =
       held = k .held;
       spaced = λ u a b. (gap-some d g u a b q (omega (arith, k .low)) (k .high), gap-anti d g u a b t q (omega arith) high);
       settled = λ i j D x. held-fixed (system d) (spacingOf d q) i j D x;
-      ordered = λ i j a b c. walk-order (system d) s (g .few-sources) i j a c;
+      ordered = λ i j a b c. walk-order (system d) s (g .fields .few-sources) i j a c;
     }
 
 pub demand3 : Demand3

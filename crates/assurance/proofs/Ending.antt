@@ -78,7 +78,7 @@ module _ (d : Description) (wf : WellFormed d) where
       go : (b : Bool) → eqb (linkAt d l .to) h ≡ b → waitingAt (clearLink d h l m) k ≡ (waitingAt m k && not (eqb k l && eqb (linkAt d l .to) h))
       go true e =
           rw (e, clearLink)
-          (getD-set (m .waiting) l false false k (omega (arith, z .waitings, wf .few-links)) ∙ rw (and-on (eqb k l) true refl) (set-false (eqb k l) (waitingAt m k)))
+          (getD-set (m .waiting) l false false k (omega (arith, z .waitings, wf .fields .few-links)) ∙ rw (and-on (eqb k l) true refl) (set-false (eqb k l) (waitingAt m k)))
       go false e = rw (e, clearLink) (and-idle (waitingAt m k) false (eqb k l) refl)
 
   clear-rest : (h l : ℕ) (m : Machine) → Sized m → (b : Bool) → eqb (linkAt d l .to) h ≡ b → Sized (clearLink d h l m) × (clearLink d h l m .awake ≡ m .awake) × (clearLink d h l m .used ≡ m .used) × (clearLink d h l m .dropped ≡ m .dropped) × (clearLink d h l m .ages ≡ m .ages)
@@ -140,7 +140,7 @@ module _ (d : Description) (wf : WellFormed d) where
         used = f .used;
         waiting = f .waiting;
         dropped = f .dropped;
-        age = λ v. getD-set (m₁ .ages) n (min (spacingOf d t (33 + n)) (ageAt m₁ n + 1)) 0 v (omega (arith, f .sized .ages, wf .few-sources)) ∙ at m₁ v (f .age v) (f .age n) (cmp v n);
+        age = λ v. getD-set (m₁ .ages) n (min (spacingOf d t (33 + n)) (ageAt m₁ n + 1)) 0 v (omega (arith, f .sized .ages, wf .fields .few-sources)) ∙ at m₁ v (f .age v) (f .age n) (cmp v n);
       }
     where
       at : (m₁ : Machine) (v : ℕ) → ageAt m₁ v ≡ cond (ltb v n) (min (spacingOf d t (33 + v)) (ageAt m v + 1)) (ageAt m v) → ageAt m₁ n ≡ cond (ltb n n) (min (spacingOf d t (33 + n)) (ageAt m n + 1)) (ageAt m n) → Cmp v n → cond (eqb v n) (min (spacingOf d t (33 + n)) (ageAt m₁ n + 1)) (ageAt m₁ v) ≡ cond (ltb v (suc n)) (min (spacingOf d t (33 + v)) (ageAt m v + 1)) (ageAt m v)

@@ -119,11 +119,11 @@ eqb-sym a b =
 
 module _ (d : Description) (wf : WellFormed d) where
   pub to-some : (l : ℕ) → l < d .«link_count» → 1 ≤ linkAt d l .to
-  to-some l p = wf .link-to l p .0
+  to-some l p = wf .fields .link-to l p .0
 
   pub to-most : (l : ℕ) → l < d .«link_count» → linkAt d l .to ≤ 32
   unfolding system
-  to-most l p = let h : linkAt d l .to ≤ d .«task_count» = wf .link-to l p .1 in omega (arith, wf .few-tasks)
+  to-most l p = let h : linkAt d l .to ≤ d .«task_count» = wf .fields .link-to l p .1 in omega (arith, wf .fields .few-tasks)
 
   fire-off : (x l : ℕ) (m : Machine) → eqb (linkAt d l .from) x ≡ false → fireLink d x l m ≡ m
   unfolding fireLink
@@ -147,8 +147,8 @@ module _ (d : Description) (wf : WellFormed d) where
         used = mark-used w l m;
         ages = mark-ages w l m;
         awake = λ k o. rw (mark-awake w l m, e, eqb-sym (linkAt d l .to) k) (getD-task (m .awake) (linkAt d l .to) true false k o (to-some l p) (omega (arith, z .awakes, to-most l p)) ∙ set-true (eqb k (linkAt d l .to)) (awakeAt m k));
-        waiting = λ k. rw (mark-waiting w l m, e, and-on (eqb k l) true refl) (getD-set (m .waiting) l true false k (omega (arith, z .waitings, wf .few-links)) ∙ set-true (eqb k l) (waitingAt m k));
-        dropped = λ k. rw (e, and-on (eqb k l) true refl) (mark-dropped l m (omega (arith, z .droppeds, wf .few-links)) k);
+        waiting = λ k. rw (mark-waiting w l m, e, and-on (eqb k l) true refl) (getD-set (m .waiting) l true false k (omega (arith, z .waitings, wf .fields .few-links)) ∙ set-true (eqb k l) (waitingAt m k));
+        dropped = λ k. rw (e, and-on (eqb k l) true refl) (mark-dropped l m (omega (arith, z .droppeds, wf .fields .few-links)) k);
       }
 
   link-off : (x l : ℕ) (m : Machine) → Sized m → eqb (linkAt d l .from) x ≡ false → LinkFired d x l m m

@@ -73,7 +73,7 @@ module _ (d : Description) (wf : WellFormed d) (L : Loaded (system d)) (G : Shap
     waiting-awake l p (suc x) e = go (waiting-awake l p x)
       where
         o : 1 ≤ linkAt d l .to
-        o = wf .link-to l p .0
+        o = wf .fields .link-to l p .0
 
         on : ((waitingAt (st x) l || firesIn d wf L t ks (linkAt d l .from) x) && not (endsIn d wf L t ks (linkAt d l .to) x)) ≡ true
         on = sym (waiting-next d wf L t ks l p x) ∙ e
@@ -115,7 +115,7 @@ module _ (d : Description) (wf : WellFormed d) (L : Loaded (system d)) (G : Shap
 
     age-low : (u : ℕ) → u < d .«source_count» → (x : ℕ) → ageAt (st x) u ≤ spacingOf d t (33 + u)
     age-low u p zero =
-        let e : ageAt (st 0) u ≡ spacingOf d t (33 + u) = age-first u (omega (arith, wf .few-sources)) ∙ rw (lt-ltb u (d .«source_count») p) refl in
+        let e : ageAt (st 0) u ≡ spacingOf d t (33 + u) = age-first u (omega (arith, wf .fields .few-sources)) ∙ rw (lt-ltb u (d .«source_count») p) refl in
         omega arith
     age-low u p (suc x) = rw (at-step d wf t ks x .age u p) (omega arith)
 

@@ -179,7 +179,7 @@ module _ (d : Description) (wf : WellFormed d) (t : ℕ) (ks : List Call) where
   link-some i k e =
       let w : Found (λ l. eqb (linkAt d l .from) i && eqb (linkAt d l .to) k) 0 (d .«link_count») = any-found _ 0 (d .«link_count») e in
       let q : linkAt d (w .at) .to ≡ k = eqb-true (linkAt d (w .at) .to) k (and-right (eqb (linkAt d (w .at) .from) i) _ (w .passes)) in
-      rw q at (wf .link-to (w .at) (omega (arith, w .within)) .0)
+      rw q at (wf .fields .link-to (w .at) (omega (arith, w .within)) .0)
 
   end-runs : (x : ℕ) → endAt x ≡ true → 0 < highAt x
   end-runs x e =

@@ -226,14 +226,14 @@ module _ (d : Description) (wf : WellFormed d) (L : Loaded (system d)) (t : ℕ)
         omega (arith, L .falls from from h)
 
     low : (x : ℕ) → highAt d wf t ks x ≤ 32
-    low x = omega (arith, high-low d wf t ks x, wf .few-tasks)
+    low x = omega (arith, high-low d wf t ks x, wf .fields .few-tasks)
 
     pub kind : (from ≤ 32) ⊎ ((33 ≤ from) × (from < 33 + d .«source_count»))
     unfolding system
-    kind = go (wf .link-from l p)
+    kind = go (wf .fields .link-from l p)
       where
         go : IsTask (system d) from ⊎ IsSource (system d) from → (from ≤ 32) ⊎ ((33 ≤ from) × (from < 33 + d .«source_count»))
-        go (inl q) = let h : from ≤ d .«task_count» = q .1 in inl (omega (arith, wf .few-tasks))
+        go (inl q) = let h : from ≤ d .«task_count» = q .1 in inl (omega (arith, wf .fields .few-tasks))
         go (inr q) = inr q
 
     pub waiting-next : (x : ℕ) → waitingAt (at d wf t ks (suc x)) l ≡ ((waitingAt (at d wf t ks x) l || firesIn from x) && not (endsIn to x))

@@ -171,7 +171,7 @@ module _ (d : Description) (wf : WellFormed d) where
       let h : ℕ = highest d m₁ in
       let a : Arrived d marks (d .«source_count») m m₁ = arrived d wf marks m z in
       let same : overAt d h finish m₁ ≡ overAt d h finish m = ap (λ (l : List ℕ). not (eqb h 0) && (eqb (getD l (h - 1) 0 + 1) (runOf d h) || finish)) (a .used) in
-      let r : Ran d h (overAt d h finish m) m₁ (endRun d h finish (runTask h m₁)) = rw same at (ran h finish m₁ (a .sized) (omega (arith, highest-le (m₁ .awake) (d .«task_count»), wf .few-tasks))) in
+      let r : Ran d h (overAt d h finish m) m₁ (endRun d h finish (runTask h m₁)) = rw same at (ran h finish m₁ (a .sized) (omega (arith, highest-le (m₁ .awake) (d .«task_count»), wf .fields .few-tasks))) in
       let g : Aged d t (d .«source_count») (endRun d h finish (runTask h m₁)) (ageAll d t (endRun d h finish (runTask h m₁))) = aged d wf t (endRun d h finish (runTask h m₁)) (r .sized) in
       record {
         sized = g .sized;

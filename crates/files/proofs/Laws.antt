@@ -13,7 +13,7 @@ use Rattle.model.specs.declared.Refusal.the-variants.{TooMany}
 use Rattle.model.specs.Refusals.{blank, onDone}
 use Rattle.model.specs.File.{Widths, fileOf, parseFile, lastChecks, readFile, finished, refusedReading, Accepted, judge, overfull, loadSheet}
 use Rattle.theory.proofs.NumberBytes.{Bytes}
-use Rattle.theory.proofs.Fielded.{Fielded, well-formed}
+use Rattle.theory.proofs.WellFormed.{Fielded}
 use Rattle.theory.proofs.FileLaws.{judge-steps, judge-well-formed, record-fielded}
 use Rattle.theory.proofs.JudgeLaws.{LastPasses, last-passes}
 use Rattle.theory.proofs.ReadBack.{read-judged, read-whence}
@@ -116,7 +116,7 @@ module _ (s : List ℕ) (at : ℕ) (x : Reading) (parsed : x ≡ parseAt s at) (
       record {
         judged = sym fine ∙ ap (λ (y : Reading). y .outcome) whole;
         same = ap (λ (y : Reading). y .description) whole;
-        good = λ _. well-formed (fields-good s at b x parsed fine) (p .some) (p .no-loop) (p .light);
+        good = λ _. record { fields = fields-good s at b x parsed fine; some-task = p .some; no-cycle = p .no-loop; not-heavy = p .light };
         worked = λ _. checked .worked passes;
       }
 

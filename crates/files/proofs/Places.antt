@@ -25,7 +25,7 @@ use Rattle.model.specs.Field.{bodyLength, numberIn, fieldIn, takeField, checkFi
 use Rattle.model.specs.File.{refusedReading, parseFrom, parseFile}
 use Rattle.lemmas.proofs.Tests.{same-test}
 use Rattle.theory.proofs.NumberBytes.{Bytes}
-use Rattle.theory.proofs.Fielded.{Fielded}
+use Rattle.theory.proofs.WellFormed.{Fielded}
 use Rattle.theory.proofs.RecordLaws.{parse-fine, parse-unfit, parse-broken, parse-end}
 use Rattle.theory.proofs.ReadBack.{parsed-fielded}
 use Rattle.refusals.proofs.Laws.{refused-not}

@@ -9,7 +9,7 @@ use Rattle.model.specs.declared.Reading.{Reading}
 use Rattle.model.specs.declared.Refusal.{Refusal}
 use Rattle.model.specs.File.{parseFile, lastChecks, readFile, refusedReading}
 use Rattle.theory.proofs.NumberBytes.{Bytes}
-use Rattle.theory.proofs.Fielded.{Fielded}
+use Rattle.theory.proofs.WellFormed.{Fielded}
 use Rattle.theory.proofs.WellFormed.{WellFormed}
 use Rattle.loads.specs.declared.Worked.{Worked}
 use Rattle.loads.specs.Tables.{WorkedOf, LoadsOf}

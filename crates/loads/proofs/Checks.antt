@@ -20,7 +20,7 @@ use Rattle.model.specs.File.{lastChecks, judge, loadSheet}
 use Rattle.lemmas.proofs.Tests.{not-both, same-test}
 use Rattle.lemmas.proofs.Range.{Found, any-at, any-found}
 use Rattle.lemmas.proofs.Table.{is-tab}
-use Rattle.theory.proofs.Fielded.{Fielded}
+use Rattle.theory.proofs.WellFormed.{Fielded}
 use Rattle.loads.specs.declared.Worked.{Worked}
 use Rattle.paths.specs.Rows.{SuccessorsOf, Closed, graph, selfIn}
 use Rattle.works.specs.Works.{Ready, WorksOf, Scaled, loadBy}

@@ -9,7 +9,7 @@ pub mod levels;
 mod rows;
 
 ghost use mathlib.Core.Path.{_≡_};
-ghost use Rattle.theory.proofs.Fielded.{Fielded};
+ghost use Rattle.theory.proofs.WellFormed.{Fielded};
 ghost use Rattle.model.specs.declared.Outcome.the-variants.{Refused};
 ghost use Rattle.loads.specs.Tables.{WorkedOf, RowsAre, checkedLoads, refusedLoads};
 

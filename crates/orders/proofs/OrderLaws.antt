@@ -13,7 +13,7 @@ use Rattle.model.specs.Graph.{system, linkAt}
 use Rattle.model.specs.Order.{walk, inOrder}
 use Rattle.lemmas.proofs.Tests.{and-left, and-right, both}
 use Rattle.theory.proofs.WellFormed.{WellFormed}
-use Rattle.theory.proofs.Fielded.{fields-of}
+
 use Rattle.theory.proofs.Links.{ends-inside}
 use Rattle.theory.proofs.Walk.{in-order-alike}
 use Rattle.orders.specs.Into.{intoSystem, IntoOf}
@@ -57,7 +57,7 @@ pub orders-of : (d : Description) → WellFormed d → (into : List ℕ) (orders
 unfolding orderBy system
 orders-of d g into orders m h l p q e =
     h l p ∙ rw (eq-eqb (linkAt d l .critical) 1 e, lt-ltb (linkAt d l .from) 33 q)
-    (in-order-alike (intoSystem into) (system d) m (linkAt d l .from) (linkAt d l .to) (ends-inside d (fields-of g) l p .0))
+    (in-order-alike (intoSystem into) (system d) m (linkAt d l .from) (linkAt d l .to) (ends-inside d (g .fields) l p .0))
 
 -- a link's order, by its tests
 module _ (k : Link) (order : Bool) where

@@ -3,7 +3,7 @@
 use model::Description;
 use numbers::index;
 use sets::with;
-ghost use Rattle.theory.proofs.Fielded.{Fielded};
+ghost use Rattle.theory.proofs.WellFormed.{Fielded};
 ghost use Rattle.orders.specs.Into.{IntoOf};
 
 // The nodes with a link to each task: node p is number p - 1 of the set.

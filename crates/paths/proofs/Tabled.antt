@@ -17,7 +17,8 @@ use Rattle.model.specs.Loads.{load}
 use Rattle.lemmas.proofs.Tests.{false-of, same-test, and-left, and-right, both}
 use Rattle.lemmas.proofs.Range.{any-more}
 use Rattle.theory.proofs.WellFormed.{Loaded}
-use Rattle.theory.proofs.Fielded.{Fielded, shaped-fields}
+use Rattle.theory.proofs.WellFormed.{Fielded}
+use Rattle.theory.proofs.Fielded.{shaped-fields}
 use Rattle.theory.proofs.Rank.{Ends}
 use Rattle.theory.proofs.LoadLaws.{loaded-ends}
 use Rattle.theory.proofs.Alike.{SameLinks, same-cyclic, same-load}

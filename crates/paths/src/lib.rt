@@ -8,7 +8,7 @@ use sets::with;
 ghost use mathlib.Core.Path.{_≡_};
 ghost use Prim.Native.Nat.{_≤_, _<_};
 ghost use lib.ListN.{length};
-ghost use Rattle.theory.proofs.Fielded.{Fielded};
+ghost use Rattle.theory.proofs.WellFormed.{Fielded};
 ghost use Rattle.paths.specs.Rows.{SuccessorsOf, Grown, Allowed, Absent, Closed, selfIn};
 
 // The links of a description by the node they leave: bit j - 1 of entry i - 1 for a link from node i to task j.

@@ -24,7 +24,7 @@ use Rattle.theory.proofs.WellFormed.{WellFormed, IsTask, IsSource}
 use Rattle.theory.proofs.Spacing.{spacing-most}
 use Rattle.theory.proofs.Rounds.{settle-fixed}
 use Rattle.theory.proofs.Quotes.{largest-hit, largest-miss}
-use Rattle.theory.proofs.Fielded.{fields-of}
+
 use Rattle.theory.proofs.Links.{from-most, to-most}
 use Rattle.text.proofs.Digits.{decimal-most, decimal-bound}
 use Rattle.lines.proofs.LineLaws.{held-length, doubt-length, link-length, tempo-length, refused-length}
@@ -49,9 +49,9 @@ module _ (d : Description) (good : WellFormed d) (t : ℕ) where
   unfolding spacingOf system
   gap-most l h b =
       ⊎-elim
-      (λ (w : IsTask (system d) (linkAt d l .from)). absurd (omega (arith, w .1, good .few-tasks)))
-      (λ (w : IsSource (system d) (linkAt d l .from)). spacing-most (sourceAt d (linkAt d l .from)) t (good .source-scale (linkAt d l .from) (w .0) (w .1)))
-      (good .link-from l h)
+      (λ (w : IsTask (system d) (linkAt d l .from)). absurd (omega (arith, w .1, good .fields .few-tasks)))
+      (λ (w : IsSource (system d) (linkAt d l .from)). spacing-most (sourceAt d (linkAt d l .from)) t (good .fields .source-scale (linkAt d l .from) (w .0) (w .1)))
+      (good .fields .link-from l h)
 
   verdict-length : (l : ℕ) → l < d .«link_count» → length (verdictText (verdictAt d t l)) ≤ 29
   unfolding verdictAt verdictOf sourceVerdict orderVerdict verdictText
@@ -65,7 +65,7 @@ module _ (d : Description) (good : WellFormed d) (t : ℕ) where
   line-length : (l : ℕ) → l < d .«link_count» → length (linkLine l (linkAt d l) (verdictAt d t l)) ≤ 41 + length (decimal (l + 1))
   line-length l h =
       omega
-      (arith, link-length l (linkAt d l) (verdictAt d t l), verdict-length l h, decimal-most 1 (linkAt d l .from) (omega (arith, from-most d (fields-of good) l h)), decimal-most 1 (linkAt d l .to) (omega (arith, to-most d (fields-of good) l h)))
+      (arith, link-length l (linkAt d l) (verdictAt d t l), verdict-length l h, decimal-most 1 (linkAt d l .from) (omega (arith, from-most d (good .fields) l h)), decimal-most 1 (linkAt d l .to) (omega (arith, to-most d (good .fields) l h)))
 
 -- how many of the first n numbers are below k
 below : ℕ → ℕ → ℕ
@@ -121,7 +121,7 @@ verdicts-length d w good =
     let q = largestBelow good 2801 in
     let lines : ℕ → List ℕ = λ l. linkLine l (linkAt d l) (verdictAt d (shownTempo q) l) in
     rw (length-append (tempoLine q) (joined (d .«link_count») lines))
-    (omega (arith, tempo-most good 2801 (omega arith), all-length (d .«link_count») (length (joined (d .«link_count») lines)) (w .few-links) (places-length (d .«link_count») lines (w .few-links) (line-length d w (shownTempo q)))))
+    (omega (arith, tempo-most good 2801 (omega arith), all-length (d .«link_count») (length (joined (d .«link_count») lines)) (w .fields .few-links) (places-length (d .«link_count») lines (w .fields .few-links) (line-length d w (shownTempo q)))))
 
 -- a report of a refusal
 pub refusal-length : (r : Refusal) (place : ℕ) → length (refusedLine r place) ≤ 53

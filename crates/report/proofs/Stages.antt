@@ -24,7 +24,7 @@ use Rattle.report.proofs.ReportLaws.{report-refused, report-done, listi
 quoted-parts : (d : Description) (q : Quote) (slots : List VerdictSlot) → WellFormed d → q ≡ largestBelow (allHeld d) 2801 → slots ≡ tab 256 (slotAt d (shownTempo q)) → tempoLine q ++ listing d slots (d .«link_count») ≡ reportFor d (largestBelow (allHeld d) 2801)
 unfolding reportFor
 quoted-parts d q slots w e f =
-    ap (λ (l : List ℕ). tempoLine q ++ l) (listing-is d (shownTempo q) slots (w .few-links) f)
+    ap (λ (l : List ℕ). tempoLine q ++ l) (listing-is d (shownTempo q) slots (w .fields .few-links) f)
     ∙ ap (λ (x : Quote). tempoLine x ++ linkLines d (shownTempo x)) e
 
 -- the tempo shown is on the knob

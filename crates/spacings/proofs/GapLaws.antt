@@ -76,9 +76,9 @@ gaps-of d s t gaps h b =
 pub scaled-of : (d : Description) (s : Sources) → WellFormed d → SourcesOf d s → Scaled s
 scaled-of d s g h =
     record {
-      few = omega (arith, h .counted, g .few-sources);
+      few = omega (arith, h .counted, g .fields .few-sources);
       on = λ u p. let w : 33 + u - 33 ≡ u = omega arith in
           ap (λ (x : Source). onScale (OfSource x)) (h .at u p)
           ∙ ap (λ (i : ℕ). onScale (OfSource (getD (d .sources) i noSource .source))) (sym w)
-          ∙ g .source-scale (33 + u) (omega arith) (omega (arith, h .counted));
+          ∙ g .fields .source-scale (33 + u) (omega arith) (omega (arith, h .counted));
     }

@@ -1,4 +1,4 @@
--- What the checks of the fields establish of a description, before the checks that look at the whole of it. Assumes nothing.
+-- The shape of a description whose fields are checked. Assumes nothing.
 use Prim.Native.Nat.{ℕ, suc, _+_, _≤_, _<_}
 use mathlib.Core.Path.{_≡_, refl}
 use mathlib.Core.Bool.{Bool, true, false, cond, _&&_}
@@ -13,54 +13,7 @@ use Rattle.model.specs.Graph.{system, linked, runOf, linkAt, sourceAt, cyclic}
 use Rattle.model.specs.Loads.{tooHeavy}
 use Rattle.lemmas.proofs.Tests.{and-left, and-right}
 use Rattle.lemmas.proofs.Range.{Found, any-found}
-use Rattle.theory.proofs.WellFormed.{IsTask, IsSource, rises, WellFormed, Shaped}
-
--- counts within their limits, runs and sources on scale, links that rise and end at nodes of the file
-pub record Fielded (d : Description) : Type 0 where
-  pub few-tasks : d .«task_count» ≤ 32
-  pub few-sources : d .«source_count» ≤ 16
-  pub few-links : d .«link_count» ≤ 256
-  pub run-some : (k : ℕ) → 1 ≤ k → k ≤ d .«task_count» → 1 ≤ runOf d k
-  pub run-most : (k : ℕ) → 1 ≤ k → k ≤ d .«task_count» → runOf d k ≤ 10000000
-  pub source-scale : (u : ℕ) → 33 ≤ u → u < 33 + d .«source_count» → onScale (OfSource (sourceAt d u)) ≡ true
-  pub link-from : (l : ℕ) → l < d .«link_count» → IsTask (system d) (linkAt d l .from) ⊎ IsSource (system d) (linkAt d l .from)
-  pub link-to : (l : ℕ) → l < d .«link_count» → IsTask (system d) (linkAt d l .to)
-  pub link-critical : (l : ℕ) → l < d .«link_count» → linkAt d l .critical ≤ 1
-  pub link-rises : (l : ℕ) → suc l < d .«link_count» → rises (linkAt d l) (linkAt d (suc l)) ≡ true
-
--- a description is well formed exactly if its fields are and the last three checks pass
-pub fields-of : {d : Description} → WellFormed d → Fielded d
-fields-of w =
-    record {
-      few-tasks = w .few-tasks;
-      few-sources = w .few-sources;
-      few-links = w .few-links;
-      run-some = w .run-some;
-      run-most = w .run-most;
-      source-scale = w .source-scale;
-      link-from = w .link-from;
-      link-to = w .link-to;
-      link-critical = w .link-critical;
-      link-rises = w .link-rises;
-    }
-
-pub well-formed : {d : Description} → Fielded d → 1 ≤ d .«task_count» → cyclic (system d) ≡ false → tooHeavy (system d) ≡ false → WellFormed d
-well-formed w some acyclic light =
-    record {
-      some-task = some;
-      few-tasks = w .few-tasks;
-      few-sources = w .few-sources;
-      few-links = w .few-links;
-      run-some = w .run-some;
-      run-most = w .run-most;
-      source-scale = w .source-scale;
-      link-from = w .link-from;
-      link-to = w .link-to;
-      link-critical = w .link-critical;
-      link-rises = w .link-rises;
-      no-cycle = acyclic;
-      not-heavy = light;
-    }
+use Rattle.theory.proofs.WellFormed.{Fielded, WellFormed, Shaped}
 
 -- the place of a link that exists
 pub record Place (d : Description) (i j : ℕ) : Type 0 where
@@ -105,4 +58,4 @@ shaped-fields d w =
     }
 
 pub shaped : (d : Description) → WellFormed d → Shaped (system d)
-shaped d w = shaped-fields d (fields-of w)
+shaped d w = shaped-fields d (w .fields)

@@ -20,7 +20,7 @@ use Rattle.model.specs.Field.{fieldOf, fieldCount, isTask, isSource}
 use Rattle.model.specs.File.{fileOf, parseFile, lastChecks, finished, readFile, overfull, judge}
 use Rattle.lemmas.proofs.Tests.{or-new, or-cases, and-left, and-right}
 use Rattle.theory.proofs.WellFormed.{WellFormed, rises}
-use Rattle.theory.proofs.Fielded.{Fielded, well-formed}
+use Rattle.theory.proofs.WellFormed.{Fielded}
 use Rattle.theory.proofs.RecordLaws.{Widths, copyAt, progressAt, read-start, field-task, field-source, field-link}
 use Rattle.theory.proofs.RecordState.{lastFrom, lastTo, progress-tasks, progress-sources, progress-links, copy-links}
 use Rattle.theory.proofs.JudgeLaws.{Passes, fine-passes, Checked, all-checked, LastPasses, last-passes, read-parsed, read-last, Few, few-counts, judge-few, judge-read, copy-system}
@@ -90,9 +90,12 @@ module _ (d : Description) (j : FieldsPass d) where
 
 judged-well-formed : (d : Description) → Judged d → WellFormed d
 judged-well-formed d j =
-    well-formed (pass-fielded d (record { few = j .few; passes = j .passes })) (judged-some d j)
-    (rw (copy-system d (j .few) (judged-some d j)) at (j .last .no-loop))
-    (rw (copy-system d (j .few) (judged-some d j)) at (j .last .light))
+    record {
+      fields = pass-fielded d (record { few = j .few; passes = j .passes });
+      some-task = judged-some d j;
+      no-cycle = rw (copy-system d (j .few) (judged-some d j)) at (j .last .no-loop);
+      not-heavy = rw (copy-system d (j .few) (judged-some d j)) at (j .last .light);
+    }
 
 -- a record whose counts and fields are accepted has good fields
 pub record-fielded : (d : Description) → Widths d → overfull d ≡ false → parseFile (fileOf d) .outcome ≡ Done → Fielded d

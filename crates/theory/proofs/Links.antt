@@ -8,7 +8,7 @@ use Rattle.model.specs.declared.Description.{Description}
 use Rattle.model.specs.Basics.{anyN}
 use Rattle.model.specs.Graph.{system, linkAt}
 use Rattle.theory.proofs.WellFormed.{IsTask, IsSource}
-use Rattle.theory.proofs.Fielded.{Fielded}
+use Rattle.theory.proofs.WellFormed.{Fielded}
 
 -- a node and a task that tables by number have room for
 abbrev pub Linkable : ℕ → ℕ → Type 0

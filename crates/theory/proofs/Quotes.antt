@@ -73,11 +73,11 @@ held-slower d g t t′ l p h b c e =
     (spaced d g t′ (omega arith) b)
     (wider d g t t′ p h)
     (linkAt d l)
-    (λ q. from (g .link-from l c) q)
+    (λ q. from (g .fields .link-from l c) q)
     e
   where
     from : IsTask (system d) (linkAt d l .from) ⊎ IsSource (system d) (linkAt d l .from) → 33 ≤ linkAt d l .from → spacingOf d t′ (linkAt d l .from) ≤ spacingOf d t (linkAt d l .from)
-    from (inl x) q = absurd (omega (arith, x .1, g .few-tasks))
+    from (inl x) q = absurd (omega (arith, x .1, g .fields .few-tasks))
     from (inr x) q = gap-anti d g (linkAt d l .from) (x .0) (x .1) t t′ p h
 
 pub all-slower : (d : Description) → WellFormed d → (t t′ : ℕ) → 1 ≤ t → t ≤ t′ → t′ ≤ 3000 → allHeld d t′ ≡ true → allHeld d t ≡ true

@@ -26,7 +26,7 @@ use Rattle.theory.proofs.RecordState.{filled-is, copy-links}
 use Rattle.theory.proofs.JudgeLaws.{Few, copy-system, judge-read, read-parsed, read-last}
 use Rattle.theory.proofs.ReadLaws.{Whence, so-far-start, parse-whence}
 use Rattle.theory.proofs.FileLength.{file-length}
-use Rattle.theory.proofs.Fielded.{Fielded}
+use Rattle.theory.proofs.WellFormed.{Fielded}
 use Rattle.theory.proofs.FileLaws.{judge-judged, judge-well-formed, record-fielded}
 
 -- a list that holds no blank entry below n has n entries
@@ -41,23 +41,23 @@ entries l n z h = go (cmp n (length l))
 -- what a well-formed description holds below its counts is no blank
 has-runs : (d : Description) → WellFormed d → d .«task_count» ≤ length (d .runs)
 has-runs d w = entries (d .runs) (d .«task_count») 0
-    (λ k h e. let i : suc k - 1 ≡ k = omega arith in omega (arith, e, rw i at (w .run-some (suc k) (omega arith) h)))
+    (λ k h e. let i : suc k - 1 ≡ k = omega arith in omega (arith, e, rw i at (w .fields .run-some (suc k) (omega arith) h)))
 
 has-sources : (d : Description) → WellFormed d → d .«source_count» ≤ length (d .sources)
 has-sources d w = entries (d .sources) (d .«source_count») noSource
     (λ k h e. let i : 33 + k - 33 ≡ k = omega arith in
     let q : getD (d .sources) (33 + k - 33) noSource ≡ noSource = rw i e in
-    not-both (w .source-scale (33 + k) (omega arith) (omega arith)) (ap (λ (x : SourceSlot). onScale (OfSource (x .source))) q))
+    not-both (w .fields .source-scale (33 + k) (omega arith) (omega arith)) (ap (λ (x : SourceSlot). onScale (OfSource (x .source))) q))
 
 has-links : (d : Description) → WellFormed d → d .«link_count» ≤ length (d .links)
 unfolding system
 has-links d w = entries (d .links) (d .«link_count») noLink
-    (λ k h e. let t = w .link-to k h in omega (arith, t .0, ap (λ (x : Link). x .to) e))
+    (λ k h e. let t = w .fields .link-to k h in omega (arith, t .0, ap (λ (x : Link). x .to) e))
 
 pub copy-trimmed : (d : Description) → WellFormed d → copyAt d (fieldCount d) ≡ trimmed d
 unfolding trimmed
 copy-trimmed d w =
-    rw (copy-links d (d .«link_count»), filled-is 32 (d .runs) (d .«task_count») 0 (has-runs d w) (w .few-tasks), filled-is 16 (d .sources) (d .«source_count») noSource (has-sources d w) (w .few-sources), filled-is 256 (d .links) (d .«link_count») noLink (has-links d w) (w .few-links))
+    rw (copy-links d (d .«link_count»), filled-is 32 (d .runs) (d .«task_count») 0 (has-runs d w) (w .fields .few-tasks), filled-is 16 (d .sources) (d .«source_count») noSource (has-sources d w) (w .fields .few-sources), filled-is 256 (d .links) (d .«link_count») noLink (has-links d w) (w .fields .few-links))
 
 abbrev done-with : Description → Reading
 done-with d = record { outcome = Done; description = d }
@@ -108,7 +108,7 @@ accepted-length s b e = rw (read-writes s b e) at (file-length (readFile s .desc
 -- the record that comes back has the same graph
 pub trimmed-system : (d : Description) → WellFormed d → system (trimmed d) ≡ system d
 trimmed-system d w =
-    rw (copy-trimmed d w) at (copy-system d (record { tasks = w .few-tasks; sources = w .few-sources; links = w .few-links }) (w .some-task))
+    rw (copy-trimmed d w) at (copy-system d (record { tasks = w .fields .few-tasks; sources = w .fields .few-sources; links = w .fields .few-links }) (w .some-task))
 
 -- a file whose fields are all accepted gives a description with good fields
 pub parsed-whence : (s : List ℕ) → Bytes s → parseFile s .outcome ≡ Done → Whence s (parseFile s .description)

@@ -46,12 +46,12 @@ spacing-most (Paced d) t c = omega (arith, div-le-self 600000000 (t * d))
 module _ (d : Description) (g : WellFormed d) (u : ℕ) (from : 33 ≤ u) (within-count : u < 33 + d .«source_count») where
   pub gap-anti : (t t′ : ℕ) → 1 ≤ t → t ≤ t′ → spacingOf d t′ u ≤ spacingOf d t u
   unfolding spacingOf
-  gap-anti t t′ p h = spacing-anti (sourceAt d u) t t′ (g .source-scale u from within-count) p h
+  gap-anti t t′ p h = spacing-anti (sourceAt d u) t t′ (g .fields .source-scale u from within-count) p h
 
   pub gap-some : (t : ℕ) → 1 ≤ t → t ≤ 3000 → 1 ≤ spacingOf d t u
   unfolding spacingOf
-  gap-some t p h = spacing-some (sourceAt d u) t (g .source-scale u from within-count) p h
+  gap-some t p h = spacing-some (sourceAt d u) t (g .fields .source-scale u from within-count) p h
 
   pub gap-most : (t : ℕ) → spacingOf d t u ≤ 1000000000
   unfolding spacingOf
-  gap-most t = spacing-most (sourceAt d u) t (g .source-scale u from within-count)
+  gap-most t = spacing-most (sourceAt d u) t (g .fields .source-scale u from within-count)

@@ -1,4 +1,4 @@
--- What is known of every accepted description and of its loads: the two records that later proofs go by.
+-- What is known of every accepted description and of its loads: the records that later proofs go by.
 use Prim.Native.Nat.{ℕ, suc, _+_, _≤_, _<_}
 use mathlib.Core.Path.{_≡_}
 use mathlib.Core.Bool.{Bool, true, false, _||_, _&&_}
@@ -24,9 +24,8 @@ IsSource s i = (33 ≤ i) × (i < 33 + s .sources)
 abbrev pub rises : Link → Link → Bool
 rises a b = ltb (a .from) (b .from) || (eqb (a .from) (b .from) && ltb (a .to) (b .to))
 
--- a description that is judged as done
-pub record WellFormed (d : Description) : Type 0 where
-  pub some-task : 1 ≤ d .«task_count»
+-- counts within their limits, runs and sources on scale, links that rise and end at nodes of the file
+pub record Fielded (d : Description) : Type 0 where
   pub few-tasks : d .«task_count» ≤ 32
   pub few-sources : d .«source_count» ≤ 16
   pub few-links : d .«link_count» ≤ 256
@@ -37,6 +36,11 @@ pub record WellFormed (d : Description) : Type 0 where
   pub link-to : (l : ℕ) → l < d .«link_count» → IsTask (system d) (linkAt d l .to)
   pub link-critical : (l : ℕ) → l < d .«link_count» → linkAt d l .critical ≤ 1
   pub link-rises : (l : ℕ) → suc l < d .«link_count» → rises (linkAt d l) (linkAt d (suc l)) ≡ true
+
+-- a description that is judged as done: it has a task, its links have no cycle, and its loads are within their limit
+pub record WellFormed (d : Description) : Type 0 where
+  pub fields : Fielded d
+  pub some-task : 1 ≤ d .«task_count»
   pub no-cycle : cyclic (system d) ≡ false
   pub not-heavy : tooHeavy (system d) ≡ false
 

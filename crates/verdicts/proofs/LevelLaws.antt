@@ -89,23 +89,23 @@ module _ (d : Description) (t : ℕ) where
   levels-all g o h = all-of _ 0 (d .«link_count») (λ l p q. go l (omega arith) (cmp (linkAt d l .critical) 1) (cmp (linkAt d l .from) 33))
     where
       source : (l : ℕ) → l < d .«link_count» → linkAt d l .critical ≡ 1 → 33 ≤ linkAt d l .from → heldAt d (spacingOf d t) l ≡ true
-      source l p c f = level-at d (spacingOf d t) (linkAt d l .to) l (h (linkAt d l .to) (g .link-to l p .0) (g .link-to l p .1)) p (from-is (linkAt d l .to) (linkAt d l) c f refl)
+      source l p c f = level-at d (spacingOf d t) (linkAt d l .to) l (h (linkAt d l .to) (g .fields .link-to l p .0) (g .fields .link-to l p .1)) p (from-is (linkAt d l .to) (linkAt d l) c f refl)
 
       go : (l : ℕ) → l < d .«link_count» → Cmp (linkAt d l .critical) 1 → Cmp (linkAt d l .from) 33 → heldAt d (spacingOf d t) l ≡ true
       go l p (less c) f = free-held d (spacingOf d t) l (omega arith)
       go l p (same c) (less f) = order-held d (spacingOf d t) l c f ∙ answer (betweenTasks (linkAt d l)) _ (between-is (linkAt d l) c f) (all-at _ 0 (d .«link_count») o l (omega arith) (omega arith))
       go l p (same c) (same f) = source l p c (omega arith)
       go l p (same c) (more f) = source l p c (omega arith)
-      go l p (more c) f = absurd (omega (arith, g .link-critical l p))
+      go l p (more c) f = absurd (omega (arith, g .fields .link-critical l p))
 
 -- held at some spacings, a level is held at wider ones
 pub level-wider : (d : Description) → WellFormed d → (gap gap′ : ℕ → ℕ) (j : ℕ) → Spaced (system d) gap → Wider (system d) gap gap′ → levelHeld d gap j ≡ true → levelHeld d gap′ j ≡ true
 unfolding system
 level-wider d g gap gap′ j s w e =
-    level-of d gap′ j (λ l p f. rw (verdict-wider (system d) gap gap′ s w (linkAt d l) (λ q. from l q (g .link-from l p)) (not-true _ (level-at d gap j l e p f))))
+    level-of d gap′ j (λ l p f. rw (verdict-wider (system d) gap gap′ s w (linkAt d l) (λ q. from l q (g .fields .link-from l p)) (not-true _ (level-at d gap j l e p f))))
   where
     from : (l : ℕ) → 33 ≤ linkAt d l .from → IsTask (system d) (linkAt d l .from) ⊎ IsSource (system d) (linkAt d l .from) → gap (linkAt d l .from) ≤ gap′ (linkAt d l .from)
-    from l q (inl x) = absurd (omega (arith, x .1, g .few-tasks))
+    from l q (inl x) = absurd (omega (arith, x .1, g .fields .few-tasks))
     from l q (inr x) = w (linkAt d l .from) (x .0) (x .1)
 
 -- where a level or the orders are not held, not all is

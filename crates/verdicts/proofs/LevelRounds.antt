@@ -28,7 +28,7 @@ spaced-in d gap gaps z u a b =
 module _ (d : Description) (g : WellFormed d) where
   pub light : (i j : ℕ) → 1 ≤ j → load (system d) i j ≤ 1000000000
   unfolding system
-  light = load-light (system d) (shaped d g) (g .few-sources) (loaded (system d) (shaped d g) (g .no-cycle)) (g .not-heavy)
+  light = load-light (system d) (shaped d g) (g .fields .few-sources) (loaded (system d) (shaped d g) (g .no-cycle)) (g .not-heavy)
 
   pub start-light : (j : ℕ) → 1 ≤ j → startOf (system d) j ≤ 1000000000
   unfolding startOf
@@ -39,7 +39,7 @@ module _ (d : Description) (g : WellFormed d) where
     pub level-on : Fit (d .«source_count») gaps → LevelOn start loads gaps (d .«source_count»)
     level-on f =
         record {
-          few = g .few-sources;
+          few = g .fields .few-sources;
           start-most = rw start-is (start-light j task);
           load-most = λ u q. rw (load-is u q) (light (33 + u) j task);
           gap-some = f .some;

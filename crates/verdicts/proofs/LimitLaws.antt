@@ -14,7 +14,7 @@ use Rattle.model.specs.Graph.{linkAt}
 use Rattle.lemmas.proofs.Tests.{Cmp, less, same, more, cmp, at-or-not}
 use Rattle.lemmas.proofs.Table.{getD-same}
 use Rattle.theory.proofs.WellFormed.{WellFormed}
-use Rattle.theory.proofs.Fielded.{fields-of}
+
 use Rattle.theory.proofs.Links.{ends-inside}
 use Rattle.verdicts.specs.Slots.{limitBy, LimitsOf}
 
@@ -70,7 +70,7 @@ limits-more d gaps limits n g h p r =
     v = max (getD limits at 0) (limitBy gaps (linkAt d n))
 
     there : getD (set limits at v) at 0 ≡ v
-    there = getD-set-same limits at v 0 (omega (arith, r .sized, ends-inside d (fields-of g) n p .2, ends-inside d (fields-of g) n p .3))
+    there = getD-set-same limits at v 0 (omega (arith, r .sized, ends-inside d (g .fields) n p .2, ends-inside d (g .fields) n p .3))
 
     grows : (j : ℕ) → getD limits j 0 ≤ getD (set limits at v) j 0
     grows j = at-or-not (λ i. getD limits i 0 ≤ getD (set limits at v) i 0) at j (rw there (omega arith)) (λ ne. rw (getD-set-other limits at j v 0 ne) (omega arith))

@@ -59,10 +59,10 @@ module _ (d : Description) (good : WellFormed d) (j : ℕ) (task : 1 ≤ j) (v :
   -- a critical link from a source to task j is in the task's set
   in-set : (l : ℕ) → l < d .«link_count» → fromSource j (linkAt d l) ≡ true → (linkAt d l .from - 33 < d .«source_count») × (member (v .critical) (linkAt d l .from - 33) ≡ true)
   unfolding criticalTo system
-  in-set l q e = go (is-from j (linkAt d l) e) (good .link-from l q)
+  in-set l q e = go (is-from j (linkAt d l) e) (good .fields .link-from l q)
     where
       go : (linkAt d l .critical ≡ 1) × (33 ≤ linkAt d l .from) × (linkAt d l .to ≡ j) → IsTask (system d) (linkAt d l .from) ⊎ IsSource (system d) (linkAt d l .from) → (linkAt d l .from - 33 < d .«source_count») × (member (v .critical) (linkAt d l .from - 33) ≡ true)
-      go k (inl x) = absurd (omega (arith, k .1, x .1, good .few-tasks))
+      go k (inl x) = absurd (omega (arith, k .1, x .1, good .fields .few-tasks))
       go k (inr x) =
           let z : linkAt d l .from ≡ 33 + (linkAt d l .from - 33) = omega (arith, k .1) in
           (omega (arith, x .1, k .1), own .critical-is (linkAt d l .from - 33) ∙ any-at _ 0 (d .«link_count») l (omega arith) (omega arith) (critical-is (33 + (linkAt d l .from - 33)) j (linkAt d l) (k .0) z (k .2)))

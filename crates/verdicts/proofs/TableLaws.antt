@@ -77,20 +77,20 @@ module _ (d : Description) (levels starts : List ℕ) (orders : List Bool) (tabl
   pub leveled : Leveled levels starts (d .«task_count») (d .«source_count»)
   leveled =
       record {
-        few-tasks = g .few-tasks;
-        few-sources = g .few-sources;
-        start-most = λ j p. rw (tables .by-start j (omega (arith, g .few-tasks))) (start-light d g (suc j) (omega arith));
-        load-most = λ j u p q. rw (tables .by-level j u (omega (arith, g .few-tasks)) q) (light d g (33 + u) (suc j) (omega arith));
+        few-tasks = g .fields .few-tasks;
+        few-sources = g .fields .few-sources;
+        start-most = λ j p. rw (tables .by-start j (omega (arith, g .fields .few-tasks))) (start-light d g (suc j) (omega arith));
+        load-most = λ j u p q. rw (tables .by-level j u (omega (arith, g .fields .few-tasks)) q) (light d g (33 + u) (suc j) (omega arith));
       }
 
   module _ (gap : ℕ → ℕ) (gaps : List ℕ) (z : GapsIn gap (d .«source_count») gaps) (limits : List ℕ) (m : LimitsOf d gaps limits) (reaches : List ℕ) (r : ReachesOf d gap limits reaches) where
     -- the spacing of a source link's source
     from-gap : (l : ℕ) → l < d .«link_count» → 33 ≤ linkAt d l .from → getD gaps (linkAt d l .from - 33) 0 ≡ gap (linkAt d l .from)
     unfolding system
-    from-gap l p q = go (g .link-from l p)
+    from-gap l p q = go (g .fields .link-from l p)
       where
         go : IsTask (system d) (linkAt d l .from) ⊎ IsSource (system d) (linkAt d l .from) → getD gaps (linkAt d l .from - 33) 0 ≡ gap (linkAt d l .from)
-        go (inl x) = absurd (omega (arith, x .1, g .few-tasks))
+        go (inl x) = absurd (omega (arith, x .1, g .fields .few-tasks))
         go (inr x) =
             let e : 33 + (linkAt d l .from - 33) ≡ linkAt d l .from = omega arith in
             z .at (linkAt d l .from - 33) (omega (arith, x .1)) ∙ ap gap e
@@ -100,7 +100,7 @@ module _ (d : Description) (levels starts : List ℕ) (orders : List Bool) (tabl
     source-by l p q c =
         let i : ℕ = linkAt d l .from in
         let j : ℕ = linkAt d l .to in
-        let k = g .link-to l p in
+        let k = g .fields .link-to l p in
         let e : suc (j - 1) ≡ j = omega (arith, k .0) in
         let x : getD reaches (j - 1) 0 ≡ levelReach (system d) gap j (getD limits (j - 1) 0) = r (j - 1) (omega (arith, k .0, k .1)) ∙ ap (λ n. levelReach (system d) gap n (getD limits (j - 1) 0)) e in
         let y : getD gaps (i - 33) 0 ≡ gap i = from-gap l p q in
@@ -114,7 +114,7 @@ module _ (d : Description) (levels starts : List ℕ) (orders : List Bool) (tabl
         k = linkAt d l
 
         one : eqb (k .critical) 0 ≡ false → k .critical ≡ 1
-        one e = omega (arith, eqb-false (k .critical) 0 e, g .link-critical l p)
+        one e = omega (arith, eqb-false (k .critical) 0 e, g .fields .link-critical l p)
 
         go : (a : Bool) → eqb (k .critical) 0 ≡ a → (b : Bool) → ltb (k .from) 33 ≡ b
             → cond a Free (cond b (cond (getD orders l false) HeldOrder DoubtOrder) (cond (ltb (getD reaches (k .to - 1) 0) (cond b 0 (getD gaps (k .from - 33) 0))) (Held (getD reaches (k .to - 1) 0) (cond b 0 (getD gaps (k .from - 33) 0))) (Doubt (cond b 0 (getD gaps (k .from - 33) 0)))))

@@ -7,7 +7,7 @@ use lib.ListN.{length, getD, length-set}
 use Rattle.model.specs.Graph.{linkAt}
 use Rattle.lemmas.proofs.Table.{stored}
 use Rattle.orders.specs.Orders.{orderBy}
-use Rattle.theory.proofs.Fielded.{fields-of}
+
 use Rattle.theory.proofs.Links.{ends-inside}
 use Rattle.orders.proofs.orders_by.Statement.{statement}
 use Rattle.orders.proofs.orders_by.Tie as tie
@@ -22,25 +22,25 @@ loop-holds : tie.Need-loop-holds Inv-loop μ-loop
 loop-holds c = (omega arith, refl, λ k p. absurd (omega arith))
 
 mul-link : tie.Need-mul-link Inv-loop μ-loop
-mul-link c = omega (arith, c .before .before .pre .few-links)
+mul-link c = omega (arith, c .before .before .pre .fields .few-links)
 
 element-copy-out-link : tie.Need-element-copy-out-link Inv-loop μ-loop
-element-copy-out-link c = omega (arith, c .before .before .pre .few-links)
+element-copy-out-link c = omega (arith, c .before .before .pre .fields .few-links)
 
 order-by-requires : tie.Need-order-by-requires Inv-loop μ-loop
-order-by-requires c κs = ends-inside (c .before .before .before .args .t1) (fields-of (c .before .before .before .pre)) (c .before .before .loop .l) (omega arith) .0
+order-by-requires c κs = ends-inside (c .before .before .before .args .t1) (c .before .before .before .pre .fields) (c .before .before .loop .l) (omega arith) .0
 
 array-write-orders : tie.Need-array-write-orders Inv-loop μ-loop
-array-write-orders c = omega (arith, c .before .before .before .before .pre .few-links)
+array-write-orders c = omega (arith, c .before .before .before .before .pre .fields .few-links)
 
 add-l : tie.Need-add-l Inv-loop μ-loop
-add-l c = omega (arith, c .before .before .before .before .pre .few-links)
+add-l c = omega (arith, c .before .before .before .before .pre .fields .few-links)
 
 loop-less : tie.Need-loop-less Inv-loop μ-loop
 loop-less c = omega arith
 
 loop-again : tie.Need-loop-again Inv-loop μ-loop
-loop-again c = let L = c .before .before .before .loop in let S = c .before .before .before .before in let d = S .args .t1 in (omega arith, length-set (L .orders) (L .l) (c .order-by .result) ∙ L .inv .1, stored (λ k x. x ≡ orderBy (S .args .into .now) (linkAt d k)) false (L .orders) (L .l) (c .order-by .result) (omega (arith, L .inv .1, S .pre .few-links)) (L .inv .2) (c .order-by .ensures))
+loop-again c = let L = c .before .before .before .loop in let S = c .before .before .before .before in let d = S .args .t1 in (omega arith, length-set (L .orders) (L .l) (c .order-by .result) ∙ L .inv .1, stored (λ k x. x ≡ orderBy (S .args .into .now) (linkAt d k)) false (L .orders) (L .l) (c .order-by .result) (omega (arith, L .inv .1, S .pre .fields .few-links)) (L .inv .2) (c .order-by .ensures))
 
 returns : tie.Need-returns Inv-loop μ-loop
 returns c = λ l p. c .before .loop .inv .2 l (omega (arith, c .loop-test .left))

@@ -30,13 +30,13 @@ unfolding allN
 loop-holds c = (omega arith, refl)
 
 mul-link : tie.Need-mul-link Inv-loop μ-loop
-mul-link c = omega (arith, c .before .before .pre .0 .few-links)
+mul-link c = omega (arith, c .before .before .pre .0 .fields .few-links)
 
 element-copy-out-link : tie.Need-element-copy-out-link Inv-loop μ-loop
-element-copy-out-link c = omega (arith, c .before .before .pre .0 .few-links)
+element-copy-out-link c = omega (arith, c .before .before .pre .0 .fields .few-links)
 
 element-copy-out-order-held : tie.Need-element-copy-out-order-held Inv-loop μ-loop
-element-copy-out-order-held c = omega (arith, c .before .before .before .pre .0 .few-links)
+element-copy-out-order-held c = omega (arith, c .before .before .before .pre .0 .fields .few-links)
 
 order-held-requires : tie.Need-order-held-requires Inv-loop μ-loop
 order-held-requires c κs = tt
@@ -50,7 +50,7 @@ returns c =
     sym (false-of _ (λ e. not-both (all-at (held (S .args .t1)) 0 (S .args .t1 .«link_count») e (L .l) (omega arith) (omega arith)) p))
 
 add-l : tie.Need-add-l Inv-loop μ-loop
-add-l c = omega (arith, c .before .before .before .before .before .before .pre .0 .few-links)
+add-l c = omega (arith, c .before .before .before .before .before .before .pre .0 .fields .few-links)
 
 loop-less : tie.Need-loop-less Inv-loop μ-loop
 loop-less c = omega arith

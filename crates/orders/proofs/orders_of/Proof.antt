@@ -1,12 +1,12 @@
 -- `orders_of` meets its contract. Assumes nothing.
 use borrow.Author.Needs.{needs}
-use Rattle.theory.proofs.Fielded.{fields-of}
+
 use Rattle.orders.proofs.OrderLaws.{orders-of}
 use Rattle.orders.proofs.orders_of.Statement.{statement}
 use Rattle.orders.proofs.orders_of.Tie as tie
 
 predecessors-requires : tie.Need-predecessors-requires
-predecessors-requires c κs = fields-of (c .pre)
+predecessors-requires c κs = c .pre .fields
 
 orders-by-requires : tie.Need-orders-by-requires
 orders-by-requires c κs = search needs

@@ -28,18 +28,18 @@ loop-holds : tie.Need-loop-holds Inv-loop μ-loop
 loop-holds c = (omega arith, omega arith, omega arith, c .gaps-by .ensures, λ d k. best-none d)
 
 level-of-requires : tie.Need-level-of-requires Inv-loop μ-loop
-level-of-requires c κs = let w = c .before .before .before .before .pre in (omega (arith, w .tables .good .few-sources, w .tables .by-source .counted), omega (arith, c .loop-test .taken, w .tables .good .few-tasks, w .tables .counted))
+level-of-requires c κs = let w = c .before .before .before .before .pre in (omega (arith, w .tables .good .fields .few-sources, w .tables .by-source .counted), omega (arith, c .loop-test .taken, w .tables .good .fields .few-tasks, w .tables .counted))
 
 level-held-requires : tie.Need-level-held-requires Inv-loop μ-loop
 level-held-requires c κs =
     let a = c .before .before .before .before .before .before .args in
     let w = c .before .before .before .before .before .before .pre in
     let L = c .before .before .before .loop in
-    let p : L .j < 32 = omega (arith, c .before .before .loop-test .taken, w .tables .good .few-tasks, w .tables .counted) in
+    let p : L .j < 32 = omega (arith, c .before .before .loop-test .taken, w .tables .good .fields .few-tasks, w .tables .counted) in
     let d = w .of in let k = w .tables in from-on d (suc (L .j)) (c .before .level-of .result) (a .sources) (L .best) (L .gaps) (level-from d (a .levels .now) (a .starts .now) (a .critical .now) (a .sources) (a .tasks) (L .j) (c .before .level-of .result) k p (c .before .level-of .ensures)) (L .inv .3)
 
 add-j : tie.Need-add-j Inv-loop μ-loop
-add-j c = omega (arith, c .before .before .before .before .before .before .before .before .pre .tables .good .few-tasks, c .before .before .before .before .before .before .before .before .pre .tables .counted)
+add-j c = omega (arith, c .before .before .before .before .before .before .before .before .pre .tables .good .fields .few-tasks, c .before .before .before .before .before .before .before .before .pre .tables .counted)
 
 loop-less : tie.Need-loop-less Inv-loop μ-loop
 loop-less c = omega (arith, c .before .before .before .before .loop-test .taken)
@@ -49,7 +49,7 @@ loop-again c =
     let a = c .before .before .before .before .before .before .before .before .args in
     let w = c .before .before .before .before .before .before .before .before .pre in
     let L = c .before .before .before .before .before .loop in
-    let p : L .j < 32 = omega (arith, c .before .before .before .before .loop-test .taken, w .tables .good .few-tasks, w .tables .counted) in
+    let p : L .j < 32 = omega (arith, c .before .before .before .before .loop-test .taken, w .tables .good .fields .few-tasks, w .tables .counted) in
     (omega (arith, c .before .before .before .before .loop-test .taken), L .inv .1, L .inv .2, L .inv .3, λ d k. best-held d (L .j) (L .best) (sym (held-from d (suc (L .j)) (c .before .before .before .level-of .result) (a .sources) (L .best) (L .gaps) (c .before .level-held .result) (level-from d (a .levels .now) (a .starts .now) (a .critical .now) (a .sources) (a .tasks) (L .j) (c .before .before .before .level-of .result) k p (c .before .before .before .level-of .ensures)) (L .inv .3) (c .before .level-held .ensures)) ∙ c .if2 .taken) (L .inv .4 d k))
 
 slower-requires : tie.Need-slower-requires Inv-loop μ-loop
@@ -57,7 +57,7 @@ slower-requires c κs =
     let a = c .before .before .before .before .before .before .before .before .args in
     let w = c .before .before .before .before .before .before .before .before .pre in
     let L = c .before .before .before .before .before .loop in
-    let p : L .j < 32 = omega (arith, c .before .before .before .before .loop-test .taken, w .tables .good .few-tasks, w .tables .counted) in
+    let p : L .j < 32 = omega (arith, c .before .before .before .before .loop-test .taken, w .tables .good .fields .few-tasks, w .tables .counted) in
     let d = w .of in let k = w .tables in (record { of = d; at = suc (L .j); from = level-from d (a .levels .now) (a .starts .now) (a .critical .now) (a .sources) (a .tasks) (L .j) (c .before .before .before .level-of .result) k p (c .before .before .before .level-of .ensures) }, omega (arith, L .inv .1), omega (arith, L .inv .2))
 
 returns-2 : tie.Need-returns-2 Inv-loop μ-loop
@@ -65,7 +65,7 @@ returns-2 c =
     let a = c .before .before .before .before .before .before .before .before .before .before .args in
     let w = c .before .before .before .before .before .before .before .before .before .before .pre in
     let L = c .before .before .before .before .before .before .before .loop in
-    let p : L .j < 32 = omega (arith, c .before .before .before .before .before .before .loop-test .taken, w .tables .good .few-tasks, w .tables .counted) in
+    let p : L .j < 32 = omega (arith, c .before .before .before .before .before .before .loop-test .taken, w .tables .good .fields .few-tasks, w .tables .counted) in
     λ d k o. no-level d (k .good) (suc (L .j)) ((c .before .slower .ensures d (suc (L .j)) (level-from d (a .levels .now) (a .starts .now) (a .critical .now) (a .sources) (a .tasks) (L .j) (c .before .before .before .before .before .level-of .result) k p (c .before .before .before .before .before .level-of .ensures)) (sym (held-from d (suc (L .j)) (c .before .before .before .before .before .level-of .result) (a .sources) (L .best) (L .gaps) (c .before .before .before .level-held .result) (level-from d (a .levels .now) (a .starts .now) (a .critical .now) (a .sources) (a .tasks) (L .j) (c .before .before .before .before .before .level-of .result) k p (c .before .before .before .before .before .level-of .ensures)) (L .inv .3) (c .before .before .before .level-held .ensures)) ∙ c .before .before .if2 .left)) .none (c .if3 .taken))
 
 gaps-by-requires-2 : tie.Need-gaps-by-requires-2 Inv-loop μ-loop
@@ -73,11 +73,11 @@ gaps-by-requires-2 c κs =
     let a = c .before .before .before .before .before .before .before .before .before .before .args in
     let w = c .before .before .before .before .before .before .before .before .before .before .pre in
     let L = c .before .before .before .before .before .before .before .loop in
-    let p : L .j < 32 = omega (arith, c .before .before .before .before .before .before .loop-test .taken, w .tables .good .few-tasks, w .tables .counted) in
+    let p : L .j < 32 = omega (arith, c .before .before .before .before .before .before .loop-test .taken, w .tables .good .fields .few-tasks, w .tables .counted) in
     let d = w .of in let k = w .tables in let z = best-slower d (k .good) (L .j) (L .best) (c .before .slower .result) (c .if3 .left) (c .before .slower .ensures d (suc (L .j)) (level-from d (a .levels .now) (a .starts .now) (a .critical .now) (a .sources) (a .tasks) (L .j) (c .before .before .before .before .before .level-of .result) k p (c .before .before .before .before .before .level-of .ensures)) (sym (held-from d (suc (L .j)) (c .before .before .before .before .before .level-of .result) (a .sources) (L .best) (L .gaps) (c .before .before .before .level-held .result) (level-from d (a .levels .now) (a .starts .now) (a .critical .now) (a .sources) (a .tasks) (L .j) (c .before .before .before .before .before .level-of .result) k p (c .before .before .before .before .before .level-of .ensures)) (L .inv .3) (c .before .before .before .level-held .ensures)) ∙ c .before .before .if2 .left)) (L .inv .4 d k) in (scaled-of d (a .sources) (k .good) (k .by-source), omega (arith, z .low), omega (arith, z .high))
 
 add-j-2 : tie.Need-add-j-2 Inv-loop μ-loop
-add-j-2 c = omega (arith, c .before .before .before .before .before .before .before .before .before .before .before .pre .tables .good .few-tasks, c .before .before .before .before .before .before .before .before .before .before .before .pre .tables .counted)
+add-j-2 c = omega (arith, c .before .before .before .before .before .before .before .before .before .before .before .pre .tables .good .fields .few-tasks, c .before .before .before .before .before .before .before .before .before .before .before .pre .tables .counted)
 
 loop-less-2 : tie.Need-loop-less-2 Inv-loop μ-loop
 loop-less-2 c = omega (arith, c .before .before .before .before .before .before .before .loop-test .taken)
@@ -87,7 +87,7 @@ loop-again-2 c =
     let a = c .before .before .before .before .before .before .before .before .before .before .before .args in
     let w = c .before .before .before .before .before .before .before .before .before .before .before .pre in
     let L = c .before .before .before .before .before .before .before .before .loop in
-    let p : L .j < 32 = omega (arith, c .before .before .before .before .before .before .before .loop-test .taken, w .tables .good .few-tasks, w .tables .counted) in
+    let p : L .j < 32 = omega (arith, c .before .before .before .before .before .before .before .loop-test .taken, w .tables .good .fields .few-tasks, w .tables .counted) in
     let z : (d : Description) → LevelTables d (a .levels .now) (a .starts .now) (a .critical .now) (a .sources) (a .tasks) → Best d (L .j + 1) (c .before .before .slower .result) = λ d k. best-slower d (k .good) (L .j) (L .best) (c .before .before .slower .result) (c .before .if3 .left) (c .before .before .slower .ensures d (suc (L .j)) (level-from d (a .levels .now) (a .starts .now) (a .critical .now) (a .sources) (a .tasks) (L .j) (c .before .before .before .before .before .before .level-of .result) k p (c .before .before .before .before .before .before .level-of .ensures)) (sym (held-from d (suc (L .j)) (c .before .before .before .before .before .before .level-of .result) (a .sources) (L .best) (L .gaps) (c .before .before .before .before .level-held .result) (level-from d (a .levels .now) (a .starts .now) (a .critical .now) (a .sources) (a .tasks) (L .j) (c .before .before .before .before .before .before .level-of .result) k p (c .before .before .before .before .before .before .level-of .ensures)) (L .inv .3) (c .before .before .before .before .level-held .ensures)) ∙ c .before .before .before .if2 .left)) (L .inv .4 d k) in
     (omega (arith, c .before .before .before .before .before .before .before .loop-test .taken), z (w .of) (w .tables) .low, z (w .of) (w .tables) .high, c .gaps-by2 .ensures, z)
 

@@ -92,7 +92,7 @@ tempo-line-requires c κs = omega (arith, c .before .before .before .before .bef
 link-lines-requires : tie.Need-link-lines-requires
 link-lines-requires c κs =
     let t = c .before .before .before .tempo-line .ensures in
-    (good (c .before .before .before .before .before .before .before .before .before .before .before .before .before .before .before .before .before .before .before .before .before .before .before .before .before) .few-links, omega (arith, c .before .before .before .before .before .before .before .before .before .before .before .before .before .before .before .before .before .before .before .before .before .before .before .before .before .before .before .before .before .before .pre, room (c .before .before .before .before .before), t .put-end, t .put-size))
+    (good (c .before .before .before .before .before .before .before .before .before .before .before .before .before .before .before .before .before .before .before .before .before .before .before .before .before) .fields .few-links, omega (arith, c .before .before .before .before .before .before .before .before .before .before .before .before .before .before .before .before .before .before .before .before .before .before .before .before .before .before .before .before .before .before .pre, room (c .before .before .before .before .before), t .put-end, t .put-size))
 
 same-length-2 : tie.Need-same-length-2
 same-length-2 c = search needs

@@ -5,10 +5,10 @@ use Rattle.verdicts.proofs.tables_of.Statement.{statement}
 use Rattle.verdicts.proofs.tables_of.Tie as tie
 
 levels-of-requires : tie.Need-levels-of-requires
-levels-of-requires c κs = (c .pre .0 .few-tasks, c .pre .0 .few-sources, c .pre .1 .scaled)
+levels-of-requires c κs = (c .pre .0 .fields .few-tasks, c .pre .0 .fields .few-sources, c .pre .1 .scaled)
 
 starts-of-requires : tie.Need-starts-of-requires
-starts-of-requires c κs = (c .before .pre .0 .few-tasks, c .before .pre .1 .scaled)
+starts-of-requires c κs = (c .before .pre .0 .fields .few-tasks, c .before .pre .1 .scaled)
 
 critical-of-requires : tie.Need-critical-of-requires
 critical-of-requires c κs = c .before .before .pre .0
@@ -29,7 +29,7 @@ returns c =
     record {
       by-levels = record {
         good = S .pre .0;
-        by-level = levels-of d (S .args .adds .now) (S .args .works .now) (c .before .before .before .before .before .before .levels-of .result) (S .pre .0 .few-sources) (S .pre .1) (c .before .before .before .before .before .before .levels-of .ensures);
+        by-level = levels-of d (S .args .adds .now) (S .args .works .now) (c .before .before .before .before .before .before .levels-of .result) (S .pre .0 .fields .few-sources) (S .pre .1) (c .before .before .before .before .before .before .levels-of .ensures);
         by-start = starts-of d (S .args .adds .now) (S .args .works .now) (c .before .before .before .before .before .starts-of .result) (S .pre .1) (c .before .before .before .before .before .starts-of .ensures);
         by-critical = c .before .before .before .before .critical-of .ensures;
         by-source = c .sources-of .ensures;

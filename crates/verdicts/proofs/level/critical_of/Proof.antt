@@ -3,7 +3,7 @@ use Prim.Native.Nat.{_≤_, _-_}
 use mathlib.Core.Path.{_≡_}
 use native.Mathlib.Omega.{arith}
 use Rattle.model.specs.Graph.{linkAt}
-use Rattle.theory.proofs.Fielded.{fields-of}
+
 use Rattle.theory.proofs.Links.{from-most, to-most}
 use Rattle.verdicts.proofs.LevelSteps.{CriticalTo, critical-none, critical-more}
 use borrow.Author.Needs.{needs}
@@ -20,34 +20,34 @@ loop-holds : tie.Need-loop-holds Inv-loop μ-loop
 loop-holds c = (omega arith, critical-none (c .args .t1))
 
 mul-link : tie.Need-mul-link Inv-loop μ-loop
-mul-link c = omega (arith, c .before .before .pre .few-links)
+mul-link c = omega (arith, c .before .before .pre .fields .few-links)
 
 element-copy-out-link : tie.Need-element-copy-out-link Inv-loop μ-loop
-element-copy-out-link c = omega (arith, c .before .before .pre .few-links)
+element-copy-out-link c = omega (arith, c .before .before .pre .fields .few-links)
 
 index-requires : tie.Need-index-requires Inv-loop μ-loop
 index-requires c κs = search needs
 
 sub-at : tie.Need-sub-at Inv-loop μ-loop
-sub-at c = omega (arith, c .index .ensures, to-most (c .before .before .before .before .args .t1) (fields-of (c .before .before .before .before .pre)) (c .before .before .before .loop .l) (omega arith) .0)
+sub-at c = omega (arith, c .index .ensures, to-most (c .before .before .before .before .args .t1) (c .before .before .before .before .pre .fields) (c .before .before .before .loop .l) (omega arith) .0)
 
 mul-with-source : tie.Need-mul-with-source Inv-loop μ-loop
-mul-with-source c = omega (arith, c .index .ensures, to-most (c .before .before .before .before .args .t1) (fields-of (c .before .before .before .before .pre)) (c .before .before .before .loop .l) (omega arith) .1)
+mul-with-source c = omega (arith, c .index .ensures, to-most (c .before .before .before .before .args .t1) (c .before .before .before .before .pre .fields) (c .before .before .before .loop .l) (omega arith) .1)
 
 array-read-with-source : tie.Need-array-read-with-source Inv-loop μ-loop
-array-read-with-source c = omega (arith, c .index .ensures, to-most (c .before .before .before .before .args .t1) (fields-of (c .before .before .before .before .pre)) (c .before .before .before .loop .l) (omega arith) .1)
+array-read-with-source c = omega (arith, c .index .ensures, to-most (c .before .before .before .before .args .t1) (c .before .before .before .before .pre .fields) (c .before .before .before .loop .l) (omega arith) .1)
 
 with-source-requires : tie.Need-with-source-requires Inv-loop μ-loop
-with-source-requires c κs = from-most (c .before .before .before .before .args .t1) (fields-of (c .before .before .before .before .pre)) (c .before .before .before .loop .l) (omega arith)
+with-source-requires c κs = from-most (c .before .before .before .before .args .t1) (c .before .before .before .before .pre .fields) (c .before .before .before .loop .l) (omega arith)
 
 mul-sets : tie.Need-mul-sets Inv-loop μ-loop
-mul-sets c = omega (arith, c .before .index .ensures, to-most (c .before .before .before .before .before .args .t1) (fields-of (c .before .before .before .before .before .pre)) (c .before .before .before .before .loop .l) (omega arith) .1)
+mul-sets c = omega (arith, c .before .index .ensures, to-most (c .before .before .before .before .before .args .t1) (c .before .before .before .before .before .pre .fields) (c .before .before .before .before .loop .l) (omega arith) .1)
 
 array-write-sets : tie.Need-array-write-sets Inv-loop μ-loop
-array-write-sets c = omega (arith, c .before .index .ensures, to-most (c .before .before .before .before .before .args .t1) (fields-of (c .before .before .before .before .before .pre)) (c .before .before .before .before .loop .l) (omega arith) .1)
+array-write-sets c = omega (arith, c .before .index .ensures, to-most (c .before .before .before .before .before .args .t1) (c .before .before .before .before .before .pre .fields) (c .before .before .before .before .loop .l) (omega arith) .1)
 
 add-l : tie.Need-add-l Inv-loop μ-loop
-add-l c = omega (arith, c .before .before .before .before .before .pre .few-links)
+add-l c = omega (arith, c .before .before .before .before .before .pre .fields .few-links)
 
 loop-less : tie.Need-loop-less Inv-loop μ-loop
 loop-less c = omega arith
@@ -58,7 +58,7 @@ loop-again c =
     let S = c .before .before .before .before .before in
     let d = S .args .t1 in
     let e : c .before .index .result ≡ linkAt d (L .l) .to = c .before .index .ensures in
-    let k = to-most d (fields-of (S .pre)) (L .l) (omega arith) in
+    let k = to-most d (S .pre .fields) (L .l) (omega arith) in
     (omega arith, rw e (critical-more d (L .sets) (L .l) (c .with-source .result) (k .0) (k .1) (rw e at (c .with-source .ensures)) (L .inv .1)))
 
 returns : tie.Need-returns Inv-loop μ-loop

@@ -6,7 +6,7 @@ use lib.ListN.{getD, replicate, getD-replicate, List·getD-eq-default}
 use Rattle.model.specs.declared.VerdictSlot.{VerdictSlot}
 use Rattle.model.specs.Verdicts.{freeSlot}
 use Rattle.lemmas.proofs.Tests.{Cmp, less, same, more, cmp}
-use Rattle.theory.proofs.Fielded.{fields-of}
+
 use Rattle.theory.proofs.Links.{from-most, to-most}
 use Rattle.verdicts.proofs.SlotLaws.{SlotsTo, slot-in, slots-more, slots-done}
 use Rattle.verdicts.proofs.slots.decide_all.Statement.{statement}
@@ -28,31 +28,31 @@ loop-holds : tie.Need-loop-holds Inv-loop μ-loop
 loop-holds c = (omega arith, record { sized = refl; filled = λ k p. absurd (omega arith); rest = λ k p. free k (cmp k 256) })
 
 mul-link : tie.Need-mul-link Inv-loop μ-loop
-mul-link c = omega (arith, c .before .before .pre .few-links)
+mul-link c = omega (arith, c .before .before .pre .fields .few-links)
 
 element-copy-out-link : tie.Need-element-copy-out-link Inv-loop μ-loop
-element-copy-out-link c = omega (arith, c .before .before .pre .few-links)
+element-copy-out-link c = omega (arith, c .before .before .pre .fields .few-links)
 
 element-copy-out-verdict-from : tie.Need-element-copy-out-verdict-from Inv-loop μ-loop
-element-copy-out-verdict-from c = omega (arith, c .before .before .before .pre .few-links)
+element-copy-out-verdict-from c = omega (arith, c .before .before .before .pre .fields .few-links)
 
 verdict-from-requires : tie.Need-verdict-from-requires Inv-loop μ-loop
-verdict-from-requires c κs = let S = c .before .before .before .before in (from-most (S .args .t1) (fields-of (S .pre)) (c .before .before .before .loop .l) (omega arith), to-most (S .args .t1) (fields-of (S .pre)) (c .before .before .before .loop .l) (omega arith) .0, to-most (S .args .t1) (fields-of (S .pre)) (c .before .before .before .loop .l) (omega arith) .1)
+verdict-from-requires c κs = let S = c .before .before .before .before in (from-most (S .args .t1) (S .pre .fields) (c .before .before .before .loop .l) (omega arith), to-most (S .args .t1) (S .pre .fields) (c .before .before .before .loop .l) (omega arith) .0, to-most (S .args .t1) (S .pre .fields) (c .before .before .before .loop .l) (omega arith) .1)
 
 mul-slots : tie.Need-mul-slots Inv-loop μ-loop
-mul-slots c = omega (arith, c .before .before .before .before .before .pre .few-links)
+mul-slots c = omega (arith, c .before .before .before .before .before .pre .fields .few-links)
 
 array-set-from-slots : tie.Need-array-set-from-slots Inv-loop μ-loop
-array-set-from-slots c = omega (arith, c .before .before .before .before .before .pre .few-links)
+array-set-from-slots c = omega (arith, c .before .before .before .before .before .pre .fields .few-links)
 
 add-l : tie.Need-add-l Inv-loop μ-loop
-add-l c = omega (arith, c .before .before .before .before .before .pre .few-links)
+add-l c = omega (arith, c .before .before .before .before .before .pre .fields .few-links)
 
 loop-less : tie.Need-loop-less Inv-loop μ-loop
 loop-less c = omega arith
 
 loop-again : tie.Need-loop-again Inv-loop μ-loop
-loop-again c = let L = c .before .before .before .before .loop in let S = c .before .before .before .before .before in (omega arith, slots-more (S .args .t1) (S .args .orders .now) (S .args .gaps .now) (S .args .reaches .now) (L .slots) (L .l) (record { verdict = c .verdict-from .result }) (omega (arith, S .pre .few-links)) (slot-in (S .args .t1) (S .args .orders .now) (S .args .gaps .now) (S .args .reaches .now) (L .l) (c .verdict-from .result) (omega arith) (c .verdict-from .ensures)) (L .inv .1))
+loop-again c = let L = c .before .before .before .before .loop in let S = c .before .before .before .before .before in (omega arith, slots-more (S .args .t1) (S .args .orders .now) (S .args .gaps .now) (S .args .reaches .now) (L .slots) (L .l) (record { verdict = c .verdict-from .result }) (omega (arith, S .pre .fields .few-links)) (slot-in (S .args .t1) (S .args .orders .now) (S .args .gaps .now) (S .args .reaches .now) (L .l) (c .verdict-from .result) (omega arith) (c .verdict-from .ensures)) (L .inv .1))
 
 returns : tie.Need-returns Inv-loop μ-loop
 returns c = let L = c .before .loop in let S = c .before .before in slots-done (S .args .t1) (S .args .orders .now) (S .args .gaps .now) (S .args .reaches .now) (L .slots) (L .l) (c .loop-test .left) (L .inv .1)

@@ -4,7 +4,7 @@ use mathlib.Core.Path.{_≡_, refl}
 use native.Mathlib.Omega.{arith}
 use borrow.Author.Needs.{needs}
 use Rattle.model.specs.Graph.{linkAt}
-use Rattle.theory.proofs.Fielded.{fields-of}
+
 use Rattle.theory.proofs.Links.{from-most, to-most}
 use Rattle.verdicts.proofs.LimitLaws.{zeros-most, LimitsTo, limits-more, limits-done}
 use Rattle.verdicts.proofs.slots.limits_at.Statement.{statement}
@@ -20,37 +20,37 @@ loop-holds : tie.Need-loop-holds Inv-loop μ-loop
 loop-holds c = (omega arith, record { sized = refl; covers = λ l p. absurd (omega arith); most = zeros-most 32 })
 
 mul-link : tie.Need-mul-link Inv-loop μ-loop
-mul-link c = omega (arith, c .before .before .pre .0 .few-links)
+mul-link c = omega (arith, c .before .before .pre .0 .fields .few-links)
 
 element-copy-out-link : tie.Need-element-copy-out-link Inv-loop μ-loop
-element-copy-out-link c = omega (arith, c .before .before .pre .0 .few-links)
+element-copy-out-link c = omega (arith, c .before .before .pre .0 .fields .few-links)
 
 index-requires : tie.Need-index-requires Inv-loop μ-loop
 index-requires c κs = search needs
 
 sub-at : tie.Need-sub-at Inv-loop μ-loop
-sub-at c = omega (arith, c .index .ensures, to-most (c .before .before .before .before .args .t1) (fields-of (c .before .before .before .before .pre .0)) (c .before .before .before .loop .l) (omega arith) .0)
+sub-at c = omega (arith, c .index .ensures, to-most (c .before .before .before .before .args .t1) (c .before .before .before .before .pre .0 .fields) (c .before .before .before .loop .l) (omega arith) .0)
 
 mul-larger : tie.Need-mul-larger Inv-loop μ-loop
-mul-larger c = omega (arith, c .index .ensures, to-most (c .before .before .before .before .args .t1) (fields-of (c .before .before .before .before .pre .0)) (c .before .before .before .loop .l) (omega arith) .1)
+mul-larger c = omega (arith, c .index .ensures, to-most (c .before .before .before .before .args .t1) (c .before .before .before .before .pre .0 .fields) (c .before .before .before .loop .l) (omega arith) .1)
 
 array-read-larger : tie.Need-array-read-larger Inv-loop μ-loop
-array-read-larger c = omega (arith, c .index .ensures, to-most (c .before .before .before .before .args .t1) (fields-of (c .before .before .before .before .pre .0)) (c .before .before .before .loop .l) (omega arith) .1)
+array-read-larger c = omega (arith, c .index .ensures, to-most (c .before .before .before .before .args .t1) (c .before .before .before .before .pre .0 .fields) (c .before .before .before .loop .l) (omega arith) .1)
 
 limit-by-requires : tie.Need-limit-by-requires Inv-loop μ-loop
-limit-by-requires c κs = (from-most (c .before .before .before .before .args .t1) (fields-of (c .before .before .before .before .pre .0)) (c .before .before .before .loop .l) (omega arith), c .before .before .before .before .pre .1)
+limit-by-requires c κs = (from-most (c .before .before .before .before .args .t1) (c .before .before .before .before .pre .0 .fields) (c .before .before .before .loop .l) (omega arith), c .before .before .before .before .pre .1)
 
 larger-requires : tie.Need-larger-requires Inv-loop μ-loop
 larger-requires c κs = search needs
 
 mul-limits : tie.Need-mul-limits Inv-loop μ-loop
-mul-limits c = omega (arith, c .before .before .index .ensures, to-most (c .before .before .before .before .before .before .args .t1) (fields-of (c .before .before .before .before .before .before .pre .0)) (c .before .before .before .before .before .loop .l) (omega arith) .1)
+mul-limits c = omega (arith, c .before .before .index .ensures, to-most (c .before .before .before .before .before .before .args .t1) (c .before .before .before .before .before .before .pre .0 .fields) (c .before .before .before .before .before .loop .l) (omega arith) .1)
 
 array-write-limits : tie.Need-array-write-limits Inv-loop μ-loop
-array-write-limits c = omega (arith, c .before .before .index .ensures, to-most (c .before .before .before .before .before .before .args .t1) (fields-of (c .before .before .before .before .before .before .pre .0)) (c .before .before .before .before .before .loop .l) (omega arith) .1)
+array-write-limits c = omega (arith, c .before .before .index .ensures, to-most (c .before .before .before .before .before .before .args .t1) (c .before .before .before .before .before .before .pre .0 .fields) (c .before .before .before .before .before .loop .l) (omega arith) .1)
 
 add-l : tie.Need-add-l Inv-loop μ-loop
-add-l c = omega (arith, c .before .before .before .before .before .before .pre .0 .few-links)
+add-l c = omega (arith, c .before .before .before .before .before .before .pre .0 .fields .few-links)
 
 loop-less : tie.Need-loop-less Inv-loop μ-loop
 loop-less c = omega arith

@@ -1,2 +1,3 @@
 -- What the contracts of the steps cite beside the definitions of `model`.
 pub mod Parts
+pub mod Words

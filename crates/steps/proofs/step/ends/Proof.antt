@@ -1,5 +1,6 @@
 -- `ends` meets its contract. Assumes nothing.
 use borrow.Author.Tests.{eq-eqb, ne-eqb}
+use borrow.Author.Needs.{needs}
 use Rattle.steps.proofs.step.ends.Statement.{statement}
 use Rattle.steps.proofs.step.ends.Tie as tie
 

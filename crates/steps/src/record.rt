@@ -1,0 +1,1 @@
+// The machine's record from words of bits, and words from a record.

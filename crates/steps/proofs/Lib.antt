@@ -2,3 +2,4 @@
 pub mod MaskLaws
 pub mod MarkLaws
 pub mod StepLaws
+pub mod RecordLaws

@@ -94,14 +94,14 @@ ages-set d t now ready m u v h z p q e = record {
         a ∙ h .here k y ∙ ap (λ i. spacingOf d t (33 + k) - (i - now)) (sym s)
 
 -- a source that arrives: its firing, and the tick at which it may come next
-pub arrive-turn : (d : Description) (t : ℕ) (w w′ : Words) (used ready : List ℕ) (marks : List Bool) (u v : ℕ) (m : Machine) → WellFormed d → Holds d t w used ready m → (Marks d w m → Marks d w′ (fire d (33 + u) m)) → w′ .«now» ≡ w .«now» → getD marks u false ≡ true → u < d .«source_count» → v ≡ w .«now» + spacingOf d t (33 + u) → Holds d t w′ used (set ready u v) (arriveOne d marks u m)
+pub arrive-turn : (d : Description) (t : ℕ) (w w′ : Words) (used ready : List ℕ) (marks : List Bool) (u v : ℕ) (m : Machine) → WellFormed d → Holds d t w used ready m → (Marks d w m → Marks d w′ (fire d (33 + u) m)) → w′ .tick ≡ w .tick → getD marks u false ≡ true → u < d .«source_count» → v ≡ w .tick + spacingOf d t (33 + u) → Holds d t w′ used (set ready u v) (arriveOne d marks u m)
 arrive-turn d t w w′ used ready marks u v m g h fires q e p s =
     let f : Fired d (33 + u) (d .«link_count») m (fire d (33 + u) m) = fired d g (33 + u) m (h .marks .sized) in
     subst (λ (k : Machine). Holds d t w′ used (set ready u v) k) (arrive-on d marks u m e)
     (record {
       marks = marks-age d w′ (fire d (33 + u) m) u 0 (fires (h .marks));
       same-used = h .same-used ∙ sym (f .used);
-      ages = subst (λ n. Ages d t n (set ready u v) (setAge u 0 (fire d (33 + u) m))) (sym q) (ages-set d t (w .«now») ready (fire d (33 + u) m) u v (ages-same d t (w .«now») ready m (fire d (33 + u) m) (f .ages) (h .ages)) (f .sized .ages) p (omega (arith, g .few-sources)) s);
+      ages = subst (λ n. Ages d t n (set ready u v) (setAge u 0 (fire d (33 + u) m))) (sym q) (ages-set d t (w .tick) ready (fire d (33 + u) m) u v (ages-same d t (w .tick) ready m (fire d (33 + u) m) (f .ages) (h .ages)) (f .sized .ages) p (omega (arith, g .few-sources)) s);
     })
 
 -- the task that runs, or none
@@ -151,11 +151,11 @@ module _ (d : Description) (t : ℕ) (w : Words) (used ready runs : List ℕ) (f
       (record {
         marks = marks-used d w m h more (H .marks);
         same-used = ap (λ (us : List ℕ). set us (h - 1) more) (H .same-used);
-        ages = ages-same d t (w .«now») ready m (setUsed h more m) refl (H .ages);
+        ages = ages-same d t (w .tick) ready m (setUsed h more m) refl (H .ages);
       })
 
   -- its run ends
-  pub work-over : (w₁ w₂ : Words) → (eqb more (getD runs (h - 1) 0) || finish) ≡ true → ((k : Machine) → Marks d w k → Marks d w₁ (clearInto d h (setAwake h false k))) → ((k : Machine) → Marks d w₁ k → Marks d w₂ (fire d h k)) → w₂ .«now» ≡ w .«now» → Holds d t w₂ (set (set used (h - 1) more) (h - 1) 0) ready (worked d finish m)
+  pub work-over : (w₁ w₂ : Words) → (eqb more (getD runs (h - 1) 0) || finish) ≡ true → ((k : Machine) → Marks d w k → Marks d w₁ (clearInto d h (setAwake h false k))) → ((k : Machine) → Marks d w₁ k → Marks d w₂ (fire d h k)) → w₂ .tick ≡ w .tick → Holds d t w₂ (set (set used (h - 1) more) (h - 1) 0) ready (worked d finish m)
   work-over w₁ w₂ f sleeps fires n =
       let m₁ : Machine = setUsed h 0 (setUsed h more m) in
       let m₂ : Machine = setAwake h false m₁ in
@@ -167,15 +167,15 @@ module _ (d : Description) (t : ℕ) (w : Words) (used ready runs : List ℕ) (f
       (record {
         marks = fires (clearInto d h m₂) (sleeps m₁ k₁);
         same-used = ap (λ (us : List ℕ). set (set us (h - 1) more) (h - 1) 0) (H .same-used) ∙ sym (r .used ∙ c .used);
-        ages = subst (λ i. Ages d t i ready (fire d h (clearInto d h m₂))) (sym n) (ages-same d t (w .«now») ready m (fire d h (clearInto d h m₂)) (r .ages ∙ c .ages) (H .ages));
+        ages = subst (λ i. Ages d t i ready (fire d h (clearInto d h m₂))) (sym n) (ages-same d t (w .tick) ready m (fire d h (clearInto d h m₂)) (r .ages ∙ c .ages) (H .ages));
       })
 
 -- step 4: one tick more has passed
-module _ (d : Description) (t : ℕ) (w w′ : Words) (used ready : List ℕ) (m : Machine) (g : WellFormed d) (a : w′ .awake ≡ w .awake) (b : w′ .waiting ≡ w .waiting) (c : w′ .dropped ≡ w .dropped) (n : w′ .«now» ≡ w .«now» + 1) (h : Holds d t w used ready m) where
+module _ (d : Description) (t : ℕ) (w w′ : Words) (used ready : List ℕ) (m : Machine) (g : WellFormed d) (a : w′ .awake ≡ w .awake) (b : w′ .waiting ≡ w .waiting) (c : w′ .dropped ≡ w .dropped) (n : w′ .tick ≡ w .tick + 1) (h : Holds d t w used ready m) where
   f : Aged d t (d .«source_count») m (ageAll d t m)
   f = aged d g t m (h .marks .sized)
 
-  later : (u : ℕ) → u < d .«source_count» → ageAt (ageAll d t m) u ≡ spacingOf d t (33 + u) - (getD ready u 0 - w′ .«now»)
+  later : (u : ℕ) → u < d .«source_count» → ageAt (ageAll d t m) u ≡ spacingOf d t (33 + u) - (getD ready u 0 - w′ .tick)
   later u p =
       let e : ageAt (ageAll d t m) u ≡ min (spacingOf d t (33 + u)) (ageAt m u + 1) = f .age u ∙ rw (lt-ltb u (d .«source_count») p) refl in
       omega (arith, h .ages .here u p, h .ages .near u p, h .ages .spaced u p)

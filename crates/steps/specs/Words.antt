@@ -43,23 +43,23 @@ pub record Ages (d : Description) (t now : ℕ) (ready : List ℕ) (m : Machine)
 pub record Holds (d : Description) (t : ℕ) (w : Words) (used ready : List ℕ) (m : Machine) : Type 0 where
   pub marks : Marks d w m
   pub same-used : used ≡ m .used
-  pub ages : Ages d t (w .«now») ready m
+  pub ages : Ages d t (w .tick) ready m
 
 -- node x has fired
 pub record Fires (rows : List ℕ) (x : ℕ) (w w′ : Words) : Type 0 where
   pub fired : (d : Description) (m : Machine) → WellFormed d → RowsOf d (d .«link_count») rows → Marks d w m → Marks d w′ (fire d x m)
-  pub then : w′ .«now» ≡ w .«now»
+  pub then : w′ .tick ≡ w .tick
 
 -- the sources of a mask have arrived
 pub record Arrives (rows gaps : List ℕ) (mask : ℕ) (w : Words) (ready : List ℕ) (w′ : Words) (ready′ : List ℕ) : Type 0 where
   pub arrived : (d : Description) (t : ℕ) (used : List ℕ) (m : Machine) → WellFormed d → RowsOf d (d .«link_count») rows → GapsOf d t gaps → Known d mask
       → Holds d t w used ready m → Holds d t w′ used ready′ (arrive d (marksIn mask) m)
-  pub then : w′ .«now» ≡ w .«now»
+  pub then : w′ .tick ≡ w .tick
 
 -- task h sleeps, and the marks on links into it are clear
 pub record Sleeps (rows : List ℕ) (h : ℕ) (w w′ : Words) : Type 0 where
   pub slept : (d : Description) (m : Machine) → WellFormed d → RowsOf d (d .«link_count») rows → 1 ≤ h → h ≤ 32 → Marks d w m → Marks d w′ (clearInto d h (setAwake h false m))
-  pub then : w′ .«now» ≡ w .«now»
+  pub then : w′ .tick ≡ w .tick
 
 -- the highest awake task of a record has run, and its run has ended if this tick ends it
 abbrev pub worked : Description → Bool → Machine → Machine
@@ -68,7 +68,7 @@ worked d finish m = let h = highest d m in endRun d h finish (runTask h m)
 pub record Works (rows runs : List ℕ) (finish : Bool) (w : Words) (used : List ℕ) (w′ : Words) (used′ : List ℕ) : Type 0 where
   pub worked-on : (d : Description) (t : ℕ) (ready : List ℕ) (m : Machine) → WellFormed d → RowsOf d (d .«link_count») rows → runs ≡ d .runs
       → Holds d t w used ready m → Holds d t w′ used′ ready (worked d finish m)
-  pub then : w′ .«now» ≡ w .«now»
+  pub then : w′ .tick ≡ w .tick
 
 -- awake tasks have places in the tables, and a tick more fits what each has used
 pub record Workable (w : Words) (used : List ℕ) : Type 0 where
@@ -78,4 +78,4 @@ pub record Workable (w : Words) (used : List ℕ) : Type 0 where
 -- one tick more has passed
 pub record Passes (w w′ : Words) : Type 0 where
   pub passed : (d : Description) (t : ℕ) (used ready : List ℕ) (m : Machine) → WellFormed d → Holds d t w used ready m → Holds d t w′ used ready (ageAll d t m)
-  pub then : w′ .«now» ≡ w .«now» + 1
+  pub then : w′ .tick ≡ w .tick + 1

@@ -36,7 +36,7 @@ pub fn fire(rows: &[u64; 576], x: usize, w: Words) -> Words
         awake: sets::union(w.awake, rows[9 * x + 8]),
         waiting: wide::union(waiting, out),
         dropped: wide::union(dropped, missed),
-        now: w.now,
+        tick: w.tick,
     }
 }
 
@@ -55,7 +55,7 @@ pub fn arrive<'a>(
     start: Words,
     ready: &mut [u64; 16],
 ) -> Words
-    requires { ⌜ (mask < 2 ^ 16) × (start .«now» < 2 ^ 63) × (length (now ready) ≡ 16) ⌝ }
+    requires { ⌜ (mask < 2 ^ 16) × (start .tick < 2 ^ 63) × (length (now ready) ≡ 16) ⌝ }
     ensures { λ r. ⌜ Arrives (now (rows .entry)) (now (gaps .entry)) mask start (now (ready .entry)) r (now (ready .exit)) ⌝ }
 {
     let mut w = start;
@@ -63,7 +63,7 @@ pub fn arrive<'a>(
     while rest != 0 {
         let u = sets::first(rest);
         w = fire(rows, 33 + u, w);
-        ready[u] = w.now + long(gaps[u]);
+        ready[u] = w.tick + long(gaps[u]);
         rest = sets::rest(rest);
     }
     w
@@ -81,7 +81,7 @@ fn sleep(rows: &[u64; 576], h: usize, w: Words) -> Words
         awake: sets::without(w.awake, sets::one(h)),
         waiting: wide::without(waiting, into),
         dropped,
-        now: w.now,
+        tick: w.tick,
     }
 }
 
@@ -121,7 +121,7 @@ pub fn work<'a>(
 
 // Step 4: ages rise by one, up to the spacing.
 pub fn pass(w: Words) -> Words
-    requires { ⌜ w .«now» < 2 ^ 63 ⌝ }
+    requires { ⌜ w .tick < 2 ^ 63 ⌝ }
     ensures { λ r. ⌜ Passes w r ⌝ }
 {
     let waiting = w.waiting;
@@ -130,6 +130,6 @@ pub fn pass(w: Words) -> Words
         awake: w.awake,
         waiting,
         dropped,
-        now: w.now + 1,
+        tick: w.tick + 1,
     }
 }

@@ -21,7 +21,7 @@ use Rattle.steps.proofs.step.arrive.Tie as tie
 
 abbrev Inv-loop : tie.InvT-loop
 Inv-loop rows gaps mask ready₀ w₀ rest₀ ready w rest =
-    (length ready ≡ 16) × (w .«now» ≡ w₀ .«now») × (r : ℕ) × (r ≤ 16) × Rest mask r rest × ((d : Description) (t : ℕ) (used : List ℕ) (m : Machine) → WellFormed d → RowsOf d (d .«link_count») rows → GapsOf d t gaps → Known d mask → Holds d t w₀ used ready₀ m → Holds d t w used ready (upTo r (arriveOne d (marksIn mask)) m))
+    (length ready ≡ 16) × (w .tick ≡ w₀ .tick) × (r : ℕ) × (r ≤ 16) × Rest mask r rest × ((d : Description) (t : ℕ) (used : List ℕ) (m : Machine) → WellFormed d → RowsOf d (d .«link_count») rows → GapsOf d t gaps → Known d mask → Holds d t w₀ used ready₀ m → Holds d t w used ready (upTo r (arriveOne d (marksIn mask)) m))
 
 abbrev μ-loop : tie.MeasureT-loop
 μ-loop rows gaps mask ready₀ w₀ rest₀ ready w rest = rest
@@ -70,7 +70,7 @@ loop-again c =
     let A = S .args in
     let u = c .before .before .before .before .before .first .result in
     let w = c .before .before .before .before .fire .result in
-    let v = w .«now» + c .before .before .long .result in
+    let v = w .tick + c .before .before .long .result in
     let T = turn (A .mask) (L .inv .2) (L .rest) u (c .rest .result) (S .pre .0) (L .inv .4) (c .before .before .before .before .before .first .ensures) (c .rest .ensures) in (
       length-set (L .ready) u v ∙ L .inv .0,
       c .before .before .before .before .fire .ensures .then ∙ L .inv .1,

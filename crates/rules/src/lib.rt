@@ -1,16 +1,18 @@
-// The rules of the machine's record, and the refusals of arrivals.
+// The rules of the machine's record.
 
-use sets::first;
 use model::Machine;
-use steps::plan::Plan;
-use steps::step::bits;
-use steps::step::number;
+use wiring::Wiring;
 ghost use mathlib.Core.Path.{_≡_};
 ghost use mathlib.Core.Bool.{_||_, _&&_, not, cond};
-ghost use Prim.Native.Nat.{_≤_, _<_, _/_, _^_};
 ghost use lib.Dec.{ltb, leb, eqb};
-ghost use Rattle.steps.specs.Parts.{Enters, Sound};
-ghost use Rattle.machine.specs.Judged.{TasksLawful, LinksLawful, SourcesLawful, Lawful, TooSoon};
+ghost use Rattle.rules.specs.Rules.{Enters, TasksLawful, LinksLawful, SourcesLawful, Lawful};
+
+// The number of a task as a place in a table.
+fn number(x: u8) -> usize
+    ensures { λ r. ⌜ r ≡ x ⌝ }
+{
+    x as usize
+}
 
 // Used is below the longest run, and 0 for a sleeping task; nothing is set for an absent one.
 fn task_lawful(here: bool, run: u32, awake: bool, used: u32) -> bool
@@ -113,45 +115,18 @@ fn sources_lawful(gaps: &[u32; 16], sources: usize, ages: &[u32; 16]) -> bool
 }
 
 // Whether a record keeps the rules; 16 otherwise.
-pub fn lawful(p: Plan, m: Machine) -> bool
-    requires { ⌜ Sound p ⌝ }
-    ensures { λ r. ⌜ Lawful p m r ⌝ }
+pub fn lawful(w: Wiring, gaps: [u32; 16], m: Machine) -> bool
+    requires { ⌜ Enters (w .to) (w .links) ⌝ }
+    ensures { λ r. ⌜ Lawful w gaps m r ⌝ }
 {
-    let links = p.links;
-    let tasks = p.tasks;
-    let sources = p.sources;
-    if !tasks_lawful(&p.runs, tasks, &m.awake, &m.used) {
+    let links = w.links;
+    let tasks = w.tasks;
+    let sources = w.sources;
+    if !tasks_lawful(&w.runs, tasks, &m.awake, &m.used) {
         return false;
     }
-    if !links_lawful(&p.to, links, &m.awake, &m.waiting, &m.dropped) {
+    if !links_lawful(&w.to, links, &m.awake, &m.waiting, &m.dropped) {
         return false;
     }
-    sources_lawful(&p.gaps, sources, &m.ages)
-}
-
-// 15: what is left of a mask above the sources that exist.
-pub fn above(mask: u16, sources: usize) -> usize
-    requires { ⌜ sources ≤ 16 ⌝ }
-    ensures { λ r. ⌜ r ≡ mask / 2 ^ sources ⌝ }
-{
-    let all = mask as usize;
-    all >> sources
-}
-
-// 14: an arriving source's age is below its spacing. The rest of the mask has its bits from r on.
-pub fn too_soon(gaps: &[u32; 16], mask: u16, ages: &[u32; 16]) -> bool
-    ensures { λ r. ⌜ TooSoon (now (gaps .entry)) mask (now (ages .entry)) r ⌝ }
-{
-    let mut rest = bits(mask);
-    let mut r: usize = 0;
-    while rest != 0 {
-        let k = first(rest);
-        let u = r + k;
-        if ages[u] < gaps[u] {
-            return true;
-        }
-        r = u + 1;
-        rest = rest >> k >> 1;
-    }
-    false
+    sources_lawful(&gaps, sources, &m.ages)
 }

@@ -1,7 +1,7 @@
 -- `task_lawful` meets its contract. Assumes nothing.
 use borrow.Author.Tests.{le-ltb, lt-ltb, not-true, not-false}
-use Rattle.machine.proofs.rules.task_lawful.Statement.{statement}
-use Rattle.machine.proofs.rules.task_lawful.Tie as tie
+use Rattle.rules.proofs.task_lawful.Statement.{statement}
+use Rattle.rules.proofs.task_lawful.Tie as tie
 
 returns : tie.Need-returns
 returns c = simp (not-true (c .before .before .args .here) (c .before .if1 .taken), c .if2 .taken)

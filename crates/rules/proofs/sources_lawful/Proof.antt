@@ -10,10 +10,11 @@ use Rattle.model.specs.declared.Description.{Description}
 use Rattle.model.specs.Basics.{allN}
 use native.Mathlib.Nat.{zero-add}
 use Rattle.model.specs.Machine.{sourceRule}
-use Rattle.steps.specs.Parts.{parts, GapsOf}
-use Rattle.machine.proofs.RuleLaws.{all-none, all-next, all-fails, source-is}
-use Rattle.machine.proofs.rules.sources_lawful.Statement.{statement}
-use Rattle.machine.proofs.rules.sources_lawful.Tie as tie
+use Rattle.steps.specs.Parts.{GapsOf}
+use Rattle.rules.specs.Rules.{parts}
+use Rattle.rules.proofs.RuleLaws.{all-none, all-next, all-fails, source-is}
+use Rattle.rules.proofs.sources_lawful.Statement.{statement}
+use Rattle.rules.proofs.sources_lawful.Tie as tie
 
 abbrev Inv-loop : tie.InvT-loop
 Inv-loop gaps sources ages u₀ u = (u ≤ 16) × ((d : Description) (t : ℕ) (aw wa dr : List Bool) (us : List ℕ) → d .«source_count» ≡ sources → GapsOf d t gaps → allN (sourceRule d t (parts aw us wa dr ages)) 0 u ≡ true)

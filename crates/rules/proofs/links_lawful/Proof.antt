@@ -11,20 +11,19 @@ use Rattle.model.specs.declared.Description.{Description}
 use Rattle.model.specs.Basics.{allN}
 use native.Mathlib.Nat.{zero-add}
 use Rattle.model.specs.Machine.{linkRule}
-use Rattle.steps.specs.Parts.{parts, LinksOf}
-use Rattle.steps.proofs.StepLaws.{cases}
-use Rattle.machine.proofs.RuleLaws.{all-none, all-next, all-fails, link-is}
-use Rattle.machine.proofs.rules.links_lawful.Statement.{statement}
-use Rattle.machine.proofs.rules.links_lawful.Tie as tie
+use Rattle.rules.specs.Rules.{parts, EntersOf}
+use Rattle.rules.proofs.RuleLaws.{all-none, all-next, all-fails, link-is, cases}
+use Rattle.rules.proofs.links_lawful.Statement.{statement}
+use Rattle.rules.proofs.links_lawful.Tie as tie
 
 abbrev Inv-loop : tie.InvT-loop
-Inv-loop to links awake waiting dropped l₀ l = (l ≤ 256) × ((d : Description) (from us ag : List ℕ) → LinksOf d from to links → allN (linkRule d (parts awake us waiting dropped ag)) 0 l ≡ true)
+Inv-loop to links awake waiting dropped l₀ l = (l ≤ 256) × ((d : Description) (us ag : List ℕ) → EntersOf d to links → allN (linkRule d (parts awake us waiting dropped ag)) 0 l ≡ true)
 
 abbrev μ-loop : tie.MeasureT-loop
 μ-loop to links awake waiting dropped l₀ l = 256 - l
 
 loop-holds : tie.Need-loop-holds Inv-loop μ-loop
-loop-holds c = (omega arith, λ d from us ag r. all-none _ 0)
+loop-holds c = (omega arith, λ d us ag r. all-none _ 0)
 
 element-copy-out-number : tie.Need-element-copy-out-number Inv-loop μ-loop
 element-copy-out-number c = omega arith
@@ -48,10 +47,10 @@ link-lawful-requires : tie.Need-link-lawful-requires Inv-loop μ-loop
 link-lawful-requires c κs = search needs
 
 returns : tie.Need-returns Inv-loop μ-loop
-returns c = λ d from us ag r.
+returns c = λ d us ag r.
     let S = c .before .before .before .before .before .before .before in
     let L = c .before .before .before .before .before .before .loop in
-    all-fails (linkRule d (parts (S .args .awake .now) us (S .args .waiting .now) (S .args .dropped .now) ag)) 0 256 (L .l) (c .before .before .before .before .before .loop-test .taken) (rw (zero-add (L .l)) (link-is d from (S .args .to .now) (S .args .links) (L .l) (S .args .awake .now) (S .args .waiting .now) (S .args .dropped .now) us ag (c .before .before .before .before .if1 .entered) (c .before .link-lawful .result) r (λ h. cases (c .before .before .before .before .if1 .came) (λ w. w .4 ∙ ap (λ y. getD (S .args .awake .now) (y - 1) false) (w .2 .ensures ∙ r .enters (L .l) h)) (λ w. absurd (omega (arith, w .0 .left)))) (c .before .link-lawful .ensures) ∙ not-true _ (c .if2 .taken)))
+    all-fails (linkRule d (parts (S .args .awake .now) us (S .args .waiting .now) (S .args .dropped .now) ag)) 0 256 (L .l) (c .before .before .before .before .before .loop-test .taken) (rw (zero-add (L .l)) (link-is d (S .args .to .now) (S .args .links) (L .l) (S .args .awake .now) (S .args .waiting .now) (S .args .dropped .now) us ag (c .before .before .before .before .if1 .entered) (c .before .link-lawful .result) r (λ h. cases (c .before .before .before .before .if1 .came) (λ w. w .4 ∙ ap (λ y. getD (S .args .awake .now) (y - 1) false) (w .2 .ensures ∙ r .enters (L .l) h)) (λ w. absurd (omega (arith, w .0 .left)))) (c .before .link-lawful .ensures) ∙ not-true _ (c .if2 .taken)))
 
 add-l : tie.Need-add-l Inv-loop μ-loop
 add-l c = omega arith
@@ -63,14 +62,14 @@ loop-again : tie.Need-loop-again Inv-loop μ-loop
 loop-again c =
     let S = c .before .before .before .before .before .before .before in
     let L = c .before .before .before .before .before .before .loop in
-    (omega arith, λ d from us ag r. all-next (linkRule d (parts (S .args .awake .now) us (S .args .waiting .now) (S .args .dropped .now) ag)) 0 (L .l) (L .inv .1 d from us ag r) (rw (zero-add (L .l)) (link-is d from (S .args .to .now) (S .args .links) (L .l) (S .args .awake .now) (S .args .waiting .now) (S .args .dropped .now) us ag (c .before .before .before .before .if1 .entered) (c .before .link-lawful .result) r (λ h. cases (c .before .before .before .before .if1 .came) (λ w. w .4 ∙ ap (λ y. getD (S .args .awake .now) (y - 1) false) (w .2 .ensures ∙ r .enters (L .l) h)) (λ w. absurd (omega (arith, w .0 .left)))) (c .before .link-lawful .ensures) ∙ not-false _ (c .if2 .left))))
+    (omega arith, λ d us ag r. all-next (linkRule d (parts (S .args .awake .now) us (S .args .waiting .now) (S .args .dropped .now) ag)) 0 (L .l) (L .inv .1 d us ag r) (rw (zero-add (L .l)) (link-is d (S .args .to .now) (S .args .links) (L .l) (S .args .awake .now) (S .args .waiting .now) (S .args .dropped .now) us ag (c .before .before .before .before .if1 .entered) (c .before .link-lawful .result) r (λ h. cases (c .before .before .before .before .if1 .came) (λ w. w .4 ∙ ap (λ y. getD (S .args .awake .now) (y - 1) false) (w .2 .ensures ∙ r .enters (L .l) h)) (λ w. absurd (omega (arith, w .0 .left)))) (c .before .link-lawful .ensures) ∙ not-false _ (c .if2 .left))))
 
 returns-2 : tie.Need-returns-2 Inv-loop μ-loop
-returns-2 c = λ d from us ag r.
+returns-2 c = λ d us ag r.
     let S = c .before .before in
     let L = c .before .loop in
     let e : L .l ≡ 256 = omega (arith, c .loop-test .left, L .inv .0) in
-    sym (ap (allN (linkRule d (parts (S .args .awake .now) us (S .args .waiting .now) (S .args .dropped .now) ag)) 0) (sym e) ∙ L .inv .1 d from us ag r)
+    sym (ap (allN (linkRule d (parts (S .args .awake .now) us (S .args .waiting .now) (S .args .dropped .now) ag)) 0) (sym e) ∙ L .inv .1 d us ag r)
 
 pub links-lawful-spec : {M : Type 1} → statement M
 links-lawful-spec =

@@ -1,6 +1,6 @@
 -- `source_lawful` meets its contract. Assumes nothing.
-use Rattle.machine.proofs.rules.source_lawful.Statement.{statement}
-use Rattle.machine.proofs.rules.source_lawful.Tie as tie
+use Rattle.rules.proofs.source_lawful.Statement.{statement}
+use Rattle.rules.proofs.source_lawful.Tie as tie
 
 returns : tie.Need-returns
 returns c = simp (c .if1 .taken)

@@ -1,4 +1,4 @@
--- The rules of the record and the tests of arrivals, place by place. Assumes nothing.
+-- The rules of the record, place by place. Assumes nothing.
 use Prim.Native.Nat.{ℕ, _+_, _-_, _≤_, _<_}
 use mathlib.Core.Path.{_≡_, refl, sym, _∙_}
 use mathlib.Core.Bool.{Bool, true, false, _||_, _&&_, not, cond}
@@ -12,11 +12,15 @@ use Rattle.model.specs.declared.Description.{Description}
 use Rattle.model.specs.Basics.{allN}
 use Rattle.model.specs.Graph.{linkAt}
 use Rattle.model.specs.Delays.{spacingOf}
-use Rattle.model.specs.Machine.{taskRule, linkRule, sourceRule, tooSoon}
-use Rattle.lemmas.proofs.Tests.{same-test, false-of, not-both, both, and-false-left, and-false-right}
-use Rattle.lemmas.proofs.Range.{all-at, any-at, any-none}
-use Rattle.steps.specs.Parts.{parts, heard, marksIn, Known, LinksOf, GapsOf}
-use Rattle.steps.proofs.MaskLaws.{mark-in, heard-under}
+use Rattle.model.specs.Machine.{taskRule, linkRule, sourceRule}
+use mathlib.Core.Logic.{_⊎_, ⊎-elim}
+use Rattle.lemmas.proofs.Tests.{same-test, false-of, not-both, both}
+use Rattle.lemmas.proofs.Range.{all-at}
+use Rattle.assurance.proofs.Firing.{to-some, to-most}
+use Rattle.wiring.specs.declared.Wiring.{Wiring}
+use Rattle.wiring.specs.Rows.{WiringOf}
+use Rattle.steps.specs.Parts.{GapsOf}
+use Rattle.rules.specs.Rules.{parts, EntersOf, Enters}
 
 -- tests over a range as a loop goes through them
 pub all-none : (p : ℕ → Bool) (a : ℕ) → allN p a 0 ≡ true
@@ -39,8 +43,8 @@ task-is d runs tasks k aw wa dr us ag r p q e =
     rw (e, p, q, s, f) refl
 
 -- a link's rule
-pub link-is : (d : Description) (from to : List ℕ) (n l : ℕ) (aw wa dr : List Bool) (us ag : List ℕ) (y r : Bool) → LinksOf d from to n → (l < n → y ≡ getD aw (linkAt d l .to - 1) false) → r ≡ cond (ltb l n) (not (getD wa l false) || y) (not (getD wa l false) && not (getD dr l false)) → linkRule d (parts aw us wa dr ag) l ≡ r
-link-is d from to n l aw wa dr us ag y r p q e = rw (e, p .many) (go (ltb l n) refl)
+pub link-is : (d : Description) (to : List ℕ) (n l : ℕ) (aw wa dr : List Bool) (us ag : List ℕ) (y r : Bool) → EntersOf d to n → (l < n → y ≡ getD aw (linkAt d l .to - 1) false) → r ≡ cond (ltb l n) (not (getD wa l false) || y) (not (getD wa l false) && not (getD dr l false)) → linkRule d (parts aw us wa dr ag) l ≡ r
+link-is d to n l aw wa dr us ag y r p q e = rw (e, p .many) (go (ltb l n) refl)
   where
     go : (b : Bool) → ltb l n ≡ b → cond (ltb l n) (not (getD wa l false) || getD aw (linkAt d l .to - 1) false) (not (getD wa l false) && not (getD dr l false)) ≡ cond (ltb l n) (not (getD wa l false) || y) (not (getD wa l false) && not (getD dr l false))
     go true f = rw (f, q (ltb-true l n f)) refl
@@ -54,20 +58,24 @@ source-is d t gaps n u aw wa dr us ag r p g e = go (ltb u (d .«source_count»))
     go true f = rw (f, g u (ltb-true u (d .«source_count») f)) refl
     go false f = rw f refl
 
--- an arrival that is too soon, and none that is
-pub soon-one : (d : Description) (t mask u : ℕ) (gaps us ag : List ℕ) (aw wa dr : List Bool) → GapsOf d t gaps → Known d mask → heard mask u ≡ true → getD ag u 0 < getD gaps u 0 → true ≡ tooSoon d t (marksIn mask) (parts aw us wa dr ag)
-unfolding tooSoon
-soon-one d t mask u gaps us ag aw wa dr g k e h =
-    let z : u < d .«source_count» = heard-under mask (d .«source_count») u (k .1) e in
-    sym (any-at (λ u. getD (marksIn mask) u false && ltb (getD ag u 0) (spacingOf d t (33 + u))) 0 (d .«source_count») u (omega arith) (omega arith) (both (getD (marksIn mask) u false) (ltb (getD ag u 0) (spacingOf d t (33 + u))) (mark-in mask u (omega (arith, k .0)) ∙ e) (lt-ltb (getD ag u 0) (spacingOf d t (33 + u)) (omega (arith, h, g u z)))))
-
-pub soon-none : (d : Description) (t mask : ℕ) (gaps us ag : List ℕ) (aw wa dr : List Bool) → GapsOf d t gaps → Known d mask → ((u : ℕ) → heard mask u ≡ true → getD gaps u 0 ≤ getD ag u 0) → false ≡ tooSoon d t (marksIn mask) (parts aw us wa dr ag)
-unfolding tooSoon
-soon-none d t mask gaps us ag aw wa dr g k low = sym (any-none (λ u. getD (marksIn mask) u false && ltb (getD ag u 0) (spacingOf d t (33 + u))) 0 (d .«source_count») (λ u a b. go u (omega arith) (heard mask u) refl))
-  where
-    go : (u : ℕ) → u < d .«source_count» → (b : Bool) → heard mask u ≡ b → (getD (marksIn mask) u false && ltb (getD ag u 0) (spacingOf d t (33 + u))) ≡ false
-    go u h true e = and-false-right (getD (marksIn mask) u false) (ltb (getD ag u 0) (spacingOf d t (33 + u))) (le-ltb (getD ag u 0) (spacingOf d t (33 + u)) (omega (arith, low u e, g u h)))
-    go u h false e = and-false-left (getD (marksIn mask) u false) (ltb (getD ag u 0) (spacingOf d t (33 + u))) (mark-in mask u (omega (arith, k .0)) ∙ e)
-
 pub and-true : (a b : Bool) → a ≡ true → (a && b) ≡ b
 and-true a b e = rw e refl
+
+-- by cases, the sum first
+pub cases : {A B C : Type 0} → A ⊎ B → (A → C) → (B → C) → C
+cases s f g = ⊎-elim f g s
+
+-- the wiring of a description: what its links enter
+pub enters-of : (d : Description) (w : Wiring) → WiringOf d w → EntersOf d (w .to) (w .links)
+enters-of d w r = record { many = r .many; enters = r .enters }
+
+pub entered : (d : Description) (w : Wiring) → WiringOf d w → Enters (w .to) (w .links)
+entered d w r = record {
+  few = omega (arith, r .many, r .formed .few-links);
+  some = λ l h.
+      let k : l < d .«link_count» = omega (arith, r .many) in
+      omega (arith, r .enters l h, to-some d (r .formed) l k);
+  most = λ l h.
+      let k : l < d .«link_count» = omega (arith, r .many) in
+      omega (arith, r .enters l h, to-most d (r .formed) l k);
+}

@@ -9,10 +9,10 @@ use borrow.Author.Tests.{not-true, not-false}
 use Rattle.model.specs.declared.Description.{Description}
 use Rattle.model.specs.Basics.{allN}
 use Rattle.model.specs.Machine.{taskRule}
-use Rattle.steps.specs.Parts.{parts}
-use Rattle.machine.proofs.RuleLaws.{all-none, all-next, all-fails, task-is}
-use Rattle.machine.proofs.rules.tasks_lawful.Statement.{statement}
-use Rattle.machine.proofs.rules.tasks_lawful.Tie as tie
+use Rattle.rules.specs.Rules.{parts}
+use Rattle.rules.proofs.RuleLaws.{all-none, all-next, all-fails, task-is}
+use Rattle.rules.proofs.tasks_lawful.Statement.{statement}
+use Rattle.rules.proofs.tasks_lawful.Tie as tie
 
 abbrev Inv-loop : tie.InvT-loop
 Inv-loop runs tasks awake used k₀ k = (k ≤ 32) × ((d : Description) (wa dr : List Bool) (ag : List ℕ) → runs ≡ d .runs → d .«task_count» ≡ tasks → allN (taskRule d (parts awake used wa dr ag)) 1 k ≡ true)

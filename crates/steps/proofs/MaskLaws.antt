@@ -12,7 +12,7 @@ use Rattle.lemmas.proofs.Tests.{Cmp, less, same, more, cmp, not-both, false-of,
 use Rattle.lemmas.proofs.Table.{getD-tab}
 use Rattle.sets.specs.Sets.{member, FirstIn, RestOf}
 use Rattle.sets.proofs.SetLaws.{member-none}
-use Rattle.steps.specs.Parts.{heard, marksIn}
+use Rattle.steps.specs.Parts.{heard, marksIn, Sourced}
 
 -- a mask with nothing left above the first s bits has no bit there
 pub none-above : (mask s k : ℕ) → mask / 2 ^ s ≡ 0 → s ≤ k → heard mask k ≡ false
@@ -51,6 +51,14 @@ rest-all mask j = sym (and-true (heard mask j) (leb 0 j) (le-leb 0 j (omega arit
 pub rest-none : (mask r rest : ℕ) → Rest mask r rest → rest ≡ 0 → (u : ℕ) → r ≤ u → heard mask u ≡ false
 rest-none mask r rest h e u p = false-of (heard mask u) (λ q. not-both (h u ∙ both (heard mask u) (leb r u) q (le-leb r u p)) (ap (λ s. member s u) e ∙ member-none u))
 
+pub rest-under : (mask r rest : ℕ) → Rest mask r rest → rest ≡ 0 → (u : ℕ) → heard mask u ≡ true → u < r
+rest-under mask r rest h e u q = go (cmp u r)
+  where
+    go : Cmp u r → u < r
+    go (less p) = p
+    go (same p) = absurd (not-both q (rest-none mask r rest h e u (omega arith)))
+    go (more p) = absurd (not-both q (rest-none mask r rest h e u (omega arith)))
+
 -- the least of what is left is u, and what it leaves
 pub record Turn (mask r u rest′ : ℕ) : Type 0 where
   pub within : u < 16
@@ -59,22 +67,25 @@ pub record Turn (mask r u rest′ : ℕ) : Type 0 where
   pub between : (v : ℕ) → r ≤ v → v < u → heard mask v ≡ false
   pub after : Rest mask (u + 1) rest′
 
-pub turn : (mask r rest u rest′ : ℕ) → mask < 2 ^ 16 → Rest mask r rest → FirstIn rest u → RestOf rest rest′ → Turn mask r u rest′
+pub turn : (mask r rest u rest′ : ℕ) → Sourced mask → Rest mask r rest → FirstIn rest u → RestOf rest rest′ → Turn mask r u rest′
 turn mask r rest u rest′ w h f q =
     let e : (heard mask u && leb r u) ≡ true = sym (h u) ∙ f .in-set in
     let on : heard mask u ≡ true = and-left (heard mask u) (leb r u) e in
     let low : r ≤ u = leb-true r u (and-right (heard mask u) (leb r u) e) in
     record {
-      within = heard-under mask 16 u (div-eq-of-lt w) on;
+      within = w u on;
       from = low;
       here = on;
       between = λ v a b. false-of (heard mask v) (λ z. not-both (h v ∙ both (heard mask v) (leb r v) z (le-leb r v a)) (f .none-before v b));
       after = λ j. q .later u f j ∙ ap (λ b. b && ltb u j) (h j) ∙ same-test ((heard mask j && leb r j) && ltb u j) (heard mask j && leb (u + 1) j) (λ z. let y = and-left (heard mask j && leb r j) (ltb u j) z in both (heard mask j) (leb (u + 1) j) (and-left (heard mask j) (leb r j) y) (le-leb (u + 1) j (omega (arith, ltb-true u j (and-right (heard mask j && leb r j) (ltb u j) z))))) (λ z. let y : u + 1 ≤ j = leb-true (u + 1) j (and-right (heard mask j) (leb (u + 1) j) z) in both (heard mask j && leb r j) (ltb u j) (both (heard mask j) (leb r j) (and-left (heard mask j) (leb (u + 1) j) z) (le-leb r j (omega arith))) (lt-ltb u j (omega arith)));
     }
 
--- and it is the number of a source
-pub least : (mask r rest u : ℕ) → mask < 2 ^ 16 → Rest mask r rest → FirstIn rest u → u < 16
-least mask r rest u w h f = heard-under mask 16 u (div-eq-of-lt w) (and-left (heard mask u) (leb r u) (sym (h u) ∙ f .in-set))
+-- it is in the mask, and is the number of a source
+pub here : (mask r rest u : ℕ) → Rest mask r rest → FirstIn rest u → heard mask u ≡ true
+here mask r rest u h f = and-left (heard mask u) (leb r u) (sym (h u) ∙ f .in-set)
+
+pub least : (mask r rest u : ℕ) → Sourced mask → Rest mask r rest → FirstIn rest u → u < 16
+least mask r rest u w h f = w u (here mask r rest u h f)
 
 -- so that what holds of the members below r, and of u, holds of all up to it
 pub passed : (P : ℕ → Type 0) (mask r u rest′ : ℕ) → Turn mask r u rest′ → ((v : ℕ) → v < r → heard mask v ≡ true → P v) → P u → (v : ℕ) → v < u + 1 → heard mask v ≡ true → P v
@@ -86,3 +97,7 @@ passed P mask r u rest′ T low this v h e = go (cmp v u) (cmp v r)
     go (less p) (more q) = absurd (not-both e (T .between v (omega arith) p))
     go (same p) q = subst P (sym p) this
     go (more p) q = absurd (omega arith)
+
+-- a mask of 16 bits
+pub sourced : (mask : ℕ) → mask < 2 ^ 16 → Sourced mask
+sourced mask w u e = heard-under mask 16 u (div-eq-of-lt w) e

@@ -1,6 +1,6 @@
 -- Spacings as a table, and arrivals as a mask.
 use Prim.Native.Nat.{ℕ, _+_, _/_, _%_, _^_, _≤_, _<_}
-use mathlib.Core.Bool.{Bool}
+use mathlib.Core.Bool.{Bool, true}
 use mathlib.Core.List.{List}
 use mathlib.Core.Path.{_≡_}
 use lib.ListN.{getD}
@@ -20,6 +20,9 @@ heard mask u = eqb (mask / 2 ^ u % 2) 1
 unfoldable pub marksIn : ℕ → List Bool
 marksIn mask = tab 16 (heard mask)
 
--- a mask of sources that exist
+-- a mask of nothing but sources, and one of sources that exist
+abbrev pub Sourced : ℕ → Type 0
+Sourced mask = (u : ℕ) → heard mask u ≡ true → u < 16
+
 abbrev pub Known : Description → ℕ → Type 0
 Known d mask = (d .«source_count» ≤ 16) × (mask / 2 ^ d .«source_count» ≡ 0)

@@ -49,6 +49,6 @@ Unpacks gaps sources w used ready r =
     (d : Description) (t : ℕ) (m : Machine) → d .«source_count» ≡ sources → GapsOf d t gaps → Holds d t w used ready m → r ≡ m
 
 -- words that hold a record which keeps the rules
-abbrev pub Packs : List ℕ → Machine → Words → List ℕ → Type 0
-Packs gaps m w ready =
-    (d : Description) (t : ℕ) → WellFormed d → 200 ≤ t → t ≤ 3000 → GapsOf d t gaps → lawful d t m ≡ true → Holds d t w (m .used) ready m
+pub record Packs (gaps : List ℕ) (m : Machine) (w : Words) (ready : List ℕ) : Type 0 where
+  pub holds : (d : Description) (t : ℕ) → WellFormed d → 200 ≤ t → t ≤ 3000 → GapsOf d t gaps → lawful d t m ≡ true → Holds d t w (m .used) ready m
+  pub first : w .tick ≡ 0

@@ -8,6 +8,7 @@ ghost use mathlib.Core.Bool.{_||_};
 ghost use Prim.Native.Nat.{_+_, _<_, _^_};
 ghost use lib.ListN.{length};
 ghost use lib.Dec.{eqb};
+ghost use Rattle.steps.specs.Parts.{Sourced};
 ghost use Rattle.steps.specs.Words.{wideAt, Fires, Arrives, Sleeps, Works, Workable, Passes};
 
 // The four words from place i on.
@@ -55,7 +56,7 @@ pub fn arrive<'a>(
     start: Words,
     ready: &mut [u64; 16],
 ) -> Words
-    requires { ⌜ (mask < 2 ^ 16) × (start .tick < 2 ^ 63) × (length (now ready) ≡ 16) ⌝ }
+    requires { ⌜ Sourced mask × (start .tick < 2 ^ 63) × (length (now ready) ≡ 16) ⌝ }
     ensures { λ r. ⌜ Arrives (now (rows .entry)) (now (gaps .entry)) mask start (now (ready .entry)) r (now (ready .exit)) ⌝ }
 {
     let mut w = start;

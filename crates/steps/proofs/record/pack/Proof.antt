@@ -28,7 +28,7 @@ returns c =
     let droppeds : length (m .dropped) ≡ 256 = search needs in
     let old : length (m .ages) ≡ 16 = search needs in
     let z : Sized m = record { awakes = awakes; useds = useds; waitings = waitings; droppeds = droppeds; ages = old } in
-    λ d t g low high s l. packed d t m g low high l z (c .before .before .before .before .before .before .before .before .before .before .before .before .args .gaps .now) (c .before .before .before .ready-of .result) _ s (c .awake-in .ensures) (c .before .before .before .before .before .before .before .before .links-in .ensures) (c .before .before .before .before .before .links-in2 .ensures) (c .before .before .before .ready-of .ensures) refl
+    record { holds = λ d t g low high s l. packed d t m g low high l z (c .before .before .before .before .before .before .before .before .before .before .before .before .args .gaps .now) (c .before .before .before .ready-of .result) _ s (c .awake-in .ensures) (c .before .before .before .before .before .before .before .before .links-in .ensures) (c .before .before .before .before .before .links-in2 .ensures) (c .before .before .before .ready-of .ensures) refl; first = refl }
 
 pub pack-spec : {M : Type 1} → statement M
 pack-spec =

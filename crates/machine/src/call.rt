@@ -53,10 +53,7 @@ fn refused(why: Refusal, words: Words) -> Advanced
     ensures { λ r. ⌜ r ≡ record { outcome = Refused why 0; words = words } ⌝ }
 {
     let outcome = Outcome::Refused(why, 0);
-    Advanced {
-        outcome,
-        words,
-    }
+    Advanced { outcome, words }
 }
 
 // 15 and 14 in this order, or else a tick. The record keeps the rules, so that 16 is not looked for.
@@ -84,8 +81,5 @@ pub fn advance<'a>(
     let worked = work(rows, runs, call.finish, arrived, used);
     let words = pass(worked);
     let outcome = Outcome::Done;
-    Advanced {
-        outcome,
-        words,
-    }
+    Advanced { outcome, words }
 }

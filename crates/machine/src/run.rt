@@ -121,10 +121,7 @@ pub fn run_wired(w: Wiring, gaps: [u32; 16], calls: &[u8], outcomes: &mut [u8]) 
     }
     let machine = unpack(&gaps, sources, words, used, &ready);
     let outcome = Outcome::Done;
-    Ticked {
-        outcome,
-        machine,
-    }
+    Ticked { outcome, machine }
 }
 
 // The same of a description that is judged as done at tempo t, its spacings at t being given.

@@ -201,8 +201,5 @@ pub fn pack(gaps: &[u32; 16], m: Machine) -> Packed
         dropped,
         tick: 0,
     };
-    Packed {
-        words,
-        ready,
-    }
+    Packed { words, ready }
 }

@@ -73,12 +73,15 @@ one-more f l n a b p q c r = rw (p, q, r) (ap (λ z. (ltb l n && f l) || z) (swa
 
 module _ (n x y : ℕ) (few : n < 256) (rows r₁ r₂ r₃ : List ℕ) (a : Marked rows x (n / 64) (n % 64) r₁) (b : Marked r₁ y (4 + n / 64) (n % 64) r₂) (c : Marked r₂ x 8 y r₃) where
   pub wired-more : Wired rows n x y r₃
-  wired-more = record { long = c .long; wired = λ d p q g. record {
+  wired-more = record {
     long = c .long;
-    out = λ z l h. c .marked z (l / 64) (l % 64) (omega arith) ∙ elsewhere _ (eqb z x) (eqb (l / 64) 8) _ (ne-eqb (l / 64) 8 (λ e. omega arith)) ∙ (b .marked z (l / 64) (l % 64) (omega arith) ∙ elsewhere _ (eqb z y) (eqb (l / 64) (4 + n / 64)) _ (ne-eqb (l / 64) (4 + n / 64) (λ e. omega arith))) ∙ (a .marked z (l / 64) (l % 64) (omega arith) ∙ one-more (λ k. eqb (linkAt d k .from) z) l n _ _ (g .out z l h) (place-is l n) (eqb z x) (eqb-sym z x ∙ ap (λ k. eqb k z) (sym p)));
-    into = λ z l h. c .marked z (4 + l / 64) (l % 64) (omega arith) ∙ elsewhere _ (eqb z x) (eqb (4 + l / 64) 8) _ (ne-eqb (4 + l / 64) 8 (λ e. omega arith)) ∙ (b .marked z (4 + l / 64) (l % 64) (omega arith) ∙ one-more (λ k. eqb (linkAt d k .to) z) l n _ _ (a .marked z (4 + l / 64) (l % 64) (omega arith) ∙ elsewhere _ (eqb z x) (eqb (4 + l / 64) (n / 64)) _ (ne-eqb (4 + l / 64) (n / 64) (λ e. omega arith)) ∙ g .into z l h) (place-on l n 4) (eqb z y) (eqb-sym z y ∙ ap (λ k. eqb k z) (sym q)));
-    wakes = λ z k. c .marked z 8 k (omega arith) ∙ (ap (λ s. s || (eqb z x && eqb k y)) (b .marked z 8 k (omega arith) ∙ elsewhere _ (eqb z y) (eqb 8 (4 + n / 64)) _ (ne-eqb 8 (4 + n / 64) (λ e. omega arith)) ∙ (a .marked z 8 k (omega arith) ∙ elsewhere _ (eqb z x) (eqb 8 (n / 64)) _ (ne-eqb 8 (n / 64) (λ e. omega arith)) ∙ g .wakes z k)) ∙ woken d p q z k ∙ sym (any-more (λ l. eqb (linkAt d l .from) z && eqb (linkAt d l .to) k) n));
-  } }
+    wired = λ d p q g. record {
+      long = c .long;
+      out = λ z l h. c .marked z (l / 64) (l % 64) (omega arith) ∙ elsewhere _ (eqb z x) (eqb (l / 64) 8) _ (ne-eqb (l / 64) 8 (λ e. omega arith)) ∙ (b .marked z (l / 64) (l % 64) (omega arith) ∙ elsewhere _ (eqb z y) (eqb (l / 64) (4 + n / 64)) _ (ne-eqb (l / 64) (4 + n / 64) (λ e. omega arith))) ∙ (a .marked z (l / 64) (l % 64) (omega arith) ∙ one-more (λ k. eqb (linkAt d k .from) z) l n _ _ (g .out z l h) (place-is l n) (eqb z x) (eqb-sym z x ∙ ap (λ k. eqb k z) (sym p)));
+      into = λ z l h. c .marked z (4 + l / 64) (l % 64) (omega arith) ∙ elsewhere _ (eqb z x) (eqb (4 + l / 64) 8) _ (ne-eqb (4 + l / 64) 8 (λ e. omega arith)) ∙ (b .marked z (4 + l / 64) (l % 64) (omega arith) ∙ one-more (λ k. eqb (linkAt d k .to) z) l n _ _ (a .marked z (4 + l / 64) (l % 64) (omega arith) ∙ elsewhere _ (eqb z x) (eqb (4 + l / 64) (n / 64)) _ (ne-eqb (4 + l / 64) (n / 64) (λ e. omega arith)) ∙ g .into z l h) (place-on l n 4) (eqb z y) (eqb-sym z y ∙ ap (λ k. eqb k z) (sym q)));
+      wakes = λ z k. c .marked z 8 k (omega arith) ∙ (ap (λ s. s || (eqb z x && eqb k y)) (b .marked z 8 k (omega arith) ∙ elsewhere _ (eqb z y) (eqb 8 (4 + n / 64)) _ (ne-eqb 8 (4 + n / 64) (λ e. omega arith)) ∙ (a .marked z 8 k (omega arith) ∙ elsewhere _ (eqb z x) (eqb 8 (n / 64)) _ (ne-eqb 8 (n / 64) (λ e. omega arith)) ∙ g .wakes z k)) ∙ woken d p q z k ∙ sym (any-more (λ l. eqb (linkAt d l .from) z && eqb (linkAt d l .to) k) n));
+    };
+  }
     where
       woken : (d : Description) → linkAt d n .from ≡ x → linkAt d n .to ≡ y → (z k : ℕ) → (anyN (λ l. eqb (linkAt d l .from) z && eqb (linkAt d l .to) k) 0 n || (eqb z x && eqb k y)) ≡ (anyN (λ l. eqb (linkAt d l .from) z && eqb (linkAt d l .to) k) 0 n || (eqb (linkAt d n .from) z && eqb (linkAt d n .to) k))
       woken d p q z k = rw (p, q, eqb-sym x z, eqb-sym y k) refl

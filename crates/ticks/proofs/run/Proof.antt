@@ -1,0 +1,44 @@
+-- `run` meets its contract: refused, or the calls of an accepted description. Assumes nothing.
+use mathlib.Core.Path.{sym, _∙_}
+use Rattle.machine.specs.Run.{callsIn}
+use Rattle.ticks.proofs.Laws.{run-refused, run-done}
+use borrow.Author.Needs.{needs}
+use Rattle.ticks.proofs.run.Statement.{statement}
+use Rattle.ticks.proofs.run.Tie as tie
+
+judge-at-requires : tie.Need-judge-at-requires
+judge-at-requires c κs = search needs
+
+enum-known-judged : tie.Need-enum-known-judged
+enum-known-judged c = search needs
+
+refused-start-requires : tie.Need-refused-start-requires
+refused-start-requires c κs = search needs
+
+returns : tie.Need-returns
+returns c = let S = c .before .before .before .before .before .before .before in let told = c .before .before .judged .given in run-refused (S .args .d) (S .args .t) (callsIn (S .args .calls .now)) (S .args .outcomes .now) (told .0 .0) (told .0 .1 .0) (c .refused-start .result) (sym (c .before .before .before .before .judge-at .ensures) ∙ told .1) (c .refused-start .ensures)
+
+enum-told : tie.Need-enum-told
+enum-told c = search needs
+
+run-accepted-requires : tie.Need-run-accepted-requires
+run-accepted-requires c κs = (sym (c .before .before .before .judge-at .ensures) ∙ c .before .enum-told .given .1)
+
+same-length : tie.Need-same-length
+same-length c = search needs
+
+returns-2 : tie.Need-returns-2
+returns-2 c = let S = c .before .before .before .before .before .before .before .before .before in run-done (S .args .d) (S .args .t) (callsIn (S .args .calls .now)) (S .args .outcomes .now) _ (c .before .before .run-accepted .result) (sym (c .before .before .before .before .before .before .judge-at .ensures) ∙ c .before .before .before .before .enum-told .given .1) (c .before .before .run-accepted .ensures)
+
+pub run-spec : {M : Type 1} → statement M
+run-spec =
+    tie.close
+    (tie.spec
+    judge-at-requires
+    enum-known-judged
+    refused-start-requires
+    returns
+    enum-told
+    run-accepted-requires
+    same-length
+    returns-2)

@@ -1,9 +1,9 @@
 // The tasks that each node brings in: those that a path reaches through higher tasks alone. Tasks are let in from the highest down.
-use model::Description;
 use sets::below;
 use sets::has;
 use sets::union;
 use sets::with;
+use model::Description;
 ghost use mathlib.Core.Path.{_≡_};
 ghost use Prim.Native.Nat.{_≤_, _<_};
 ghost use lib.ListN.{length};

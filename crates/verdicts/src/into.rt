@@ -1,7 +1,7 @@
 // For each task the set of nodes with a link to it.
 
-use model::Description;
 use sets::with;
+use model::Description;
 ghost use mathlib.Core.Path.{_≡_};
 ghost use Rattle.theory.proofs.Fielded.{Fielded};
 ghost use Rattle.verdicts.specs.Into.{IntoOf};

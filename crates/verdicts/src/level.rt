@@ -1,11 +1,11 @@
 // One level at a time: whether every critical link from a source to one task is held. The search for a tempo goes by this.
 
 use crate::rounds::level_reach;
+use sets::has;
+use sets::with;
 use model::Description;
 use model::Link;
 use model::Source;
-use sets::has;
-use sets::with;
 ghost use mathlib.Core.Path.{_≡_};
 ghost use mathlib.Core.Bool.{true, false, _||_, _&&_};
 ghost use mathlib.Core.List.{[]};

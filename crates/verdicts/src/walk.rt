@@ -1,7 +1,7 @@
 // The backward walk from a task against the links.
 
-use model::Walk;
 use sets::first;
+use model::Walk;
 ghost use mathlib.Core.Path.{_≡_};
 ghost use Prim.Native.Nat.{_≤_};
 ghost use Rattle.verdicts.specs.Into.{intoSystem, unmet, VisitIs};

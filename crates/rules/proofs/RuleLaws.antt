@@ -19,8 +19,8 @@ use Rattle.lemmas.proofs.Range.{all-at}
 use Rattle.assurance.proofs.Firing.{to-some, to-most}
 use Rattle.wiring.specs.declared.Wiring.{Wiring}
 use Rattle.wiring.specs.Rows.{WiringOf}
-use Rattle.steps.specs.Parts.{GapsOf}
-use Rattle.rules.specs.Rules.{parts, EntersOf, Enters}
+use Rattle.steps.specs.Parts.{parts, GapsOf}
+use Rattle.rules.specs.Rules.{EntersOf, Enters}
 
 -- tests over a range as a loop goes through them
 pub all-none : (p : ℕ → Bool) (a : ℕ) → allN p a 0 ≡ true

@@ -11,11 +11,7 @@ use Rattle.model.specs.Graph.{linkAt}
 use Rattle.model.specs.Machine.{taskRule, linkRule, sourceRule, lawful}
 use Rattle.wiring.specs.declared.Wiring.{Wiring}
 use Rattle.wiring.specs.Rows.{WiringOf}
-use Rattle.steps.specs.Parts.{GapsOf}
-
--- a record from its parts
-abbrev pub parts : List Bool → List ℕ → List Bool → List Bool → List ℕ → Machine
-parts awake used waiting dropped ages = record { awake = awake; used = used; waiting = waiting; dropped = dropped; ages = ages }
+use Rattle.steps.specs.Parts.{parts, GapsOf}
 
 -- the tasks that a description's links enter, of which there are n
 pub record EntersOf (d : Description) (to : List ℕ) (n : ℕ) : Type 0 where

@@ -1,4 +1,4 @@
--- Spacings as a table, and arrivals as a mask.
+-- A record from its parts, spacings as a table, and arrivals as a mask.
 use Prim.Native.Nat.{ℕ, _+_, _/_, _%_, _^_, _≤_, _<_}
 use mathlib.Core.Bool.{Bool, true}
 use mathlib.Core.List.{List}
@@ -6,8 +6,13 @@ use mathlib.Core.Path.{_≡_}
 use lib.ListN.{getD}
 use lib.Dec.{eqb}
 use Rattle.model.specs.declared.Description.{Description}
+use Rattle.model.specs.declared.Machine.{Machine}
 use Rattle.model.specs.Basics.{tab}
 use Rattle.model.specs.Delays.{spacingOf}
+
+-- a record from its parts
+abbrev pub parts : List Bool → List ℕ → List Bool → List Bool → List ℕ → Machine
+parts awake used waiting dropped ages = record { awake = awake; used = used; waiting = waiting; dropped = dropped; ages = ages }
 
 -- the spacings at tempo t of a description's sources
 abbrev pub GapsOf : Description → ℕ → List ℕ → Type 0

@@ -11,7 +11,8 @@ use Rattle.model.specs.declared.Description.{Description}
 use Rattle.model.specs.Basics.{allN}
 use native.Mathlib.Nat.{zero-add}
 use Rattle.model.specs.Machine.{linkRule}
-use Rattle.rules.specs.Rules.{parts, EntersOf}
+use Rattle.steps.specs.Parts.{parts}
+use Rattle.rules.specs.Rules.{EntersOf}
 use Rattle.rules.proofs.RuleLaws.{all-none, all-next, all-fails, link-is, cases}
 use Rattle.rules.proofs.links_lawful.Statement.{statement}
 use Rattle.rules.proofs.links_lawful.Tie as tie

@@ -10,8 +10,7 @@ use Rattle.model.specs.declared.Description.{Description}
 use Rattle.model.specs.Basics.{allN}
 use native.Mathlib.Nat.{zero-add}
 use Rattle.model.specs.Machine.{sourceRule}
-use Rattle.steps.specs.Parts.{GapsOf}
-use Rattle.rules.specs.Rules.{parts}
+use Rattle.steps.specs.Parts.{parts, GapsOf}
 use Rattle.rules.proofs.RuleLaws.{all-none, all-next, all-fails, source-is}
 use Rattle.rules.proofs.sources_lawful.Statement.{statement}
 use Rattle.rules.proofs.sources_lawful.Tie as tie

@@ -9,7 +9,7 @@ use borrow.Author.Tests.{not-true, not-false}
 use Rattle.model.specs.declared.Description.{Description}
 use Rattle.model.specs.Basics.{allN}
 use Rattle.model.specs.Machine.{taskRule}
-use Rattle.rules.specs.Rules.{parts}
+use Rattle.steps.specs.Parts.{parts}
 use Rattle.rules.proofs.RuleLaws.{all-none, all-next, all-fails, task-is}
 use Rattle.rules.proofs.tasks_lawful.Statement.{statement}
 use Rattle.rules.proofs.tasks_lawful.Tie as tie

@@ -5,7 +5,7 @@ use mathlib.Core.Bool.{Bool, true, false, _||_, _&&_, not, cond}
 use mathlib.Core.List.{List}
 use native.Mathlib.Omega.{arith}
 use native.Mathlib.Decide.{decLt}
-use native.Mathlib.Nat.{div-div-eq-div-mul, div-eq-of-lt, pow-suc}
+use native.Mathlib.Nat.{div-div-eq-div-mul, div-eq-of-lt, pow-suc, zero-div}
 use native.Mathlib.Numerals.{add-one}
 use lib.ListN.{getD}
 use lib.Dec.{ltb, leb, eqb}
@@ -17,7 +17,7 @@ use Rattle.model.specs.declared.Ticked.{Ticked}
 use Rattle.model.specs.declared.Outcome.{Outcome}
 use Rattle.model.specs.declared.Outcome.the-variants.{Done, Refused}
 use Rattle.model.specs.declared.Refusal.the-variants.{TooSoon, Stranger, ForeignState}
-use Rattle.model.specs.Basics.{anyN, allN}
+use Rattle.model.specs.Basics.{anyN, allN, upTo}
 use Rattle.model.specs.Graph.{runOf}
 use Rattle.model.specs.Delays.{spacingOf}
 use Rattle.model.specs.Verdicts.{judgeAt}
@@ -30,6 +30,7 @@ use Rattle.steps.specs.declared.words.Words.{Words}
 use Rattle.steps.specs.Parts.{heard, marksIn, Known, Sourced}
 use Rattle.steps.specs.Words.{Marks, Ages, Holds, Workable, worked}
 use Rattle.steps.proofs.MaskLaws.{none-above, mark-in, heard-under}
+use Rattle.steps.proofs.StepLaws.{arrive-none}
 use Rattle.machine.specs.declared.call.Advanced.{Advanced}
 
 -- a mask with nothing left above s sources
@@ -131,6 +132,20 @@ tick-soon d t m a finish e l s n = rw (e, l, s, n) refl
 pub tick-done : (d : Description) (t : ℕ) (m : Machine) (a : Arrivals) (finish : Bool) → judgeAt d t ≡ Done → lawful d t m ≡ true → strangers d (a .marks) ≡ false → tooSoon d t (a .marks) m ≡ false → record { outcome = Done; machine = ageAll d t (worked d finish (arrive d (a .marks) m)) } ≡ plainTick d t m a finish
 unfolding plainTick judgeTick stepped
 tick-done d t m a finish e l s n = rw (e, l, s, n) refl
+
+-- no arrivals: the mask is known, none is too soon, and nothing fires
+pub silent-known : (d : Description) (mask : ℕ) → WellFormed d → mask ≡ 0 → Known d mask
+silent-known d mask g e = (g .few-sources, ap (λ k. k / 2 ^ d .«source_count») e ∙ zero-div (2 ^ d .«source_count»))
+
+none-heard : (mask u : ℕ) → mask ≡ 0 → heard mask u ≡ false
+none-heard mask u e = none-above mask 0 u (ap (λ k. k / 2 ^ 0) e ∙ zero-div (2 ^ 0)) (omega arith)
+
+pub silent-soon : (d : Description) (t mask tick : ℕ) (ready : List ℕ) (m : Machine) → WellFormed d → mask ≡ 0 → Ages d t tick ready m → tooSoon d t (marksIn mask) m ≡ false
+silent-soon d t mask tick ready m g e a = sym (soon-none d t mask tick ready m (silent-known d mask g e) a (λ u h. absurd (not-both h (none-heard mask u e))))
+
+pub silent-arrive : (d : Description) (mask : ℕ) (m : Machine) → WellFormed d → mask ≡ 0 → m ≡ arrive d (marksIn mask) m
+unfolding arrive upTo
+silent-arrive d mask m g e = arrive-none d mask 0 (d .«source_count») m (omega arith) (g .few-sources) (λ u a b. none-heard mask u e)
 
 -- a call's answer and the plain machine's, whose record its words hold
 pub answer-ends : (r : Advanced) (o : Outcome) (w : Words) (m : Machine) (p : Ticked) → r ≡ record { outcome = o; words = w } → record { outcome = o; machine = m } ≡ p → r .outcome ≡ p .outcome

@@ -9,13 +9,13 @@ use Rattle.model.specs.declared.Arrivals.{Arrivals}
 use Rattle.model.specs.declared.Ticked.{Ticked}
 use Rattle.model.specs.declared.Outcome.the-variants.{Done}
 use Rattle.model.specs.Verdicts.{judgeAt}
-use Rattle.model.specs.Machine.{lawful, tooSoon, plainTick}
+use Rattle.model.specs.Machine.{ageAll, lawful, tooSoon, plainTick}
 use Rattle.theory.proofs.WellFormed.{WellFormed}
 use Rattle.wiring.specs.declared.Wiring.{Wiring}
 use Rattle.wiring.specs.Rows.{RowsOf, WiringOf}
 use Rattle.steps.specs.declared.words.Words.{Words}
 use Rattle.steps.specs.Parts.{GapsOf, marksIn, Known, Sourced}
-use Rattle.steps.specs.Words.{Ages, Holds}
+use Rattle.steps.specs.Words.{Ages, Holds, worked}
 use Rattle.machine.specs.declared.call.Call.{Call}
 use Rattle.machine.specs.declared.call.Advanced.{Advanced}
 
@@ -31,6 +31,13 @@ pub record TablesOf (d : Description) (t : ℕ) (rows runs gaps : List ℕ) (sou
 abbrev pub TooSoon : ℕ → List ℕ → ℕ → Bool → Type 0
 TooSoon mask ready tick r =
     (d : Description) (t : ℕ) (m : Machine) → Known d mask → Ages d t tick ready m → r ≡ tooSoon d t (marksIn mask) m
+
+-- steps 2 to 4 are made
+pub record RunsOn (rows runs : List ℕ) (finish : Bool) (w : Words) (used : List ℕ) (r : Advanced) (used′ : List ℕ) : Type 0 where
+  pub done : r .outcome ≡ Done
+  pub ran : (d : Description) (t : ℕ) (ready : List ℕ) (m : Machine) → WellFormed d → RowsOf d (d .«link_count») rows → runs ≡ d .runs
+      → Holds d t w used ready m → Holds d t (r .words) used′ ready (ageAll d t (worked d finish m))
+  pub then : r .words .tick ≡ w .tick + 1
 
 -- a call may be made: its tables are those of some accepted description, and the words hold a record that keeps the rules
 pub record Going (rows runs gaps : List ℕ) (sources mask : ℕ) (w : Words) (used ready : List ℕ) : Type 0 where

@@ -7,10 +7,11 @@ use steps::step::pass;
 use steps::step::work;
 use steps::words::Words;
 ghost use mathlib.Core.Path.{_≡_};
-ghost use Prim.Native.Nat.{_≤_, _/_, _^_};
+ghost use Prim.Native.Nat.{_≤_, _<_, _/_, _^_};
 ghost use Rattle.model.specs.declared.Outcome.the-variants.{Refused};
 ghost use Rattle.steps.specs.Parts.{Sourced};
-ghost use Rattle.machine.specs.Calls.{TooSoon, Going, Advances};
+ghost use Rattle.steps.specs.Words.{Workable};
+ghost use Rattle.machine.specs.Calls.{TooSoon, RunsOn, Going, Advances};
 
 // What a caller brings to a tick: the arrivals, whose bit u is source 33 + u, and finish.
 pub struct Call {
@@ -56,6 +57,23 @@ fn refused(why: Refusal, words: Words) -> Advanced
     Advanced { outcome, words }
 }
 
+// Steps 2 to 4, once the arrivals have fired.
+fn run_on<'a>(
+    rows: &'a [u64; 576],
+    runs: &'a [u32; 32],
+    finish: bool,
+    w: Words,
+    used: &mut [u32; 32],
+) -> Advanced
+    requires { ⌜ Workable w (now used) × (w .tick < 2 ^ 63) ⌝ }
+    ensures { λ r. ⌜ RunsOn (now (rows .entry)) (now (runs .entry)) finish w (now (used .entry)) r (now (used .exit)) ⌝ }
+{
+    let worked = work(rows, runs, finish, w, used);
+    let words = pass(worked);
+    let outcome = Outcome::Done;
+    Advanced { outcome, words }
+}
+
 // 15 and 14 in this order, or else a tick. The record keeps the rules, so that 16 is not looked for.
 pub fn advance<'a>(
     rows: &'a [u64; 576],
@@ -71,6 +89,10 @@ pub fn advance<'a>(
     ensures { λ r. ⌜ Advances (now (rows .entry)) (now (runs .entry)) (now (gaps .entry)) sources call w (now (used .entry)) (now (ready .entry)) r (now (used .exit)) (now (ready .exit)) ⌝ }
 {
     let mask = call.mask;
+    let finish = call.finish;
+    if mask == 0 {
+        return run_on(rows, runs, finish, w, used);
+    }
     if above(mask, sources) != 0 {
         return refused(Refusal::Stranger, w);
     }
@@ -78,8 +100,5 @@ pub fn advance<'a>(
         return refused(Refusal::TooSoon, w);
     }
     let arrived = arrive(rows, gaps, mask, w, ready);
-    let worked = work(rows, runs, call.finish, arrived, used);
-    let words = pass(worked);
-    let outcome = Outcome::Done;
-    Advanced { outcome, words }
+    run_on(rows, runs, finish, arrived, used)
 }

@@ -1,18 +1,17 @@
 -- Signed replies, the bytes of a record, and the quote of a file by its stages. Assumes nothing.
-use Prim.Native.Nat.{ℕ, zero, suc, _+_, _-_, _*_, _/_, _%_, _^_, _≤_, _<_}
+use Prim.Native.Nat.{ℕ, zero, suc, _+_, _-_, _/_, _%_, _^_, _≤_, _<_}
 use mathlib.Core.Path.{_≡_, refl, sym, ap, subst, _∙_}
-use mathlib.Core.Bool.{Bool, true, false, cond}
+use mathlib.Core.Bool.{Bool, true, false}
 use mathlib.Core.List.{List, _++_}
 use native.Mathlib.Omega.{arith}
 use lib.ListN.{length, getD, set, take, drop}
 use lib.Seq.{take-all}
 use lib.Dec.{ltb}
-use lib.IntN.{ℤ, pos, negsuc, negℤ, _-ℤ_, +ℤ-idl}
+use lib.IntN.{ℤ, pos, negℤ, _-ℤ_, +ℤ-idl}
 use mir.Syntax.{w64}
 use mir.Val.{SFits, toZ, ofZ, boolByte}
 use mir.ValLaws.{toZ-ofZ}
 use borrow.Author.Tests.{lt-ltb, le-ltb, eq-eqb, ne-eqb}
-use Rattle.model.specs.declared.Description.{Description}
 use Rattle.model.specs.declared.Machine.{Machine}
 use Rattle.model.specs.declared.Reading.{Reading}
 use Rattle.model.specs.declared.Filled.{Filled}
@@ -20,16 +19,16 @@ use Rattle.model.specs.declared.Filled.the-variants.{Bytes, Unfilled}
 use Rattle.model.specs.declared.Quote.{Quote}
 use Rattle.model.specs.declared.Quote.the-variants.{Tempo, Unquoted}
 use Rattle.model.specs.declared.Refusal.{Refusal}
-use Rattle.model.specs.declared.Refusal.the-variants.{CutShort, StrangeTag, WrongLength, OutOfTurn, TooMany, OffScale, NoSuchEnd, NoTask, Loop, TooHeavy, OffKnob, NoTempo, ShortPage, TooSoon, Stranger, ForeignState}
+use Rattle.model.specs.declared.Refusal.the-variants.{ShortPage}
 use Rattle.model.specs.declared.Outcome.{Outcome}
 use Rattle.model.specs.declared.Outcome.the-variants.{Done, Refused}
-use Rattle.model.specs.Refusals.{numberOf, onDone}
+use Rattle.model.specs.Refusals.{onDone}
 use Rattle.model.specs.File.{parseFile, readFile, fillWith, judge, lastChecks}
 use Rattle.model.specs.Report.{reportOf, reported}
 use Rattle.model.specs.Verdicts.{quoteOf, largestBelow, allHeld}
 use Rattle.lemmas.proofs.Table.{length-tab, getD-tab}
 use Rattle.theory.proofs.NumberBytes.{Bytes as AllBytes}
-use Rattle.theory.proofs.FileLength.{placeIn, read-place}
+use Rattle.theory.proofs.FileLength.{read-place}
 use Rattle.theory.proofs.ReadBack.{read-judged}
 use Rattle.loads.specs.declared.Worked.{Worked}
 use Rattle.loads.specs.Tables.{WorkedOf}
@@ -58,25 +57,6 @@ below-fits r x e h = subst (SFits w64) (sym (below-is r x e h)) (neg-fits x h)
 
 pub below : (r : ℤ) (x : ℕ) → r ≡ pos x → x < 2 ^ 32 → toZ w64 (ofZ w64 (pos 0 -ℤ toZ w64 (ofZ w64 r))) ≡ negℤ (pos x)
 below r x e h = toZ-ofZ w64 (pos 0 -ℤ toZ w64 (ofZ w64 r)) (below-fits r x e h) ∙ below-is r x e h
-
--- refusals are numbered up to 16
-pub number-most : (r : Refusal) → numberOf r ≤ 16
-number-most CutShort = omega arith
-number-most StrangeTag = omega arith
-number-most WrongLength = omega arith
-number-most OutOfTurn = omega arith
-number-most TooMany = omega arith
-number-most OffScale = omega arith
-number-most NoSuchEnd = omega arith
-number-most NoTask = omega arith
-number-most Loop = omega arith
-number-most TooHeavy = omega arith
-number-most OffKnob = omega arith
-number-most NoTempo = omega arith
-number-most ShortPage = omega arith
-number-most TooSoon = omega arith
-number-most Stranger = omega arith
-number-most ForeignState = omega arith
 
 -- a number's four bytes
 pub byte-0 : (n k : ℕ) → k ≡ 0 → n / 16777216 % 256 ≡ byteIn n k

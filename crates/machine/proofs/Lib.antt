@@ -1,4 +1,4 @@
 -- Laws that the proofs of this crate's functions share.
-pub mod RuleLaws
-pub mod TickLaws
+pub mod CallLaws
 pub mod RunLaws
+pub mod TickLaws

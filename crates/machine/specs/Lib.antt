@@ -1,3 +1,3 @@
--- What the contracts of the tick machine's code cite beside the definitions of `model` and the parts of `steps`.
-pub mod Judged
+-- What the contracts of the tick machine's code cite beside the definitions of `model` and the words of `steps`.
+pub mod Calls
 pub mod Run

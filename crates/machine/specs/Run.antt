@@ -1,12 +1,11 @@
 -- A run of many tick calls: the list of calls that its bytes stand for, its answer, and the buffer it leaves.
 use Prim.Native.Nat.{ℕ, _+_, _*_, _≤_, _/_}
-use mathlib.Core.Bool.{Bool, true, cond, not}
+use mathlib.Core.Bool.{Bool, cond, not}
 use mathlib.Core.List.{List, [], _∷_}
 use mathlib.Core.Path.{_≡_}
 use lib.ListN.{length, getD}
 use lib.Dec.{eqb, ltb}
 use Rattle.model.specs.declared.Description.{Description}
-use Rattle.model.specs.declared.Machine.{Machine}
 use Rattle.model.specs.declared.Ticked.{Ticked}
 use Rattle.model.specs.declared.Outcome.{Outcome}
 use Rattle.model.specs.declared.Outcome.the-variants.{Done, Refused}
@@ -17,12 +16,13 @@ use Rattle.model.specs.Refusals.{numberOf}
 use Rattle.model.specs.Field.{numberIn}
 use Rattle.model.specs.File.{filledBy}
 use Rattle.model.specs.Verdicts.{judgeAt, quoteOf}
-use Rattle.model.specs.Machine.{idle, blankMachine, highestIn, lawful, plainTick}
+use Rattle.model.specs.Machine.{idle, blankMachine}
 use Rattle.model.specs.History.{Call, answers, left}
 use Rattle.model.specs.Promise.{Assured}
-use Rattle.theory.proofs.WellFormed.{WellFormed}
-use Rattle.steps.specs.declared.plan.Plan.{Plan}
-use Rattle.steps.specs.Parts.{marksIn, parts, older, PlanOf}
+use Rattle.wiring.specs.declared.Wiring.{Wiring}
+use Rattle.wiring.specs.Rows.{WiringOf}
+use Rattle.spacings.specs.Gaps.{GapsOf}
+use Rattle.steps.specs.Parts.{marksIn}
 
 -- a call in four bytes: the mask of its arrivals, high byte first; finish, unless the byte is 0; and a byte that is not looked at
 abbrev pub callOf : ℕ → Bool → Call
@@ -55,26 +55,10 @@ ran d t cs buffer =
     (record { outcome = Refused ShortPage 0; machine = blankMachine })
     (record { outcome = Done; machine = left d t (idle d t) cs })
 
--- the record that is meant where its ages are late by some ticks
-abbrev pub lagging : Description → ℕ → ℕ → Machine → Machine
-lagging d t late m = parts (m .awake) (m .used) (m .waiting) (m .dropped) (older d t late (m .ages))
-
--- a call's code and the record it leaves
-abbrev pub Coded : Description → ℕ → Machine → ℕ → Bool → ℕ → Machine → Type 0
-Coded d t m mask finish r m′ =
-    (r ≡ codeOf (plainTick d t m (record { marks = marksIn mask }) finish .outcome)) × (m′ ≡ plainTick d t m (record { marks = marksIn mask }) finish .machine)
-
--- what a call of a run ensures, on a record that keeps the rules, with the number of ticks by which the ages are late and the highest
--- awake task
-pub record Advances (p : Plan) (mask : ℕ) (finish : Bool) (m : Machine) (late : ℕ) (m′ : Machine) (late′ top r : ℕ) : Type 0 where
-  pub advanced : (d : Description) (t : ℕ) → PlanOf d t p → judgeAt d t ≡ Done → lawful d t (lagging d t late m) ≡ true → Coded d t (lagging d t late m) mask finish r (lagging d t late′ m′)
-  pub little : late′ ≤ late + 1
-  pub highest : top ≡ highestIn (m′ .awake) (p .tasks)
-
--- what a run ensures, of every accepted description and tempo whose plan it is given
-abbrev pub RunIs : Plan → List Call → List ℕ → List ℕ → Ticked → Type 0
-RunIs p cs buffer buffer′ r =
-    (d : Description) (t : ℕ) → PlanOf d t p → WellFormed d → judgeAt d t ≡ Done
+-- what a run ensures, of every accepted description and tempo whose tables it is given
+abbrev pub RunIs : Wiring → List ℕ → List Call → List ℕ → List ℕ → Ticked → Type 0
+RunIs w gaps cs buffer buffer′ r =
+    (d : Description) (t : ℕ) → WiringOf d w → GapsOf d t gaps → judgeAt d t ≡ Done
     → (r ≡ ran d t cs buffer) × (buffer′ ≡ filledBy (page d t cs) buffer)
 
 -- and of its description: the plain machine's record and codes, and with a quote all that demand 3 assures of this list of calls

@@ -1,5 +1,5 @@
-// The tick machine: the rules of its record, the tick call once a description is judged, and a run of many calls.
+// The tick machine: one call on words of bits, the tick call on a record, and a run of many calls.
 
-pub mod rules;
+pub mod call;
 pub mod run;
 pub mod tick;

@@ -1,81 +1,28 @@
 // The tick call on a record by value, once its description is judged.
 
-use crate::rules::above;
-use crate::rules::lawful;
-use crate::rules::too_soon;
+use crate::call::Call;
+use crate::call::advance;
 use model::Arrivals;
 use model::Machine;
 use model::Outcome;
 use model::Refusal;
 use model::Ticked;
-use steps::plan::Plan;
-use steps::step::step;
+use rules::lawful;
+use steps::record::pack;
+use steps::record::unpack;
+use steps::record::word_in;
+use wiring::Wiring;
 ghost use mathlib.Core.Path.{_≡_};
-ghost use mathlib.Core.Bool.{cond};
-ghost use lib.ListN.{length};
-ghost use Rattle.steps.specs.Parts.{marksIn, Sound, Countable, Steps};
 ghost use Rattle.model.specs.declared.Outcome.the-variants.{Refused};
-ghost use Rattle.machine.specs.Judged.{Planned, TickIs};
+ghost use Rattle.steps.specs.Parts.{marksIn, Sourced};
+ghost use Rattle.machine.specs.Calls.{Accepted, TickIs};
 
-// A mark as the lowest bit of a mask.
-fn bit(mark: bool) -> u16
-    ensures { λ r. ⌜ r ≡ cond mark 1 0 ⌝ }
+// The mask of some arrivals.
+fn mask_of(a: Arrivals) -> u64
+    ensures { λ r. ⌜ Sourced r × (marksIn r ≡ a .marks) ⌝ }
 {
-    if mark { 1 } else { 0 }
-}
-
-// The mask of some marks.
-fn mask_of(marks: &[bool; 16]) -> u16
-    requires { ⌜ length (now marks) ≡ 16 ⌝ }
-    ensures { λ r. ⌜ marksIn r ≡ now (marks .entry) ⌝ }
-{
-    let mut mask: u16 = 0;
-    let mut u: usize = 16;
-    while 0 < u {
-        u -= 1;
-        mask = 2 * mask + bit(marks[u]);
-    }
-    mask
-}
-
-// One tick of a record by value.
-pub fn stepped(p: Plan, mask: u16, finish: bool, m: Machine) -> Machine
-    requires { ⌜ Sound p × Countable (m .used) ⌝ }
-    ensures { λ r. ⌜ Steps p mask finish m r ⌝ }
-{
-    let mut awake = m.awake;
-    let mut used = m.used;
-    let mut waiting = m.waiting;
-    let mut dropped = m.dropped;
-    let mut ages = m.ages;
-    let links = p.links;
-    let tasks = p.tasks;
-    let sources = p.sources;
-    step(
-        &p.from,
-        &p.to,
-        &p.first,
-        &p.last,
-        links,
-        tasks,
-        &p.runs,
-        sources,
-        &p.gaps,
-        mask,
-        finish,
-        &mut awake,
-        &mut used,
-        &mut waiting,
-        &mut dropped,
-        &mut ages,
-    );
-    Machine {
-        awake,
-        used,
-        waiting,
-        dropped,
-        ages,
-    }
+    let marks = a.marks;
+    word_in(&marks, 0, 16)
 }
 
 // A refused tick leaves the record as it was.
@@ -90,28 +37,36 @@ pub fn refused(why: Refusal, m: Machine) -> Ticked
 }
 
 // The tick call: 16, 15 and 14 in this order, or else the record one tick later.
-pub fn tick_judged(p: Plan, m: Machine, a: Arrivals, finish: bool) -> Ticked
-    requires { ⌜ Planned p ⌝ }
-    ensures { λ r. ⌜ TickIs p m a finish r ⌝ }
+pub fn tick_judged(w: Wiring, gaps: [u32; 16], m: Machine, a: Arrivals, finish: bool) -> Ticked
+    requires { ⌜ Accepted w gaps ⌝ }
+    ensures { λ r. ⌜ TickIs w gaps m a finish r ⌝ }
 {
-    if !lawful(p, m) {
+    if !lawful(w, gaps, m) {
         return refused(Refusal::ForeignState, m);
     }
-    let marks = a.marks;
-    let mask = mask_of(&marks);
-    let sources = p.sources;
-    if above(mask, sources) != 0 {
-        return refused(Refusal::Stranger, m);
-    }
-    let gaps = p.gaps;
-    let ages = m.ages;
-    if too_soon(&gaps, mask, &ages) {
-        return refused(Refusal::TooSoon, m);
-    }
-    let next = stepped(p, mask, finish, m);
-    let outcome = Outcome::Done;
+    let call = Call {
+        mask: mask_of(a),
+        finish,
+    };
+    let packed = pack(&gaps, m);
+    let words = packed.words;
+    let mut ready = packed.ready;
+    let mut used = m.used;
+    let sources = w.sources;
+    let done = advance(
+        &w.rows,
+        &w.runs,
+        &gaps,
+        sources,
+        call,
+        words,
+        &mut used,
+        &mut ready,
+    );
+    let outcome = done.outcome;
+    let left = done.words;
     Ticked {
         outcome,
-        machine: next,
+        machine: unpack(&gaps, sources, left, used, &ready),
     }
 }

@@ -1,2 +1,3 @@
 -- Laws of sets of bits, which other crates cite.
 pub mod SetLaws
+pub mod WideLaws

@@ -1,16 +1,16 @@
 -- Laws of sets as bits. Assumes nothing.
-use Prim.Native.Nat.{ℕ, zero, suc, _+_, _-_, _*_, _/_, _%_, _^_, _≤_, _<_, max}
+use Prim.Native.Nat.{ℕ, zero, suc, _+_, _-_, _*_, _/_, _%_, _^_, _≤_, _<_, max, min}
 use mathlib.Core.Path.{_≡_, refl, sym, ap, _∙_}
-use mathlib.Core.Bool.{Bool, true, false, _||_, _&&_}
+use mathlib.Core.Bool.{Bool, true, false, _||_, _&&_, not}
 use native.Mathlib.Omega.{arith}
-use native.Mathlib.Nat.{div-eq-of-lt, div-one, pow-suc, mod-lt, lt-of-lt-of-le}
+use native.Mathlib.Nat.{div-eq-of-lt, div-eq-of-lt-le, div-one, pow-suc, mod-lt, lt-of-lt-of-le}
 use native.Mathlib.Decide.{decLt}
 use lib.Dec.{eqb, ltb}
-use lib.Bits.{bitOr, bitAnd, or-step, or-shr, and-mask, shifted-even}
+use lib.Bits.{bitOr, bitAnd, bitXor, differ, or-step, or-shr, and-step, and-shr, and-self, xor-step, xor-shr, and-mask, shifted-even}
 use lib.Pow.{pow-pos, pow-mono, pow-lt, pow-add, shl-shr, shl-exact, shr-shr, field, mod-mod-pow}
-use lib.Count.{trailingZeros, under}
-use borrow.Author.Tests.{eq-eqb, eqb-true, lt-ltb, le-ltb}
-use Rattle.lemmas.proofs.Tests.{Cmp, less, same, more, cmp, false-of}
+use lib.Count.{trailingZeros, leadingZeros, under, leading-top}
+use borrow.Author.Tests.{eq-eqb, eqb-true, lt-ltb, le-ltb, ltb-true}
+use Rattle.lemmas.proofs.Tests.{Cmp, less, same, more, cmp, not-both, false-of, same-test}
 use Rattle.sets.specs.Sets.{member}
 
 odd-of : (z b m : ℕ) → z ≡ b * 2 + m → m < 2 → z % 2 ≡ m
@@ -152,3 +152,118 @@ first-some (suc n) s p q = go (s % 2) refl (first-some n (s / 2))
     go : (b : ℕ) → s % 2 ≡ b → (0 < s / 2 → s / 2 < 2 ^ n → (trailingZeros n (s / 2) < n) × (member (s / 2) (trailingZeros n (s / 2)) ≡ true)) → (under b (trailingZeros n (s / 2)) < suc n) × (member s (under b (trailingZeros n (s / 2))) ≡ true)
     go zero e ih = let x = ih (omega arith) (omega (arith, pow-suc 2 n)) in (omega (arith, x .0), member-half s (trailingZeros n (s / 2)) ∙ x .1)
     go (suc b) e ih = (omega arith, member-zero s ∙ eq-eqb (s % 2) 1 (omega arith))
+
+-- the members that both have
+bit-and : (p q : ℕ) → p < 2 → q < 2 → (min p q < 2) × (eqb (min p q) 1 ≡ (eqb p 1 && eqb q 1))
+bit-and zero zero h k = (omega arith, refl)
+bit-and zero (suc zero) h k = (omega arith, refl)
+bit-and (suc zero) zero h k = (omega arith, refl)
+bit-and (suc zero) (suc zero) h k = (omega arith, refl)
+bit-and (suc (suc p)) q h k = absurd (omega arith)
+bit-and zero (suc (suc q)) h k = absurd (omega arith)
+bit-and (suc zero) (suc (suc q)) h k = absurd (omega arith)
+
+pub member-and : (a b k : ℕ) → member (bitAnd a b) k ≡ (member a k && member b k)
+unfolding member
+member-and a b k =
+    let x = a / 2 ^ k in
+    let y = b / 2 ^ k in
+    let w = bit-and (x % 2) (y % 2) (omega arith) (omega arith) in
+    ap (λ z. eqb (z % 2) 1) (and-shr a b k)
+    ∙ ap (λ z. eqb z 1) (odd-of (bitAnd x y) (bitAnd (x / 2) (y / 2)) (min (x % 2) (y % 2)) (and-step x y) (w .0))
+    ∙ w .1
+
+-- the members of a that b does not have
+bit-less : (p q : ℕ) → p < 2 → q < 2 → (differ p (min p q) < 2) × (eqb (differ p (min p q)) 1 ≡ (eqb p 1 && not (eqb q 1)))
+bit-less zero zero h k = (omega arith, refl)
+bit-less zero (suc zero) h k = (omega arith, refl)
+bit-less (suc zero) zero h k = (omega arith, refl)
+bit-less (suc zero) (suc zero) h k = (omega arith, refl)
+bit-less (suc (suc p)) q h k = absurd (omega arith)
+bit-less zero (suc (suc q)) h k = absurd (omega arith)
+bit-less (suc zero) (suc (suc q)) h k = absurd (omega arith)
+
+pub member-less : (a b k : ℕ) → member (bitXor a (bitAnd a b)) k ≡ (member a k && not (member b k))
+unfolding member
+member-less a b k =
+    let x = a / 2 ^ k in
+    let y = b / 2 ^ k in
+    let w = bit-less (x % 2) (y % 2) (omega arith) (omega arith) in
+    let n : bitAnd x y % 2 ≡ min (x % 2) (y % 2) = odd-of (bitAnd x y) (bitAnd (x / 2) (y / 2)) (min (x % 2) (y % 2)) (and-step x y) (bit-and (x % 2) (y % 2) (omega arith) (omega arith) .0) in
+    ap (λ z. eqb (z % 2) 1) (xor-shr a (bitAnd a b) k ∙ ap (bitXor x) (and-shr a b k))
+    ∙ ap (λ z. eqb z 1) (odd-of (bitXor x (bitAnd x y)) (bitXor (x / 2) (bitAnd x y / 2)) (differ (x % 2) (min (x % 2) (y % 2))) (xor-step x (bitAnd x y) ∙ ap (λ z. bitXor (x / 2) (bitAnd x y / 2) * 2 + differ (x % 2) z) n) (w .0))
+    ∙ w .1
+
+-- the set of k alone, as a shift makes it
+pub member-alone : (k j : ℕ) → k < 64 → member (1 * 2 ^ k % 18446744073709551616) j ≡ eqb j k
+member-alone k j p = ap (λ z. member z j) (shl-exact 1 k 64 (omega arith) (omega arith)) ∙ member-one k j
+
+-- the set without its least member k
+double : (x i : ℕ) → member (x * 2) (suc i) ≡ member x i
+double x i = let e : x * 2 / 2 ≡ x = omega arith in member-half (x * 2) i ∙ ap (λ z. member z i) e
+
+double-zero : (x : ℕ) → member (x * 2) 0 ≡ false
+double-zero x = let e : x * 2 % 2 ≡ 0 = omega arith in member-zero (x * 2) ∙ ap (λ z. eqb z 1) e
+
+odd-zero : (s : ℕ) → member s 0 ≡ true → s % 2 ≡ 1
+odd-zero s e = eqb-true (s % 2) 1 (sym (member-zero s) ∙ e)
+
+even-zero : (s : ℕ) → member s 0 ≡ false → s % 2 ≡ 0
+even-zero s e = let h : s % 2 ≡ 1 → ⊥ = λ z. not-both (member-zero s ∙ eq-eqb (s % 2) 1 z) e in omega arith
+
+-- an odd set, and an even one
+rest-odd : (s : ℕ) → s % 2 ≡ 1 → bitAnd s (s - 1) ≡ s / 2 * 2
+rest-odd s e =
+    let half : (s - 1) / 2 ≡ s / 2 = omega arith in
+    let low : (s - 1) % 2 ≡ 0 = omega arith in
+    and-step s (s - 1) ∙ rw (half, low, e, and-self (s / 2)) (omega arith)
+
+rest-even : (s : ℕ) → s % 2 ≡ 0 → 0 < s → bitAnd s (s - 1) ≡ bitAnd (s / 2) (s / 2 - 1) * 2
+rest-even s e p =
+    let half : (s - 1) / 2 ≡ s / 2 - 1 = omega arith in
+    let low : (s - 1) % 2 ≡ 1 = omega arith in
+    and-step s (s - 1) ∙ rw (half, low, e) (omega arith)
+
+pub member-rest : (k s j : ℕ) → member s k ≡ true → ((i : ℕ) → i < k → member s i ≡ false) → member (bitAnd s (s - 1)) j ≡ (member s j && ltb k j)
+member-rest zero s j e none =
+    let o : s % 2 ≡ 1 = odd-zero s e in
+    ap (λ z. member z j) (rest-odd s o) ∙ go j
+  where
+    go : (j : ℕ) → member (s / 2 * 2) j ≡ (member s j && ltb 0 j)
+    go zero = double-zero (s / 2) ∙ sym (and-off (member s 0) (ltb 0 0) (le-ltb 0 0 (omega arith)))
+    go (suc i) = double (s / 2) i ∙ sym (member-half s i) ∙ sym (and-on (member s (suc i)) (ltb 0 (suc i)) (lt-ltb 0 (suc i) (omega arith)))
+member-rest (suc k) s j e none = go j (member-rest k (s / 2))
+  where
+    o : s % 2 ≡ 0
+    o = even-zero s (none 0 (omega arith))
+
+    some : 0 < s
+    some = pos s e
+      where
+        pos : (s : ℕ) → member s (suc k) ≡ true → 0 < s
+        pos zero h = absurd (not-both h (member-none (suc k)))
+        pos (suc s) h = omega arith
+
+    next : (i : ℕ) → ltb k i ≡ ltb (suc k) (suc i)
+    next i = same-test (ltb k i) (ltb (suc k) (suc i)) (λ h. lt-ltb (suc k) (suc i) (omega (arith, ltb-true k i h))) (λ h. lt-ltb k i (omega (arith, ltb-true (suc k) (suc i) h)))
+
+    go : (j : ℕ) → ((j : ℕ) → member (s / 2) k ≡ true → ((i : ℕ) → i < k → member (s / 2) i ≡ false) → member (bitAnd (s / 2) (s / 2 - 1)) j ≡ (member (s / 2) j && ltb k j)) → member (bitAnd s (s - 1)) j ≡ (member s j && ltb (suc k) j)
+    go zero ih = ap (λ z. member z 0) (rest-even s o some) ∙ double-zero (bitAnd (s / 2) (s / 2 - 1)) ∙ sym (and-off (member s 0) (ltb (suc k) 0) (le-ltb (suc k) 0 (omega arith)))
+    go (suc i) ih =
+        ap (λ z. member z (suc i)) (rest-even s o some) ∙ double (bitAnd (s / 2) (s / 2 - 1)) i
+        ∙ ih i (sym (member-half s k) ∙ e) (λ n p. sym (member-half s n) ∙ none (suc n) (omega arith))
+        ∙ ap (λ b. b && ltb k i) (sym (member-half s i)) ∙ ap (λ b. member s (suc i) && b) (next i)
+
+-- the greatest member: as many zeros stand above the highest bit
+top-here : (s j : ℕ) → 2 ^ j ≤ s → s < 2 ^ suc j → member s j ≡ true
+unfolding member
+top-here s j a b =
+    let z : s / 2 ^ j ≡ 1 = div-eq-of-lt-le {k = 1} (2 ^ j) (omega arith) (omega (arith, pow-suc 2 j)) in
+    ap (λ x. eqb (x % 2) 1) z
+
+pub last-some : (s : ℕ) → 0 < s → s < 2 ^ 64 → (leadingZeros 64 s ≤ 63) × (member s (63 - leadingZeros 64 s) ≡ true) × ((k : ℕ) → 63 - leadingZeros 64 s < k → member s k ≡ false)
+last-some s p q =
+    let t = leading-top 64 s p q in
+    let j = t .0 in
+    let e : 63 - leadingZeros 64 s ≡ j = omega (arith, t .1) in
+    (omega (arith, t .1), rw e (top-here s j (t .2) (t .3)), λ k h. member-past s (suc j) k (t .3) (omega arith))

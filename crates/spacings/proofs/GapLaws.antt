@@ -16,6 +16,7 @@ use Rattle.model.specs.declared.Field.the-variants.{OfSource}
 use Rattle.model.specs.Refusals.{noSource}
 use Rattle.model.specs.Field.{onScale}
 use Rattle.model.specs.Delays.{spacing, spacingOf}
+use Rattle.model.specs.Verdicts.{onKnob}
 use Rattle.lemmas.proofs.Tests.{at-or-not, and-left, and-right}
 use Rattle.lemmas.proofs.Table.{stored, getD-same}
 use Rattle.theory.proofs.WellFormed.{WellFormed}
@@ -82,3 +83,7 @@ scaled-of d s g h =
           ∙ ap (λ (i : ℕ). onScale (OfSource (getD (d .sources) i noSource .source))) (sym w)
           ∙ g .fields .source-scale (33 + u) (omega arith) (omega (arith, h .counted));
     }
+
+-- a tempo on the knob
+pub knob-is : (t : ℕ) → onKnob t ≡ true → (200 ≤ t) × (t ≤ 3000)
+knob-is t e = (leb-true 200 t (and-left (leb 200 t) (leb t 3000) e), leb-true t 3000 (and-right (leb 200 t) (leb t 3000) e))

@@ -1,3 +1,5 @@
 -- Laws that the proofs of this crate's functions share.
 pub mod MaskLaws
+pub mod MarkLaws
 pub mod StepLaws
+pub mod RecordLaws

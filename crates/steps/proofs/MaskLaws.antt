@@ -1,21 +1,18 @@
 -- Masks of arrivals, bit by bit, as a loop over the bits that are set goes through them. Assumes nothing.
-use Prim.Native.Nat.{ℕ, _+_, _-_, _/_, _%_, _^_, _≤_, _<_}
+use Prim.Native.Nat.{ℕ, _+_, _-_, _/_, _^_, _≤_, _<_}
 use mathlib.Core.Path.{_≡_, refl, sym, ap, subst, _∙_}
-use mathlib.Core.Bool.{true, false}
+use mathlib.Core.Bool.{Bool, true, false, _&&_}
 use native.Mathlib.Omega.{arith}
-use native.Mathlib.Nat.{div-div-eq-div-mul, div-eq-of-lt, div-one, zero-div, add-sub-of-le}
-use lib.Pow.{pow-add, shr-shr}
+use native.Mathlib.Nat.{div-div-eq-div-mul, div-eq-of-lt, zero-div, add-sub-of-le}
+use lib.Pow.{pow-add}
 use lib.ListN.{getD}
-use Rattle.lemmas.proofs.Tests.{Cmp, less, same, more, cmp, not-both}
+use lib.Dec.{leb, ltb}
+use borrow.Author.Tests.{le-leb, leb-true, lt-ltb, ltb-true}
+use Rattle.lemmas.proofs.Tests.{Cmp, less, same, more, cmp, not-both, false-of, same-test, and-left, and-right, both}
 use Rattle.lemmas.proofs.Table.{getD-tab}
-use Rattle.sets.specs.Sets.{member}
-use Rattle.sets.specs.Sets.{FirstIn}
-use Rattle.sets.proofs.SetLaws.{member-shift}
-use Rattle.steps.specs.Parts.{heard, marksIn}
-
--- all of a mask
-pub whole-mask : (mask : ℕ) → mask ≡ mask / 2 ^ 0
-whole-mask mask = sym (div-one mask)
+use Rattle.sets.specs.Sets.{member, FirstIn, RestOf}
+use Rattle.sets.proofs.SetLaws.{member-none}
+use Rattle.steps.specs.Parts.{heard, marksIn, Sourced}
 
 -- a mask with nothing left above the first s bits has no bit there
 pub none-above : (mask s k : ℕ) → mask / 2 ^ s ≡ 0 → s ≤ k → heard mask k ≡ false
@@ -26,11 +23,6 @@ none-above mask s k e h =
 pub mark-in : (mask k : ℕ) → k < 16 → getD (marksIn mask) k false ≡ heard mask k
 unfolding marksIn
 mark-in mask k h = getD-tab 16 (heard mask) false k h
-
--- the bits of what is left above the first r
-heard-in : (mask r rest k : ℕ) → rest ≡ mask / 2 ^ r → member rest k ≡ heard mask (r + k)
-unfolding member
-heard-in mask r rest k e = ap (λ s. member s k) e ∙ member-shift mask r k
 
 pub heard-under : (mask s k : ℕ) → mask / 2 ^ s ≡ 0 → heard mask k ≡ true → k < s
 heard-under mask s k q e = go (cmp k s)
@@ -43,32 +35,69 @@ heard-under mask s k q e = go (cmp k s)
     go (same p) = absurd (far (omega arith))
     go (more p) = absurd (far (omega arith))
 
--- the lowest bit of what is left above the first r is bit r + k, and what it leaves
-pub record Turn (mask r rest k : ℕ) : Type 0 where
-  pub inside : r + k < 16
-  pub here : heard mask (r + k) ≡ true
-  pub between : (u : ℕ) → r ≤ u → u < r + k → heard mask u ≡ false
-  pub after : rest / 2 ^ k / 2 ≡ mask / 2 ^ (r + k + 1)
+-- what is left of a mask has its members from r on
+abbrev pub Rest : ℕ → ℕ → ℕ → Type 0
+Rest mask r rest = (j : ℕ) → member rest j ≡ (heard mask j && leb r j)
 
-pub turn : (mask r rest k : ℕ) → mask < 2 ^ 16 → rest ≡ mask / 2 ^ r → FirstIn rest k → Turn mask r rest k
-turn mask r rest k w e f =
-    let h : heard mask (r + k) ≡ true = sym (heard-in mask r rest k e) ∙ f .in-set in
+pub rest-all : (mask : ℕ) → Rest mask 0 mask
+unfolding member
+rest-all mask j = sym (and-true (heard mask j) (leb 0 j) (le-leb 0 j (omega arith)))
+  where
+    and-true : (a b : Bool) → b ≡ true → (a && b) ≡ a
+    and-true true b e = e
+    and-true false b e = refl
+
+-- nothing is left: no member from r on
+pub rest-none : (mask r rest : ℕ) → Rest mask r rest → rest ≡ 0 → (u : ℕ) → r ≤ u → heard mask u ≡ false
+rest-none mask r rest h e u p = false-of (heard mask u) (λ q. not-both (h u ∙ both (heard mask u) (leb r u) q (le-leb r u p)) (ap (λ s. member s u) e ∙ member-none u))
+
+pub rest-under : (mask r rest : ℕ) → Rest mask r rest → rest ≡ 0 → (u : ℕ) → heard mask u ≡ true → u < r
+rest-under mask r rest h e u q = go (cmp u r)
+  where
+    go : Cmp u r → u < r
+    go (less p) = p
+    go (same p) = absurd (not-both q (rest-none mask r rest h e u (omega arith)))
+    go (more p) = absurd (not-both q (rest-none mask r rest h e u (omega arith)))
+
+-- the least of what is left is u, and what it leaves
+pub record Turn (mask r u rest′ : ℕ) : Type 0 where
+  pub within : u < 16
+  pub from : r ≤ u
+  pub here : heard mask u ≡ true
+  pub between : (v : ℕ) → r ≤ v → v < u → heard mask v ≡ false
+  pub after : Rest mask (u + 1) rest′
+
+pub turn : (mask r rest u rest′ : ℕ) → Sourced mask → Rest mask r rest → FirstIn rest u → RestOf rest rest′ → Turn mask r u rest′
+turn mask r rest u rest′ w h f q =
+    let e : (heard mask u && leb r u) ≡ true = sym (h u) ∙ f .in-set in
+    let on : heard mask u ≡ true = and-left (heard mask u) (leb r u) e in
+    let low : r ≤ u = leb-true r u (and-right (heard mask u) (leb r u) e) in
     record {
-      inside = heard-under mask 16 (r + k) (div-eq-of-lt w) h;
-      here = h;
-      between = λ u a b.
-          let q : r + (u - r) ≡ u = omega arith in
-          subst (λ j. heard mask j ≡ false) q (sym (heard-in mask r rest (u - r) e) ∙ f .none-before (u - r) (omega arith));
-      after = ap (λ z. z / 2 ^ k / 2) e ∙ ap (λ z. z / 2) (shr-shr mask r k) ∙ shr-shr mask (r + k) 1;
+      within = w u on;
+      from = low;
+      here = on;
+      between = λ v a b. false-of (heard mask v) (λ z. not-both (h v ∙ both (heard mask v) (leb r v) z (le-leb r v a)) (f .none-before v b));
+      after = λ j. q .later u f j ∙ ap (λ b. b && ltb u j) (h j) ∙ same-test ((heard mask j && leb r j) && ltb u j) (heard mask j && leb (u + 1) j) (λ z. let y = and-left (heard mask j && leb r j) (ltb u j) z in both (heard mask j) (leb (u + 1) j) (and-left (heard mask j) (leb r j) y) (le-leb (u + 1) j (omega (arith, ltb-true u j (and-right (heard mask j && leb r j) (ltb u j) z))))) (λ z. let y : u + 1 ≤ j = leb-true (u + 1) j (and-right (heard mask j) (leb (u + 1) j) z) in both (heard mask j && leb r j) (ltb u j) (both (heard mask j) (leb r j) (and-left (heard mask j) (leb (u + 1) j) z) (le-leb r j (omega arith))) (lt-ltb u j (omega arith)));
     }
 
--- so that what holds of the bits below r, and of bit r + k, holds of all up to it
-pub passed : (P : ℕ → Type 0) (mask r rest k : ℕ) → Turn mask r rest k → ((u : ℕ) → u < r → heard mask u ≡ true → P u) → P (r + k) → (u : ℕ) → u < r + k + 1 → heard mask u ≡ true → P u
-passed P mask r rest k T low this u h e = go (cmp u (r + k)) (cmp u r)
+-- it is in the mask, and is the number of a source
+pub here : (mask r rest u : ℕ) → Rest mask r rest → FirstIn rest u → heard mask u ≡ true
+here mask r rest u h f = and-left (heard mask u) (leb r u) (sym (h u) ∙ f .in-set)
+
+pub least : (mask r rest u : ℕ) → Sourced mask → Rest mask r rest → FirstIn rest u → u < 16
+least mask r rest u w h f = w u (here mask r rest u h f)
+
+-- so that what holds of the members below r, and of u, holds of all up to it
+pub passed : (P : ℕ → Type 0) (mask r u rest′ : ℕ) → Turn mask r u rest′ → ((v : ℕ) → v < r → heard mask v ≡ true → P v) → P u → (v : ℕ) → v < u + 1 → heard mask v ≡ true → P v
+passed P mask r u rest′ T low this v h e = go (cmp v u) (cmp v r)
   where
-    go : Cmp u (r + k) → Cmp u r → P u
-    go (less p) (less q) = low u q e
-    go (less p) (same q) = absurd (not-both e (T .between u (omega arith) p))
-    go (less p) (more q) = absurd (not-both e (T .between u (omega arith) p))
+    go : Cmp v u → Cmp v r → P v
+    go (less p) (less q) = low v q e
+    go (less p) (same q) = absurd (not-both e (T .between v (omega arith) p))
+    go (less p) (more q) = absurd (not-both e (T .between v (omega arith) p))
     go (same p) q = subst P (sym p) this
     go (more p) q = absurd (omega arith)
+
+-- a mask of 16 bits
+pub sourced : (mask : ℕ) → mask < 2 ^ 16 → Sourced mask
+sourced mask w u e = heard-under mask 16 u (div-eq-of-lt w) e

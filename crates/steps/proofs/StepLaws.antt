@@ -1,36 +1,31 @@
--- One turn of each step's loop, on the parts of the record. Assumes nothing.
-use Prim.Native.Nat.{ℕ, zero, suc, _+_, _-_, _/_, _^_, _≤_, _<_, min}
-use mathlib.Core.Path.{_≡_, refl, sym, ap, subst, subst⁻¹, _∙_}
+-- One step of a tick on the words and on the record that they hold. Assumes nothing.
+use Prim.Native.Nat.{ℕ, zero, suc, _+_, _-_, _≤_, _<_, min}
+use mathlib.Core.Path.{_≡_, refl, sym, ap, subst, _∙_}
 use mathlib.Core.Bool.{Bool, true, false, _||_, _&&_, not, cond}
 use mathlib.Core.List.{List}
-use mathlib.Core.Logic.{_⊎_, inl, inr, ⊎-elim}
 use native.Mathlib.Omega.{arith}
 use lib.ListN.{getD, set, length, length-set}
-use lib.Seq.{ext-getD, getD-set-same, getD-set-other, set-getD}
-use lib.Dec.{eqb, ltb}
-use borrow.Author.Tests.{ltb-true, lt-ltb, le-ltb, ne-eqb, eqb-false}
+use lib.Seq.{getD-set-same}
+use lib.Dec.{eqb}
+use borrow.Author.Tests.{ne-eqb, eqb-true, lt-ltb, le-ltb}
 use Rattle.model.specs.declared.Description.{Description}
 use Rattle.model.specs.declared.Machine.{Machine}
 use Rattle.model.specs.Basics.{upTo}
-use Rattle.model.specs.Graph.{linkAt}
+use Rattle.model.specs.Graph.{runOf}
 use Rattle.model.specs.Delays.{spacingOf}
-use Rattle.model.specs.Machine.{arrive, ageAll, endRun, stepped, clearInto, setAwake, fireLink, fire, arriveOne, highestIn, runTask, setUsed, usedAt, setAge, clearLink, ageOne}
-use Rattle.lemmas.proofs.Tests.{Cmp, less, same, more, cmp}
-use Rattle.lemmas.proofs.Range.{upTo-more}
-use Rattle.assurance.proofs.Firing.{getD-set}
-use Rattle.steps.specs.Parts.{parts, PlacesOf, heard, marksIn, acted, each, risen, older}
-use Rattle.steps.proofs.MaskLaws.{none-above, mark-in}
+use Rattle.model.specs.Machine.{usedAt, ageAt, setAwake, setUsed, setAge, fire, arriveOne, runTask, clearInto, endRun, ageAll}
+use Rattle.theory.proofs.WellFormed.{WellFormed}
+use Rattle.assurance.proofs.Firing.{Sized, Fired, fired, getD-set}
+use Rattle.assurance.proofs.Ending.{Cleared, cleared, Aged, aged}
+use Rattle.sets.specs.Sets.{member, LastIn}
+use Rattle.sets.specs.Wide.{inside}
+use Rattle.steps.specs.declared.words.Words.{Words}
+use Rattle.steps.specs.Parts.{heard, marksIn}
+use Rattle.steps.specs.Words.{Marks, Ages, Holds, worked}
+use Rattle.steps.proofs.MaskLaws.{mark-in}
+use Rattle.steps.proofs.MarkLaws.{marks-used, marks-age, highest-is, highest-none}
 
--- by cases, the sum first
-pub cases : {A B C : Type 0} → A ⊎ B → (A → C) → (B → C) → C
-cases s f g = ⊎-elim f g s
-
--- steps that change nothing, before a place and from a place on
-upTo-idle : {A : Type 0} (n : ℕ) (step : ℕ → A → A) (a : A) → ((k : ℕ) → k < n → (x : A) → x ≡ step k x) → a ≡ upTo n step a
-unfolding upTo
-upTo-idle zero step a h = refl
-upTo-idle (suc n) step a h = upTo-idle n step a (λ k b. h k (omega arith)) ∙ h n (omega arith) (upTo n step a)
-
+-- steps that change nothing from a place on
 upTo-rest : {A : Type 0} (l j : ℕ) (step : ℕ → A → A) (a : A) → ((k : ℕ) → l ≤ k → k < l + j → (x : A) → x ≡ step k x) → upTo l step a ≡ upTo (l + j) step a
 unfolding upTo
 upTo-rest l zero step a h = let e : l ≡ l + 0 = omega arith in ap (λ n. upTo n step a) e
@@ -38,199 +33,168 @@ upTo-rest l (suc j) step a h =
     let e : suc (l + j) ≡ l + suc j = omega arith in
     upTo-rest l j step a (λ k a b. h k a (omega arith)) ∙ h (l + j) (omega arith) (omega arith) (upTo (l + j) step a) ∙ ap (λ n. upTo n step a) e
 
--- a link out of another node
-pub fire-off : (d : Description) (x l : ℕ) (m : Machine) → eqb (linkAt d l .from) x ≡ false → m ≡ fireLink d x l m
-unfolding fireLink
-fire-off d x l m e = rw e refl
-
--- the links before a node's first place, and those from its last on
-pub fire-before : (d : Description) (x n a : ℕ) (from to first last : List ℕ) (m : Machine) → PlacesOf d from to first last n → a ≡ getD first x 0 → m ≡ upTo a (fireLink d x) m
-fire-before d x n a from to first last m r q = upTo-idle a (fireLink d x) m (λ k h y. let z : k < n = omega (arith, r .after .0 x, q) in fire-off d x k y (ne-eqb (linkAt d k .from) x (λ e. let w : getD first x 0 ≤ k = subst (λ v. getD first v 0 ≤ k) (r .linked .leaves k z ∙ e) (r .after .1 k z) in omega arith)))
-
-pub fire-after : (d : Description) (x n b l : ℕ) (from to first last : List ℕ) (m : Machine) → PlacesOf d from to first last n → b ≡ getD last x 0 → b ≤ l → l ≤ n → upTo l (fireLink d x) m ≡ upTo n (fireLink d x) m
-fire-after d x n b l from to first last m r q g h =
-    let e : l + (n - l) ≡ n = omega arith in
-    upTo-rest l (n - l) (fireLink d x) m (λ k a z y. let v : k < n = omega arith in fire-off d x k y (ne-eqb (linkAt d k .from) x (λ e. let w : k < getD last x 0 = subst (λ v. k < getD last v 0) (r .linked .leaves k v ∙ e) (r .until .1 k v) in omega arith))) ∙ ap (λ k. upTo k (fireLink d x) m) e
-
--- a link out of x: y is its task
-pub fire-on : (d : Description) (x l y : ℕ) (aw aw′ wa wa′ dr dr′ : List Bool) (us ag : List ℕ) → eqb (linkAt d l .from) x ≡ true → y ≡ linkAt d l .to → aw′ ≡ set aw (y - 1) true → wa′ ≡ set wa l true → ((getD wa l false ≡ true) × (dr′ ≡ set dr l true)) ⊎ ((getD wa l false ≡ false) × (dr′ ≡ dr)) → parts aw′ us wa′ dr′ ag ≡ fireLink d x l (parts aw us wa dr ag)
-unfolding fireLink
-fire-on d x l y aw aw′ wa wa′ dr dr′ us ag e p q r (inl s) = rw (e, s .0, s .1, r, q, p) refl
-fire-on d x l y aw aw′ wa wa′ dr dr′ us ag e p q r (inr s) = rw (e, s .0, s .1, r, q, p) refl
-
--- a source that arrives, of whose firing the marks are known, and one that does not
-pub arrive-on : (d : Description) (marks : List Bool) (u : ℕ) (m : Machine) (aw wa dr : List Bool) (us ag : List ℕ) → getD marks u false ≡ true → parts aw us wa dr ag ≡ fire d (33 + u) m → parts aw us wa dr (set ag u 0) ≡ arriveOne d marks u m
-unfolding arriveOne
-arrive-on d marks u m aw wa dr us ag e f = rw e (ap (setAge u 0) f)
-
-pub arrive-off : (d : Description) (marks : List Bool) (u : ℕ) (m : Machine) → getD marks u false ≡ false → m ≡ arriveOne d marks u m
+-- a source that does not arrive, and one that does
+arrive-off : (d : Description) (marks : List Bool) (u : ℕ) (m : Machine) → getD marks u false ≡ false → m ≡ arriveOne d marks u m
 unfolding arriveOne
 arrive-off d marks u m e = rw e refl
 
--- sources of a mask with no bit from l up to l + j, and with none from l on
-pub arrive-none : (d : Description) (mask l j : ℕ) (m : Machine) → l + j ≤ 16 → ((u : ℕ) → l ≤ u → u < l + j → heard mask u ≡ false) → upTo l (arriveOne d (marksIn mask)) m ≡ upTo (l + j) (arriveOne d (marksIn mask)) m
-arrive-none d mask l j m h none = upTo-rest l j (arriveOne d (marksIn mask)) m (λ u a b x. arrive-off d (marksIn mask) u x (mark-in mask u (omega arith) ∙ none u a b))
+arrive-on : (d : Description) (marks : List Bool) (u : ℕ) (m : Machine) → getD marks u false ≡ true → setAge u 0 (fire d (33 + u) m) ≡ arriveOne d marks u m
+unfolding arriveOne
+arrive-on d marks u m e = rw e refl
 
-pub arrive-rest : (d : Description) (mask l : ℕ) (m : Machine) → l ≤ 16 → mask / 2 ^ l ≡ 0 → upTo l (arriveOne d (marksIn mask)) m ≡ upTo 16 (arriveOne d (marksIn mask)) m
-arrive-rest d mask l m h e =
-    let q : l + (16 - l) ≡ 16 = omega arith in
-    arrive-none d mask l (16 - l) m (omega arith) (λ u a b. none-above mask l u e a) ∙ ap (λ n. upTo n (arriveOne d (marksIn mask)) m) q
+-- sources of a mask with no bit from l up to n
+pub arrive-none : (d : Description) (mask l n : ℕ) (m : Machine) → l ≤ n → n ≤ 16 → ((u : ℕ) → l ≤ u → u < n → heard mask u ≡ false) → upTo l (arriveOne d (marksIn mask)) m ≡ upTo n (arriveOne d (marksIn mask)) m
+arrive-none d mask l n m h p none =
+    let q : l + (n - l) ≡ n = omega arith in
+    upTo-rest l (n - l) (arriveOne d (marksIn mask)) m (λ u a b x. arrive-off d (marksIn mask) u x (mark-in mask u (omega arith) ∙ none u a (omega arith))) ∙ ap (λ n. upTo n (arriveOne d (marksIn mask)) m) q
 
--- the highest awake task of k is k if it is awake, and one of k - 1 otherwise
-pub highest-here : (aw : List Bool) (k : ℕ) → 0 < k → getD aw (k - 1) false ≡ true → highestIn aw k ≡ k
-unfolding highestIn
-highest-here aw zero p e = absurd (omega arith)
-highest-here aw (suc k) p e =
-    let q : suc k - 1 ≡ k = omega arith in
-    let f : getD aw k false ≡ true = rw q at e in
-    rw (f, highestIn) refl
+-- ages beside other parts, and a source's age after it has come
+pub ages-same : (d : Description) (t now : ℕ) (ready : List ℕ) (m m′ : Machine) → m′ .ages ≡ m .ages → Ages d t now ready m → Ages d t now ready m′
+ages-same d t now ready m m′ e h = record {
+  many = h .many;
+  spaced = h .spaced;
+  near = h .near;
+  here = λ u p. ap (λ (l : List ℕ). getD l u 0) e ∙ h .here u p;
+  past = λ u p. ap (λ (l : List ℕ). getD l u 0) e ∙ h .past u p;
+}
 
-pub highest-below : (aw : List Bool) (k : ℕ) → 0 < k → getD aw (k - 1) false ≡ false → highestIn aw k ≡ highestIn aw (k - 1)
-unfolding highestIn
-highest-below aw zero p e = absurd (omega arith)
-highest-below aw (suc k) p e =
-    let q : suc k - 1 ≡ k = omega arith in
-    let f : getD aw k false ≡ false = rw q at e in
-    rw (q, f, highestIn) refl
+ages-set : (d : Description) (t now : ℕ) (ready : List ℕ) (m : Machine) (u v : ℕ) → Ages d t now ready m → length (m .ages) ≡ 16 → u < d .«source_count» → u < 16 → v ≡ now + spacingOf d t (33 + u) → Ages d t now (set ready u v) (setAge u 0 m)
+ages-set d t now ready m u v h z p q e = record {
+  many = length-set ready u v ∙ h .many;
+  spaced = h .spaced;
+  near = λ k y. at-near k y (eqb k u) refl;
+  here = λ k y. at-here k y (eqb k u) refl;
+  past = λ k y. getD-set (m .ages) u 0 0 k (omega arith) ∙ rw (ne-eqb k u (λ x. omega arith)) (h .past k y);
+}
+  where
+    stored : (k : ℕ) → getD (set ready u v) k 0 ≡ cond (eqb k u) v (getD ready k 0)
+    stored k = getD-set ready u v 0 k (omega (arith, h .many))
 
-pub highest-none : (aw : List Bool) (k : ℕ) → k ≤ 0 → highestIn aw k ≡ 0
-unfolding highestIn
-highest-none aw zero p = refl
-highest-none aw (suc k) p = absurd (omega arith)
+    at-near : (k : ℕ) → k < d .«source_count» → (b : Bool) → eqb k u ≡ b → getD (set ready u v) k 0 ≤ now + spacingOf d t (33 + k)
+    at-near k y true f =
+        let x : k ≡ u = eqb-true k u f in
+        let s : getD (set ready u v) k 0 ≡ v = stored k ∙ rw f refl in
+        let r : spacingOf d t (33 + k) ≡ spacingOf d t (33 + u) = ap (λ i. spacingOf d t (33 + i)) x in
+        omega arith
+    at-near k y false f =
+        let s : getD (set ready u v) k 0 ≡ getD ready k 0 = stored k ∙ rw f refl in
+        omega (arith, h .near k y)
+
+    at-here : (k : ℕ) → k < d .«source_count» → (b : Bool) → eqb k u ≡ b → getD (set (m .ages) u 0) k 0 ≡ spacingOf d t (33 + k) - (getD (set ready u v) k 0 - now)
+    at-here k y true f =
+        let x : k ≡ u = eqb-true k u f in
+        let s : getD (set ready u v) k 0 ≡ v = stored k ∙ rw f refl in
+        let r : spacingOf d t (33 + k) ≡ spacingOf d t (33 + u) = ap (λ i. spacingOf d t (33 + i)) x in
+        let a : getD (set (m .ages) u 0) k 0 ≡ 0 = getD-set (m .ages) u 0 0 k (omega arith) ∙ rw f refl in
+        omega arith
+    at-here k y false f =
+        let s : getD (set ready u v) k 0 ≡ getD ready k 0 = stored k ∙ rw f refl in
+        let a : getD (set (m .ages) u 0) k 0 ≡ getD (m .ages) k 0 = getD-set (m .ages) u 0 0 k (omega arith) ∙ rw f refl in
+        a ∙ h .here k y ∙ ap (λ i. spacingOf d t (33 + k) - (i - now)) (sym s)
+
+-- a source that arrives: its firing, and the tick at which it may come next
+pub arrive-turn : (d : Description) (t : ℕ) (w w′ : Words) (used ready : List ℕ) (marks : List Bool) (u v : ℕ) (m : Machine) → WellFormed d → Holds d t w used ready m → (Marks d w m → Marks d w′ (fire d (33 + u) m)) → w′ .tick ≡ w .tick → getD marks u false ≡ true → u < d .«source_count» → v ≡ w .tick + spacingOf d t (33 + u) → Holds d t w′ used (set ready u v) (arriveOne d marks u m)
+arrive-turn d t w w′ used ready marks u v m g h fires q e p s =
+    let f : Fired d (33 + u) (d .«link_count») m (fire d (33 + u) m) = fired d g (33 + u) m (h .marks .sized) in
+    subst (λ (k : Machine). Holds d t w′ used (set ready u v) k) (arrive-on d marks u m e)
+    (record {
+      marks = marks-age d w′ (fire d (33 + u) m) u 0 (fires (h .marks));
+      same-used = h .same-used ∙ sym (f .used);
+      ages = subst (λ n. Ages d t n (set ready u v) (setAge u 0 (fire d (33 + u) m))) (sym q) (ages-set d t (w .tick) ready (fire d (33 + u) m) u v (ages-same d t (w .tick) ready m (fire d (33 + u) m) (f .ages) (h .ages)) (f .sized .ages) p (omega (arith, g .fields .few-sources)) s);
+    })
 
 -- the task that runs, or none
-pub run-none : (h : ℕ) (m : Machine) → h ≡ 0 → m ≡ runTask h m
+run-none : (m : Machine) → runTask 0 m ≡ m
 unfolding runTask
-run-none h m e = rw e refl
+run-none m = refl
 
-pub run-on : (h : ℕ) (m : Machine) → eqb h 0 ≡ false → setUsed h (usedAt m h + 1) m ≡ runTask h m
+run-on : (h : ℕ) (m : Machine) → 1 ≤ h → runTask h m ≡ setUsed h (usedAt m h + 1) m
 unfolding runTask
-run-on h m e = rw e refl
+run-on h m p = rw (ne-eqb h 0 (λ e. omega arith)) refl
 
--- a link into task y, whose mark is x once those into h clear
-pub clear-turn : (d : Description) (h l y : ℕ) (x : Bool) (aw wa dr : List Bool) (us ag : List ℕ) → y ≡ linkAt d l .to → x ≡ cond (eqb y h) false (getD wa l false) → parts aw us (set wa l x) dr ag ≡ clearLink d h l (parts aw us wa dr ag)
-unfolding clearLink
-clear-turn d h l y x aw wa dr us ag e f = rw (f, e) (go (eqb (linkAt d l .to) h) refl)
-  where
-    go : (b : Bool) → eqb (linkAt d l .to) h ≡ b → parts aw us (set wa l (cond (eqb (linkAt d l .to) h) false (getD wa l false))) dr ag ≡ clearLink d h l (parts aw us wa dr ag)
-    go true q = rw (q, clearLink) refl
-    go false q = rw (q, clearLink) (ap (λ w. parts aw us w dr ag) (set-getD wa l false))
-
--- a place stored in a table
-pub set-below : (l : List ℕ) (i v b : ℕ) → i < length l → v ≤ b → ((x : ℕ) → getD l x 0 ≤ b) → (x : ℕ) → getD (set l i v) x 0 ≤ b
-set-below l i v b h low all x = subst⁻¹ (λ y. y ≤ b) (getD-set l i v 0 x h) (go (eqb x i))
-  where
-    go : (t : Bool) → cond t v (getD l x 0) ≤ b
-    go true = low
-    go false = all x
-
-pub first-turn : (from first : List ℕ) (i v l n : ℕ) → i < length first → v ≡ l → i ≡ getD from l 0 → ((k : ℕ) → l < k → k < n → getD first (getD from k 0) 0 ≤ k) → (k : ℕ) → l ≤ k → k < n → getD (set first i v) (getD from k 0) 0 ≤ k
-first-turn from first i v l n h p q all k a b = subst⁻¹ (λ y. y ≤ k) (getD-set first i v 0 (getD from k 0) h) (go (eqb (getD from k 0) i) refl)
-  where
-    go : (t : Bool) → eqb (getD from k 0) i ≡ t → cond t v (getD first (getD from k 0) 0) ≤ k
-    go true e = omega arith
-    go false e = all k (lt-of-ne (λ z. eqb-false (getD from k 0) i e (ap (λ y. getD from y 0) z ∙ sym q))) b
-      where
-        lt-of-ne : (k ≡ l → ⊥) → l < k
-        lt-of-ne z = omega arith
-
-pub last-turn : (from last : List ℕ) (i v l : ℕ) → i < length last → v ≡ l + 1 → i ≡ getD from l 0 → ((k : ℕ) → k < l → k < getD last (getD from k 0) 0) → (k : ℕ) → k < l + 1 → k < getD (set last i v) (getD from k 0) 0
-last-turn from last i v l h p q all k a = subst⁻¹ (λ y. k < y) (getD-set last i v 0 (getD from k 0) h) (go (eqb (getD from k 0) i) refl)
-  where
-    go : (t : Bool) → eqb (getD from k 0) i ≡ t → k < cond t v (getD last (getD from k 0) 0)
-    go true e = omega arith
-    go false e = all k (lt-of-ne (λ z. eqb-false (getD from k 0) i e (ap (λ y. getD from y 0) z ∙ sym q)))
-      where
-        lt-of-ne : (k ≡ l → ⊥) → k < l
-        lt-of-ne z = omega arith
-
--- one number more of a list changed
-pub each-more : (n : ℕ) (f : ℕ → ℕ → ℕ) (l : List ℕ) → each (n + 1) f l ≡ set (each n f l) n (f n (getD (each n f l) n 0))
-unfolding each
-each-more n f l = upTo-more n (λ u k. set k u (f u (getD k u 0))) l
-
--- a list changed is as long, and each of its numbers is the old one or changed
-pub each-length : (n : ℕ) (f : ℕ → ℕ → ℕ) (l : List ℕ) → length (each n f l) ≡ length l
-unfolding each upTo
-each-length zero f l = refl
-each-length (suc n) f l = length-set (each n f l) n (f n (getD (each n f l) n 0)) ∙ each-length n f l
-
-pub each-at : (n : ℕ) (f : ℕ → ℕ → ℕ) (l : List ℕ) (k : ℕ) → k < length l → getD (each n f l) k 0 ≡ cond (ltb k n) (f k (getD l k 0)) (getD l k 0)
-unfolding each upTo
-each-at zero f l k h = rw (le-ltb k 0 (omega arith)) refl
-each-at (suc n) f l k h = go (cmp k n) (each-at n f l k h)
-  where
-    go : Cmp k n → getD (each n f l) k 0 ≡ cond (ltb k n) (f k (getD l k 0)) (getD l k 0) → getD (each (suc n) f l) k 0 ≡ cond (ltb k (suc n)) (f k (getD l k 0)) (getD l k 0)
-    go (less r) q = getD-set-other (each n f l) n k (f n (getD (each n f l) n 0)) 0 (λ e. omega arith) ∙ q ∙ rw (lt-ltb k n r, lt-ltb k (suc n) (omega arith)) refl
-    go (same r) q =
-        let z : n < length (each n f l) = omega (arith, each-length n f l) in
-        let v : getD (each n f l) n 0 ≡ getD l n 0 = rw (r, le-ltb n n (omega arith)) at q in
-        rw (r, lt-ltb n (suc n) (omega arith)) (getD-set-same (each n f l) n (f n (getD (each n f l) n 0)) 0 z ∙ ap (f n) v)
-    go (more r) q = getD-set-other (each n f l) n k (f n (getD (each n f l) n 0)) 0 (λ e. omega arith) ∙ q ∙ rw (le-ltb k n (omega arith), le-ltb k (suc n) (omega arith)) refl
-
--- ages some ticks later, and some more; and ages that do not exceed the spacings
-pub older-more : (d : Description) (t m n : ℕ) (ag : List ℕ) → older d t n (older d t m ag) ≡ older d t (m + n) ag
-older-more d t m n ag =
-    ext-getD 0 (older d t n (older d t m ag)) (older d t (m + n) ag)
-    (each-length (d .«source_count») (risen d t n) (older d t m ag) ∙ each-length (d .«source_count») (risen d t m) ag ∙ sym (each-length (d .«source_count») (risen d t (m + n)) ag))
-    (λ k h. let z : k < length ag = omega (arith, each-length (d .«source_count») (risen d t n) (older d t m ag), each-length (d .«source_count») (risen d t m) ag) in at k z (ltb k (d .«source_count»)) refl)
-  where
-    sum : (g a : ℕ) → min g (min g (a + m) + n) ≡ min g (a + (m + n))
-    sum g a = omega arith
-
-    at : (k : ℕ) → k < length ag → (b : Bool) → ltb k (d .«source_count») ≡ b → getD (older d t n (older d t m ag)) k 0 ≡ getD (older d t (m + n) ag) k 0
-    at k h true e =
-        let z : k < length (older d t m ag) = omega (arith, each-length (d .«source_count») (risen d t m) ag) in
-        rw (each-at (d .«source_count») (risen d t n) (older d t m ag) k z, each-at (d .«source_count») (risen d t (m + n)) ag k h, each-at (d .«source_count») (risen d t m) ag k h, e) (sum (spacingOf d t (33 + k)) (getD ag k 0))
-    at k h false e =
-        let z : k < length (older d t m ag) = omega (arith, each-length (d .«source_count») (risen d t m) ag) in
-        rw (each-at (d .«source_count») (risen d t n) (older d t m ag) k z, each-at (d .«source_count») (risen d t (m + n)) ag k h, each-at (d .«source_count») (risen d t m) ag k h, e) refl
-
-pub older-none : (d : Description) (t : ℕ) (ag : List ℕ) → ((u : ℕ) → u < d .«source_count» → getD ag u 0 ≤ spacingOf d t (33 + u)) → older d t 0 ag ≡ ag
-older-none d t ag low = ext-getD 0 (older d t 0 ag) ag (each-length (d .«source_count») (risen d t 0) ag) (λ k h. let z : k < length ag = omega (arith, each-length (d .«source_count») (risen d t 0) ag) in each-at (d .«source_count») (risen d t 0) ag k z ∙ at k (ltb k (d .«source_count»)) refl)
-  where
-    at : (k : ℕ) (b : Bool) → ltb k (d .«source_count») ≡ b → cond (ltb k (d .«source_count»)) (min (spacingOf d t (33 + k)) (getD ag k 0 + 0)) (getD ag k 0) ≡ getD ag k 0
-    at k true e =
-        let h : getD ag k 0 ≤ spacingOf d t (33 + k) = low k (ltb-true k (d .«source_count») e) in
-        rw e (omega arith)
-    at k false e = rw e refl
-
--- a source of spacing g, whose age becomes x
-pub age-turn : (d : Description) (t late u g x : ℕ) (ag ag₀ : List ℕ) → g ≡ spacingOf d t (33 + u) → x ≡ min g (getD ag u 0 + late) → ag ≡ each u (risen d t late) ag₀ → set ag u x ≡ each (u + 1) (risen d t late) ag₀
-age-turn d t late u g x ag ag₀ e f q =
-    rw (f, e) (ap (λ k. set k u (min (spacingOf d t (33 + u)) (getD k u 0 + late))) q ∙ sym (each-more u (risen d t late) ag₀))
-
--- the ages a tick later
-pub older-one : (d : Description) (t : ℕ) (aw wa dr : List Bool) (us ag : List ℕ) → parts aw us wa dr (older d t 1 ag) ≡ ageAll d t (parts aw us wa dr ag)
-unfolding each ageAll upTo ageOne
-older-one d t aw wa dr us ag = go (d .«source_count»)
-  where
-    go : (n : ℕ) → parts aw us wa dr (upTo n (λ u k. set k u (min (spacingOf d t (33 + u)) (getD k u 0 + 1))) ag) ≡ upTo n (ageOne d t) (parts aw us wa dr ag)
-    go zero = refl
-    go (suc n) = ap (ageOne d t n) (go n)
-
--- a run that ends, one that does not, and none
-pub end-none : (d : Description) (h : ℕ) (finish : Bool) (m : Machine) → h ≡ 0 → m ≡ endRun d h finish m
+end-none : (d : Description) (finish : Bool) (m : Machine) → endRun d 0 finish m ≡ m
 unfolding endRun
-end-none d h finish m e = rw e refl
+end-none d finish m = refl
 
-pub end-whole : (d : Description) (h : ℕ) (finish : Bool) (runs : List ℕ) (x : ℕ) (m m₁ m₂ : Machine) → runs ≡ d .runs → eqb h 0 ≡ false → (eqb (usedAt m h) (getD runs (h - 1) 0) || finish) ≡ true → x ≡ h → m₁ ≡ clearInto d x (setUsed h 0 (setAwake h false m)) → m₂ ≡ fire d h m₁ → m₂ ≡ endRun d h finish m
+end-off : (d : Description) (h : ℕ) (finish : Bool) (m : Machine) → (eqb (usedAt m h) (runOf d h) || finish) ≡ false → endRun d h finish m ≡ m
 unfolding endRun
-end-whole d h finish runs x m m₁ m₂ q z e p k f = rw (f, k, p, z, rw q at e) refl
-
-pub end-off : (d : Description) (h : ℕ) (finish : Bool) (runs : List ℕ) (m : Machine) → runs ≡ d .runs → (eqb (usedAt m h) (getD runs (h - 1) 0) || finish) ≡ false → m ≡ endRun d h finish m
-unfolding endRun
-end-off d h finish runs m q e = rw (rw q at e, and-off (not (eqb h 0))) refl
+end-off d h finish m e = rw (e, and-off (not (eqb h 0))) refl
   where
     and-off : (b : Bool) → (b && false) ≡ false
     and-off true = refl
     and-off false = refl
 
--- the first three steps one after the other
-pub act-whole : (d : Description) (marks : List Bool) (finish : Bool) (h : ℕ) (m m₁ : Machine) → m₁ ≡ arrive d marks m → h ≡ highestIn (m₁ .awake) (d .«task_count») → endRun d h finish (runTask h m₁) ≡ acted d marks finish m
-act-whole d marks finish h m m₁ e q = rw (q, e) refl
+end-on : (d : Description) (h : ℕ) (finish : Bool) (m : Machine) → 1 ≤ h → (eqb (usedAt m h) (runOf d h) || finish) ≡ true → endRun d h finish m ≡ fire d h (clearInto d h (setUsed h 0 (setAwake h false m)))
+unfolding endRun
+end-on d h finish m p e = rw (e, ne-eqb h 0 (λ z. omega arith)) refl
 
--- and the fourth
-pub step-whole : (d : Description) (t : ℕ) (marks : List Bool) (finish : Bool) (m : Machine) (aw wa dr : List Bool) (us ag : List ℕ) → parts aw us wa dr ag ≡ acted d marks finish m → parts aw us wa dr (older d t 1 ag) ≡ stepped d t marks finish m
-unfolding stepped
-step-whole d t marks finish m aw wa dr us ag e = older-one d t aw wa dr us ag ∙ ap (ageAll d t) e
+pub work-none : (d : Description) (t : ℕ) (w : Words) (used ready : List ℕ) (finish : Bool) (m : Machine) → w .awake ≡ 0 → Holds d t w used ready m → Holds d t w used ready (worked d finish m)
+work-none d t w used ready finish m e h =
+    let q : worked d finish m ≡ m = ap (λ k. endRun d k finish (runTask k m)) (highest-none d w m (h .marks) e) ∙ ap (endRun d 0 finish) (run-none m) ∙ end-none d finish m in
+    subst (λ (k : Machine). Holds d t w used ready k) (sym q) h
+
+-- h is the highest awake task, which has used so much more
+module _ (d : Description) (t : ℕ) (w : Words) (used ready runs : List ℕ) (finish : Bool) (m : Machine) (g : WellFormed d) (s : runs ≡ d .runs) (H : Holds d t w used ready m) (h more : ℕ) (l : LastIn (w .awake) h) (p : 1 ≤ h) (q : h ≤ 32) (e : more ≡ getD used (h - 1) 0 + 1) where
+  ran-is : runTask h m ≡ setUsed h more m
+  ran-is = run-on h m p ∙ ap (λ x. setUsed h x m) (sym (e ∙ ap (λ (us : List ℕ). getD us (h - 1) 0 + 1) (H .same-used)))
+
+  work-is : worked d finish m ≡ endRun d h finish (setUsed h more m)
+  work-is = ap (λ k. endRun d k finish (runTask k m)) (highest-is d w m h (H .marks) l) ∙ ap (endRun d h finish) ran-is
+
+  test-is : (eqb more (getD runs (h - 1) 0) || finish) ≡ (eqb (usedAt (setUsed h more m) h) (runOf d h) || finish)
+  test-is = rw (s, getD-set-same (m .used) (h - 1) more 0 (omega (arith, H .marks .sized .useds))) refl
+
+  pub work-on : (eqb more (getD runs (h - 1) 0) || finish) ≡ false → Holds d t w (set used (h - 1) more) ready (worked d finish m)
+  work-on f =
+      subst (λ (k : Machine). Holds d t w (set used (h - 1) more) ready k) (sym (work-is ∙ end-off d h finish (setUsed h more m) (sym test-is ∙ f)))
+      (record {
+        marks = marks-used d w m h more (H .marks);
+        same-used = ap (λ (us : List ℕ). set us (h - 1) more) (H .same-used);
+        ages = ages-same d t (w .tick) ready m (setUsed h more m) refl (H .ages);
+      })
+
+  -- its run ends
+  pub work-over : (w₁ w₂ : Words) → (eqb more (getD runs (h - 1) 0) || finish) ≡ true → ((k : Machine) → Marks d w k → Marks d w₁ (clearInto d h (setAwake h false k))) → ((k : Machine) → Marks d w₁ k → Marks d w₂ (fire d h k)) → w₂ .tick ≡ w .tick → Holds d t w₂ (set (set used (h - 1) more) (h - 1) 0) ready (worked d finish m)
+  work-over w₁ w₂ f sleeps fires n =
+      let m₁ : Machine = setUsed h 0 (setUsed h more m) in
+      let m₂ : Machine = setAwake h false m₁ in
+      let k₁ : Marks d w m₁ = marks-used d w (setUsed h more m) h 0 (marks-used d w m h more (H .marks)) in
+      let z : Sized m₂ = record { awakes = length-set (m .awake) (h - 1) false ∙ H .marks .sized .awakes; useds = k₁ .sized .useds; waitings = H .marks .sized .waitings; droppeds = H .marks .sized .droppeds; ages = H .marks .sized .ages } in
+      let c : Cleared d h (d .«link_count») m₂ (clearInto d h m₂) = cleared d g h m₂ z in
+      let r : Fired d h (d .«link_count») (clearInto d h m₂) (fire d h (clearInto d h m₂)) = fired d g h (clearInto d h m₂) (c .sized) in
+      subst (λ (k : Machine). Holds d t w₂ (set (set used (h - 1) more) (h - 1) 0) ready k) (sym (work-is ∙ end-on d h finish (setUsed h more m) p (sym test-is ∙ f)))
+      (record {
+        marks = fires (clearInto d h m₂) (sleeps m₁ k₁);
+        same-used = ap (λ (us : List ℕ). set (set us (h - 1) more) (h - 1) 0) (H .same-used) ∙ sym (r .used ∙ c .used);
+        ages = subst (λ i. Ages d t i ready (fire d h (clearInto d h m₂))) (sym n) (ages-same d t (w .tick) ready m (fire d h (clearInto d h m₂)) (r .ages ∙ c .ages) (H .ages));
+      })
+
+-- step 4: one tick more has passed
+module _ (d : Description) (t : ℕ) (w w′ : Words) (used ready : List ℕ) (m : Machine) (g : WellFormed d) (a : w′ .awake ≡ w .awake) (b : w′ .waiting ≡ w .waiting) (c : w′ .dropped ≡ w .dropped) (n : w′ .tick ≡ w .tick + 1) (h : Holds d t w used ready m) where
+  f : Aged d t (d .«source_count») m (ageAll d t m)
+  f = aged d g t m (h .marks .sized)
+
+  later : (u : ℕ) → u < d .«source_count» → ageAt (ageAll d t m) u ≡ spacingOf d t (33 + u) - (getD ready u 0 - w′ .tick)
+  later u p =
+      let e : ageAt (ageAll d t m) u ≡ min (spacingOf d t (33 + u)) (ageAt m u + 1) = f .age u ∙ rw (lt-ltb u (d .«source_count») p) refl in
+      omega (arith, h .ages .here u p, h .ages .near u p, h .ages .spaced u p)
+
+  pub passes : Holds d t w′ used ready (ageAll d t m)
+  passes = record {
+    marks = record {
+      sized = f .sized;
+      no-zero = ap (λ s. member s 0) a ∙ h .marks .no-zero;
+      present = λ k p. h .marks .present k (sym (ap (λ s. member s k) a) ∙ p);
+      awake = λ k p. ap (λ s. member s k) a ∙ h .marks .awake k p ∙ sym (ap (λ (l : List Bool). getD l (k - 1) false) (f .awake));
+      waiting = λ l. ap (λ s. inside s l) b ∙ h .marks .waiting l ∙ sym (ap (λ (i : List Bool). getD i l false) (f .waiting));
+      dropped = λ l. ap (λ s. inside s l) c ∙ h .marks .dropped l ∙ sym (ap (λ (i : List Bool). getD i l false) (f .dropped));
+    };
+    same-used = h .same-used ∙ sym (f .used);
+    ages = record {
+      many = h .ages .many;
+      spaced = h .ages .spaced;
+      near = λ u p. omega (arith, h .ages .near u p);
+      here = later;
+      past = λ u p. f .age u ∙ rw (le-ltb u (d .«source_count») p) (h .ages .past u p);
+    };
+  }

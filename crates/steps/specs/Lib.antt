@@ -1,2 +1,4 @@
 -- What the contracts of the steps cite beside the definitions of `model`.
 pub mod Parts
+pub mod Words
+pub mod Record

@@ -1,4 +1,5 @@
-// The steps of a tick: the plan of a description, and what firings, runs, ends and ages do to the parts of the machine's record.
+// The machine's record as words of bits, and the steps of a tick on them.
 
-pub mod plan;
+pub mod record;
 pub mod step;
+pub mod words;

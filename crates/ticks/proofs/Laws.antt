@@ -1,11 +1,11 @@
 -- The public calls by their tests: judged, the knob, then the plain machine. Assumes nothing.
-use Prim.Native.Nat.{ℕ, _+_, _-_, _≤_, _<_}
+use Prim.Native.Nat.{ℕ, _-_, _≤_}
 use mathlib.Core.Path.{_≡_, refl, sym, ap, _∙_}
-use mathlib.Core.Bool.{Bool, true, false, cond, _&&_}
+use mathlib.Core.Bool.{Bool, true, false, cond}
 use mathlib.Core.List.{List}
 use native.Mathlib.Omega.{arith}
 use lib.Dec.{leb}
-use borrow.Author.Tests.{le-leb, lt-leb, leb-true}
+use borrow.Author.Tests.{leb-true}
 use Rattle.model.specs.declared.Description.{Description}
 use Rattle.model.specs.declared.Machine.{Machine}
 use Rattle.model.specs.declared.Arrivals.{Arrivals}
@@ -19,7 +19,7 @@ use Rattle.model.specs.File.{Widths, judge}
 use Rattle.model.specs.Verdicts.{judgeAt, onKnob}
 use Rattle.model.specs.Machine.{idle, started, judgeTick, plainTick}
 use Rattle.model.specs.History.{Call}
-use Rattle.lemmas.proofs.Tests.{not-both, and-left, and-right, both, and-false-left, and-false-right}
+use Rattle.lemmas.proofs.Tests.{and-left, and-right}
 use Rattle.theory.proofs.WellFormed.{WellFormed}
 use Rattle.theory.proofs.FileLaws.{judge-well-formed}
 use Rattle.machine.specs.Run.{RunOf}
@@ -33,17 +33,13 @@ module _ (d : Description) (t : ℕ) where
   unfolding judgeAt
   at-refused r p e = rw e
 
-  pub at-slow : judge d ≡ Done → t < 200 → Refused OffKnob 0 ≡ judgeAt d t
+  pub at-off : judge d ≡ Done → onKnob t ≡ false → Refused OffKnob 0 ≡ judgeAt d t
   unfolding judgeAt
-  at-slow e h = rw (e, and-false-left (leb 200 t) (leb t 3000) (lt-leb 200 t h))
+  at-off e h = rw (e, h)
 
-  pub at-fast : judge d ≡ Done → 3000 < t → Refused OffKnob 0 ≡ judgeAt d t
+  pub at-done : judge d ≡ Done → onKnob t ≡ true → Done ≡ judgeAt d t
   unfolding judgeAt
-  at-fast e h = rw (e, and-false-right (leb 200 t) (leb t 3000) (lt-leb t 3000 h))
-
-  pub at-done : judge d ≡ Done → 200 ≤ t → t ≤ 3000 → Done ≡ judgeAt d t
-  unfolding judgeAt
-  at-done e a b = rw (e, both (leb 200 t) (leb t 3000) (le-leb 200 t a) (le-leb t 3000 b))
+  at-done e h = rw (e, h)
 
   -- what is known once a description is judged at a tempo
   pub at-known : Widths d → judgeAt d t ≡ Done → WellFormed d × (200 ≤ t) × (t ≤ 3000)

@@ -8,33 +8,18 @@ use model::Machine;
 use model::Outcome;
 use model::Refusal;
 use model::Ticked;
-use steps::plan::idle_of;
-use steps::plan::plan_of;
-use verdicts::rounds::spacing_at;
+use refusals::blank_machine;
+use spacings::gaps_of;
+use spacings::on_knob;
+use steps::record::begin;
+use steps::record::unpack;
+use wiring::wiring_of;
 ghost use mathlib.Core.Path.{_≡_};
-ghost use Prim.Native.Nat.{ℕ, _≤_};
 ghost use Rattle.model.specs.Machine.{started, plainTick};
 ghost use Rattle.model.specs.Verdicts.{judgeAt};
-ghost use Rattle.theory.proofs.WellFormed.{WellFormed};
-ghost use Rattle.steps.specs.Parts.{GapsOf};
-ghost use Rattle.machine.specs.Run.{callsIn};
+ghost use Rattle.model.specs.declared.Outcome.the-variants.{Done};
+ghost use Rattle.machine.specs.Run.{callsIn, RunOf};
 ghost use Rattle.ticks.specs.Calls.{unstarted, untouched, RunCall};
-
-// The spacing of each source at tempo t.
-pub fn gaps_of(d: Description, t: u32) -> [u32; 16]
-    requires { ⌜ WellFormed d × (200 ≤ t) × (t ≤ 3000) ⌝ }
-    ensures { λ r. ⌜ GapsOf d t r ⌝ }
-{
-    let mut gaps = [0u32; 16];
-    let mut u: usize = 0;
-    while u < d.source_count {
-        let slot = d.sources[u];
-        let source = slot.source;
-        gaps[u] = spacing_at(source, t);
-        u += 1;
-    }
-    gaps
-}
 
 // Refusals 1 to 10 as judged, then 11.
 fn judge_at(d: Description, t: u32) -> Outcome
@@ -44,10 +29,7 @@ fn judge_at(d: Description, t: u32) -> Outcome
     let Outcome::Done = judged else {
         return judged;
     };
-    if t < 200 {
-        return Outcome::Refused(Refusal::OffKnob, 0);
-    }
-    if 3000 < t {
+    if !on_knob(t) {
         return Outcome::Refused(Refusal::OffKnob, 0);
     }
     Outcome::Done
@@ -57,20 +39,10 @@ fn judge_at(d: Description, t: u32) -> Outcome
 fn refused_start(why: Refusal, place: usize) -> Ticked
     ensures { λ r. ⌜ r ≡ unstarted why place ⌝ }
 {
-    let awake = [false; 32];
-    let used = [0u32; 32];
-    let waiting = [false; 256];
-    let dropped = [false; 256];
-    let ages = [0u32; 16];
+    let none = blank_machine();
     Ticked {
         outcome: Outcome::Refused(why, place),
-        machine: Machine {
-            awake,
-            used,
-            waiting,
-            dropped,
-            ages,
-        },
+        machine: none,
     }
 }
 
@@ -93,8 +65,9 @@ pub fn start(d: Description, t: u32) -> Ticked
         return refused_start(why, place);
     }
     let gaps = gaps_of(d, t);
-    let plan = plan_of(d, gaps);
-    let m = idle_of(plan);
+    let used = [0u32; 32];
+    let ready = [0u64; 16];
+    let m = unpack(&gaps, d.source_count, begin(), used, &ready);
     Ticked {
         outcome: Outcome::Done,
         machine: m,
@@ -110,8 +83,16 @@ pub fn tick_value(d: Description, t: u32, m: Machine, a: Arrivals, finish: bool)
         return refused_tick(why, place, m);
     }
     let gaps = gaps_of(d, t);
-    let plan = plan_of(d, gaps);
-    tick_judged(plan, m, a, finish)
+    tick_judged(wiring_of(d), gaps, m, a, finish)
+}
+
+// The calls of a run, for a description that is judged as done at tempo t already.
+pub fn run_accepted(d: Description, t: u32, calls: &[u8], outcomes: &mut [u8]) -> Ticked
+    requires { ⌜ judgeAt d t ≡ Done ⌝ }
+    ensures { λ r. ⌜ RunOf d t (callsIn (now (calls .entry))) (now (outcomes .entry)) (now (outcomes .exit)) r ⌝ }
+{
+    let gaps = gaps_of(d, t);
+    run_judged(d, t, gaps, calls, outcomes)
 }
 
 // Many tick calls from the start, with the description judged once. A call has four bytes: the mask of its arrivals, high byte
@@ -124,8 +105,7 @@ pub fn run(d: Description, t: u32, calls: &[u8], outcomes: &mut [u8]) -> Ticked
     if let Outcome::Refused(why, place) = judged {
         return refused_start(why, place);
     }
-    let gaps = gaps_of(d, t);
-    run_judged(d, t, gaps, calls, outcomes)
+    run_accepted(d, t, calls, outcomes)
 }
 
 // The caller's own record is advanced by one tick; a refusal leaves it as it was.

@@ -1,10 +1,8 @@
 -- The verdict call by its tests: judged, then the knob. Assumes nothing.
-use Prim.Native.Nat.{ℕ, _≤_, _<_}
+use Prim.Native.Nat.{ℕ}
 use mathlib.Core.Path.{_≡_, ap}
 use mathlib.Core.Bool.{true, false}
 use mathlib.Core.List.{List}
-use lib.Dec.{leb}
-use borrow.Author.Tests.{leb-true}
 use Rattle.model.specs.declared.Description.{Description}
 use Rattle.model.specs.declared.Outcome.the-variants.{Done, Refused}
 use Rattle.model.specs.declared.Refusal.{Refusal}
@@ -14,7 +12,6 @@ use Rattle.model.specs.declared.Verdicts.{Verdicts}
 use Rattle.model.specs.Basics.{tab}
 use Rattle.model.specs.File.{judge}
 use Rattle.model.specs.Verdicts.{judgeAt, verdicts, onKnob, slotAt}
-use Rattle.lemmas.proofs.Tests.{and-left, and-right}
 use Rattle.verdicts.specs.Slots.{refusedVerdicts}
 
 module _ (d : Description) (t : ℕ) where
@@ -29,7 +26,3 @@ module _ (d : Description) (t : ℕ) where
   pub verdicts-done : (slots : List VerdictSlot) → judge d ≡ Done → onKnob t ≡ true → slots ≡ tab 256 (slotAt d t) → _≡_ {A = Verdicts} (record { outcome = Done; slots = slots }) (verdicts d t)
   unfolding verdicts judgeAt
   verdicts-done slots e h q = rw (e, h) (ap (λ (x : List VerdictSlot). let v : Verdicts = record { outcome = Done; slots = x } in v) q)
-
--- a tempo on the knob
-pub knob-is : (t : ℕ) → onKnob t ≡ true → (200 ≤ t) × (t ≤ 3000)
-knob-is t e = (leb-true 200 t (and-left (leb 200 t) (leb t 3000) e), leb-true t 3000 (and-right (leb 200 t) (leb t 3000) e))

@@ -1,5 +1,6 @@
 -- `bench_report` meets its contract. Assumes nothing.
-use Rattle.library.proofs.Laws.{number-most, filled-most}
+use Rattle.refusals.proofs.Laws.{number-most}
+use Rattle.library.proofs.Laws.{filled-most}
 use mathlib.Core.Path.{_≡_, sym, ap, _∙_}
 use lib.IntN.{ℤ}
 use mir.Syntax.{w64}

@@ -1,5 +1,5 @@
 -- `refusal_code` meets its contract: the number is at most 16 and the place at most 2,128. Assumes nothing.
-use Rattle.library.proofs.Laws.{number-most}
+use Rattle.refusals.proofs.Laws.{number-most}
 use mathlib.Core.Path.{_≡_, ap, _∙_}
 use Prim.Native.Nat.{ℕ, _+_, _*_}
 use native.Mathlib.Omega.{arith}

@@ -1,17 +1,10 @@
--- `run` meets its contract: refused with nothing changed, or the list of calls. Assumes nothing.
-use mathlib.Core.Path.{_≡_, sym, ap, _∙_}
-use Rattle.theory.proofs.Typed.{typed-widths}
+-- `run` meets its contract: refused, or the calls of an accepted description. Assumes nothing.
+use mathlib.Core.Path.{sym, _∙_}
 use Rattle.machine.specs.Run.{callsIn}
-use Rattle.ticks.proofs.Laws.{at-known, run-refused, run-done}
+use Rattle.ticks.proofs.Laws.{run-refused, run-done}
 use borrow.Author.Needs.{needs}
 use Rattle.ticks.proofs.run.Statement.{statement}
 use Rattle.ticks.proofs.run.Tie as tie
-use Rattle.ticks.proofs.run.Reads as reads
-use Rattle.ticks.proofs.run.Lts as lts
-use Rattle.machine.proofs.run.run_judged.Reads as run-judged-reads
-use Rattle.ticks.proofs.gaps_of.Reads as gaps-of-reads
-use Rattle.ticks.proofs.judge_at.Reads as judge-at-reads
-use Rattle.ticks.proofs.refused_start.Reads as refused-start-reads
 
 judge-at-requires : tie.Need-judge-at-requires
 judge-at-requires c κs = search needs
@@ -28,17 +21,14 @@ returns c = let S = c .before .before .before .before .before .before .before in
 enum-told : tie.Need-enum-told
 enum-told c = search needs
 
-gaps-of-requires : tie.Need-gaps-of-requires
-gaps-of-requires c κs = let S = c .before .before .before .before .before in at-known (S .args .d) (S .args .t) (typed-widths (S .args .d) _ (S .good .0)) (sym (c .before .before .judge-at .ensures) ∙ c .enum-told .given .1)
-
-run-judged-requires : tie.Need-run-judged-requires
-run-judged-requires c κs = let S = c .before .before .before .before .before .before .before in (at-known (S .args .d) (S .args .t) (typed-widths (S .args .d) _ (S .good .0)) (sym (c .before .before .before .before .judge-at .ensures) ∙ c .before .before .enum-told .given .1) .0, (sym (c .before .before .before .before .judge-at .ensures) ∙ c .before .before .enum-told .given .1), c .before .gaps-of .ensures)
+run-accepted-requires : tie.Need-run-accepted-requires
+run-accepted-requires c κs = (sym (c .before .before .before .judge-at .ensures) ∙ c .before .enum-told .given .1)
 
 same-length : tie.Need-same-length
 same-length c = search needs
 
 returns-2 : tie.Need-returns-2
-returns-2 c = let S = c .before .before .before .before .before .before .before .before .before .before in run-done (S .args .d) (S .args .t) (callsIn (S .args .calls .now)) (S .args .outcomes .now) _ (c .before .before .run-judged .result) (sym (c .before .before .before .before .before .before .before .judge-at .ensures) ∙ c .before .before .before .before .before .enum-told .given .1) (c .before .before .run-judged .ensures)
+returns-2 c = let S = c .before .before .before .before .before .before .before .before .before in run-done (S .args .d) (S .args .t) (callsIn (S .args .calls .now)) (S .args .outcomes .now) _ (c .before .before .run-accepted .result) (sym (c .before .before .before .before .before .before .judge-at .ensures) ∙ c .before .before .before .before .enum-told .given .1) (c .before .before .run-accepted .ensures)
 
 pub run-spec : {M : Type 1} → statement M
 run-spec =
@@ -49,7 +39,6 @@ run-spec =
     refused-start-requires
     returns
     enum-told
-    gaps-of-requires
-    run-judged-requires
+    run-accepted-requires
     same-length
     returns-2)

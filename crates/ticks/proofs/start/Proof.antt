@@ -1,18 +1,12 @@
--- `start` meets its contract: the idle record, or zeros. Assumes nothing.
-use mathlib.Core.Path.{_≡_, sym, ap, _∙_}
+-- `start` meets its contract: refused, or the record that the first words hold. Assumes nothing.
+use mathlib.Core.Path.{refl, sym, _∙_}
+use Rattle.model.specs.Machine.{idle}
+use Rattle.steps.proofs.RecordLaws.{begun}
 use Rattle.theory.proofs.Typed.{typed-widths}
-use Rattle.machine.proofs.TickLaws.{plan-sound}
 use Rattle.ticks.proofs.Laws.{at-known, start-refused, start-done}
 use borrow.Author.Needs.{needs}
 use Rattle.ticks.proofs.start.Statement.{statement}
 use Rattle.ticks.proofs.start.Tie as tie
-use Rattle.ticks.proofs.start.Reads as reads
-use Rattle.ticks.proofs.start.Lts as lts
-use Rattle.steps.proofs.plan.idle_of.Reads as idle-of-reads
-use Rattle.steps.proofs.plan.plan_of.Reads as plan-of-reads
-use Rattle.ticks.proofs.gaps_of.Reads as gaps-of-reads
-use Rattle.ticks.proofs.judge_at.Reads as judge-at-reads
-use Rattle.ticks.proofs.refused_start.Reads as refused-start-reads
 
 judge-at-requires : tie.Need-judge-at-requires
 judge-at-requires c κs = search needs
@@ -30,16 +24,16 @@ enum-told : tie.Need-enum-told
 enum-told c = search needs
 
 gaps-of-requires : tie.Need-gaps-of-requires
-gaps-of-requires c κs = let S = c .before .before .before in at-known (S .args .d) (S .args .t) (typed-widths (S .args .d) _ (S .good .0)) (sym (c .before .before .judge-at .ensures) ∙ c .enum-told .given .1)
+gaps-of-requires c κs = at-known (c .before .before .before .args .d) (c .before .before .before .args .t) (typed-widths (c .before .before .before .args .d) _ (c .before .before .before .good .0)) (sym (c .before .before .judge-at .ensures) ∙ c .enum-told .given .1)
 
-plan-of-requires : tie.Need-plan-of-requires
-plan-of-requires c κs = let S = c .before .before .before .before in at-known (S .args .d) (S .args .t) (typed-widths (S .args .d) _ (S .good .0)) (sym (c .before .before .before .judge-at .ensures) ∙ c .before .enum-told .given .1) .0 .few-links
+begin-requires : tie.Need-begin-requires
+begin-requires c κs = search needs
 
-idle-of-requires : tie.Need-idle-of-requires
-idle-of-requires c κs = let S = c .before .before .before .before .before in plan-sound (S .args .d) (S .args .t) (c .plan-of .result) (at-known (S .args .d) (S .args .t) (typed-widths (S .args .d) _ (S .good .0)) (sym (c .before .before .before .before .judge-at .ensures) ∙ c .before .before .enum-told .given .1) .0) (c .plan-of .ensures (S .args .t) (c .before .gaps-of .ensures))
+unpack-requires : tie.Need-unpack-requires
+unpack-requires c κs = at-known (c .before .before .before .before .before .before .before .args .d) (c .before .before .before .before .before .before .before .args .t) (typed-widths (c .before .before .before .before .before .before .before .args .d) _ (c .before .before .before .before .before .before .before .good .0)) (sym (c .before .before .before .before .before .before .judge-at .ensures) ∙ c .before .before .before .before .enum-told .given .1) .0 .fields .few-sources
 
 returns-2 : tie.Need-returns-2
-returns-2 c = let S = c .before .before .before .before .before .before in start-done (S .args .d) (S .args .t) (c .idle-of .result) (sym (c .before .before .before .before .before .judge-at .ensures) ∙ c .before .before .before .enum-told .given .1) (c .idle-of .ensures (S .args .d) (S .args .t) (c .before .plan-of .ensures (S .args .t) (c .before .before .gaps-of .ensures)))
+returns-2 c = let S = c .before .before .before .before .before .before .before .before in let k = at-known (c .before .before .before .before .before .before .before .before .args .d) (c .before .before .before .before .before .before .before .before .args .t) (typed-widths (c .before .before .before .before .before .before .before .before .args .d) _ (c .before .before .before .before .before .before .before .before .good .0)) (sym (c .before .before .before .before .before .before .before .judge-at .ensures) ∙ c .before .before .before .before .before .enum-told .given .1) in start-done (S .args .d) (S .args .t) (c .unpack .result) (sym (c .before .before .before .before .before .before .before .judge-at .ensures) ∙ c .before .before .before .before .before .enum-told .given .1) (c .unpack .ensures (S .args .d) (S .args .t) (idle (S .args .d) (S .args .t)) refl (c .before .before .before .before .gaps-of .ensures) (begun (S .args .d) (S .args .t) (c .before .before .begin .result) (k .0) (k .1) (k .2) (c .before .before .begin .ensures)))
 
 pub start-spec : {M : Type 1} → statement M
 start-spec =
@@ -51,6 +45,6 @@ start-spec =
     returns
     enum-told
     gaps-of-requires
-    plan-of-requires
-    idle-of-requires
+    begin-requires
+    unpack-requires
     returns-2)

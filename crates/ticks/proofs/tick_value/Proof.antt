@@ -1,17 +1,10 @@
--- `tick_value` meets its contract: the plain machine's tick. Assumes nothing.
-use mathlib.Core.Path.{_≡_, sym, ap, _∙_}
+-- `tick_value` meets its contract: refused, or the tick of an accepted description. Assumes nothing.
+use mathlib.Core.Path.{sym, _∙_}
 use Rattle.theory.proofs.Typed.{typed-widths}
 use Rattle.ticks.proofs.Laws.{at-known, tick-refused}
 use borrow.Author.Needs.{needs}
 use Rattle.ticks.proofs.tick_value.Statement.{statement}
 use Rattle.ticks.proofs.tick_value.Tie as tie
-use Rattle.ticks.proofs.tick_value.Reads as reads
-use Rattle.ticks.proofs.tick_value.Lts as lts
-use Rattle.machine.proofs.tick.tick_judged.Reads as tick-judged-reads
-use Rattle.steps.proofs.plan.plan_of.Reads as plan-of-reads
-use Rattle.ticks.proofs.gaps_of.Reads as gaps-of-reads
-use Rattle.ticks.proofs.judge_at.Reads as judge-at-reads
-use Rattle.ticks.proofs.refused_tick.Reads as refused-tick-reads
 
 judge-at-requires : tie.Need-judge-at-requires
 judge-at-requires c κs = search needs
@@ -29,16 +22,16 @@ enum-told : tie.Need-enum-told
 enum-told c = search needs
 
 gaps-of-requires : tie.Need-gaps-of-requires
-gaps-of-requires c κs = let S = c .before .before .before in at-known (S .args .d) (S .args .t) (typed-widths (S .args .d) _ (S .good .0)) (sym (c .before .before .judge-at .ensures) ∙ c .enum-told .given .1)
+gaps-of-requires c κs = at-known (c .before .before .before .args .d) (c .before .before .before .args .t) (typed-widths (c .before .before .before .args .d) _ (c .before .before .before .good .0)) (sym (c .before .before .judge-at .ensures) ∙ c .enum-told .given .1)
 
-plan-of-requires : tie.Need-plan-of-requires
-plan-of-requires c κs = let S = c .before .before .before .before in at-known (S .args .d) (S .args .t) (typed-widths (S .args .d) _ (S .good .0)) (sym (c .before .before .before .judge-at .ensures) ∙ c .before .enum-told .given .1) .0 .few-links
+wiring-of-requires : tie.Need-wiring-of-requires
+wiring-of-requires c κs = at-known (c .before .before .before .before .args .d) (c .before .before .before .before .args .t) (typed-widths (c .before .before .before .before .args .d) _ (c .before .before .before .before .good .0)) (sym (c .before .before .before .judge-at .ensures) ∙ c .before .enum-told .given .1) .0
 
 tick-judged-requires : tie.Need-tick-judged-requires
-tick-judged-requires c κs = let S = c .before .before .before .before .before in record { description = S .args .d; tempo = S .args .t; of = (c .plan-of .ensures (S .args .t) (c .before .gaps-of .ensures)); formed = at-known (S .args .d) (S .args .t) (typed-widths (S .args .d) _ (S .good .0)) (sym (c .before .before .before .before .judge-at .ensures) ∙ c .before .before .enum-told .given .1) .0; judged = (sym (c .before .before .before .before .judge-at .ensures) ∙ c .before .before .enum-told .given .1) }
+tick-judged-requires c κs = record { description = c .before .before .before .before .before .args .d; tempo = c .before .before .before .before .before .args .t; wired = c .wiring-of .ensures; spaced = c .before .gaps-of .ensures; judged = (sym (c .before .before .before .before .judge-at .ensures) ∙ c .before .before .enum-told .given .1) }
 
 returns-2 : tie.Need-returns-2
-returns-2 c = let S = c .before .before .before .before .before .before in c .tick-judged .ensures (S .args .d) (S .args .t) (c .before .plan-of .ensures (S .args .t) (c .before .before .gaps-of .ensures)) (sym (c .before .before .before .before .before .judge-at .ensures) ∙ c .before .before .before .enum-told .given .1)
+returns-2 c = c .tick-judged .ensures (c .before .before .before .before .before .before .args .d) (c .before .before .before .before .before .before .args .t) (c .before .wiring-of .ensures) (c .before .before .gaps-of .ensures) (sym (c .before .before .before .before .before .judge-at .ensures) ∙ c .before .before .before .enum-told .given .1)
 
 pub tick-value-spec : {M : Type 1} → statement M
 tick-value-spec =
@@ -50,6 +43,6 @@ tick-value-spec =
     returns
     enum-told
     gaps-of-requires
-    plan-of-requires
+    wiring-of-requires
     tick-judged-requires
     returns-2)

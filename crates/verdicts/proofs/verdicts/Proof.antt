@@ -3,10 +3,10 @@ use mathlib.Core.Path.{sym, _∙_}
 use borrow.Author.Tests.{not-true, not-false}
 use Rattle.theory.proofs.Typed.{typed-widths}
 use Rattle.theory.proofs.FileLaws.{judge-well-formed}
-use Rattle.spacings.proofs.GapLaws.{gaps-of, scaled-of}
+use Rattle.spacings.proofs.GapLaws.{gaps-of, scaled-of, knob-is}
 use Rattle.model.specs.Delays.{spacingOf}
 use Rattle.verdicts.proofs.TableLaws.{slots-at-tempo}
-use Rattle.verdicts.proofs.CallLaws.{verdicts-refused, verdicts-off, verdicts-done, knob-is}
+use Rattle.verdicts.proofs.CallLaws.{verdicts-refused, verdicts-off, verdicts-done}
 use borrow.Author.Needs.{needs}
 use Rattle.verdicts.proofs.verdicts.Statement.{statement}
 use Rattle.verdicts.proofs.verdicts.Tie as tie

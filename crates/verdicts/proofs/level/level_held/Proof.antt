@@ -3,9 +3,6 @@ use mathlib.Core.Path.{ap, _∙_}
 use lib.Dec.{ltb}
 use Rattle.sets.specs.Sets.{member}
 use Rattle.sets.proofs.SetLaws.{member-none}
-use Rattle.spacings.specs.Gaps.{GapsIn}
-use Rattle.rounds.specs.Level.{reachIn}
-use Rattle.verdicts.specs.Tables.{NarrowestIn}
 use Rattle.verdicts.proofs.NarrowLaws.{level-empty, level-beyond, level-narrow}
 use borrow.Author.Needs.{needs}
 use Rattle.verdicts.proofs.level.level_held.Statement.{statement}

@@ -2,7 +2,6 @@
 use Prim.Native.Nat.{_≤_, _-_}
 use mathlib.Core.Path.{_≡_, _∙_, ap}
 use native.Mathlib.Omega.{arith}
-use lib.ListN.{getD}
 use borrow.Author.Needs.{needs}
 use Rattle.verdicts.specs.Tables.{narrowerOf, NarrowestIn}
 use Rattle.verdicts.proofs.LevelSteps.{narrowest-none, narrowest-more}

@@ -1,0 +1,84 @@
+-- `sources_lawful` meets its contract: the first u sources keep their rule. Assumes nothing.
+use Prim.Native.Nat.{ℕ, _-_, _≤_}
+use mathlib.Core.Path.{_≡_, sym, ap, _∙_}
+use mathlib.Core.Bool.{Bool, true}
+use mathlib.Core.List.{List}
+use native.Mathlib.Omega.{arith}
+use borrow.Author.Needs.{needs}
+use borrow.Author.Tests.{not-true, not-false}
+use Rattle.model.specs.declared.Description.{Description}
+use Rattle.model.specs.Basics.{allN}
+use native.Mathlib.Nat.{zero-add}
+use Rattle.model.specs.Machine.{sourceRule}
+use Rattle.spacings.specs.Gaps.{GapsOf}
+use Rattle.steps.specs.Parts.{parts}
+use Rattle.rules.proofs.RuleLaws.{all-none, all-next, all-fails, source-is}
+use Rattle.rules.proofs.sources_lawful.Statement.{statement}
+use Rattle.rules.proofs.sources_lawful.Tie as tie
+
+abbrev Inv-loop : tie.InvT-loop
+Inv-loop gaps sources ages u₀ u = (u ≤ 16) × ((d : Description) (t : ℕ) (aw wa dr : List Bool) (us : List ℕ) → d .«source_count» ≡ sources → GapsOf d t gaps → allN (sourceRule d t (parts aw us wa dr ages)) 0 u ≡ true)
+
+abbrev μ-loop : tie.MeasureT-loop
+μ-loop gaps sources ages u₀ u = 16 - u
+
+loop-holds : tie.Need-loop-holds Inv-loop μ-loop
+loop-holds c = (omega arith, λ d t aw wa dr us p g. all-none _ 0)
+
+mul-source-lawful : tie.Need-mul-source-lawful Inv-loop μ-loop
+mul-source-lawful c = omega arith
+
+element-copy-out-source-lawful : tie.Need-element-copy-out-source-lawful Inv-loop μ-loop
+element-copy-out-source-lawful c = omega arith
+
+mul-source-lawful-2 : tie.Need-mul-source-lawful-2 Inv-loop μ-loop
+mul-source-lawful-2 c = omega arith
+
+element-copy-out-source-lawful-2 : tie.Need-element-copy-out-source-lawful-2 Inv-loop μ-loop
+element-copy-out-source-lawful-2 c = omega arith
+
+source-lawful-requires : tie.Need-source-lawful-requires Inv-loop μ-loop
+source-lawful-requires c κs = search needs
+
+returns : tie.Need-returns Inv-loop μ-loop
+returns c = λ d t aw wa dr us p g.
+    let S = c .before .before .before .before .before .before in
+    let L = c .before .before .before .before .before .loop in
+    all-fails (sourceRule d t (parts aw us wa dr (S .args .ages .now))) 0 16 (L .u) (c .before .before .before .before .loop-test .taken) (rw (zero-add (L .u)) (source-is d t (S .args .gaps .now) (S .args .sources) (L .u) aw wa dr us (S .args .ages .now) (c .before .source-lawful .result) p g (c .before .source-lawful .ensures) ∙ not-true _ (c .if1 .taken)))
+
+add-u : tie.Need-add-u Inv-loop μ-loop
+add-u c = omega arith
+
+loop-less : tie.Need-loop-less Inv-loop μ-loop
+loop-less c = omega arith
+
+loop-again : tie.Need-loop-again Inv-loop μ-loop
+loop-again c =
+    let S = c .before .before .before .before .before .before in
+    let L = c .before .before .before .before .before .loop in
+    (omega arith, λ d t aw wa dr us p g. all-next (sourceRule d t (parts aw us wa dr (S .args .ages .now))) 0 (L .u) (L .inv .1 d t aw wa dr us p g) (rw (zero-add (L .u)) (source-is d t (S .args .gaps .now) (S .args .sources) (L .u) aw wa dr us (S .args .ages .now) (c .before .source-lawful .result) p g (c .before .source-lawful .ensures) ∙ not-false _ (c .if1 .left))))
+
+returns-2 : tie.Need-returns-2 Inv-loop μ-loop
+returns-2 c = λ d t aw wa dr us p g.
+    let S = c .before .before in
+    let L = c .before .loop in
+    let e : L .u ≡ 16 = omega (arith, c .loop-test .left, L .inv .0) in
+    sym (ap (allN (sourceRule d t (parts aw us wa dr (S .args .ages .now))) 0) (sym e) ∙ L .inv .1 d t aw wa dr us p g)
+
+pub sources-lawful-spec : {M : Type 1} → statement M
+sources-lawful-spec =
+    tie.close
+    (tie.spec
+    Inv-loop
+    μ-loop
+    loop-holds
+    mul-source-lawful
+    element-copy-out-source-lawful
+    mul-source-lawful-2
+    element-copy-out-source-lawful-2
+    source-lawful-requires
+    returns
+    add-u
+    loop-less
+    loop-again
+    returns-2)

@@ -1,0 +1,45 @@
+-- What the tests of a record ensure, of every description whose tables they are given.
+use Prim.Native.Nat.{ℕ, _≤_, _<_}
+use mathlib.Core.Bool.{Bool}
+use mathlib.Core.List.{List}
+use mathlib.Core.Path.{_≡_}
+use lib.ListN.{getD}
+use Rattle.model.specs.declared.Description.{Description}
+use Rattle.model.specs.declared.Machine.{Machine}
+use Rattle.model.specs.Basics.{allN}
+use Rattle.model.specs.Graph.{linkAt}
+use Rattle.model.specs.Machine.{taskRule, linkRule, sourceRule, lawful}
+use Rattle.wiring.specs.declared.Wiring.{Wiring}
+use Rattle.wiring.specs.Rows.{WiringOf}
+use Rattle.spacings.specs.Gaps.{GapsOf}
+use Rattle.steps.specs.Parts.{parts}
+
+-- the tasks that a description's links enter, of which there are n
+pub record EntersOf (d : Description) (to : List ℕ) (n : ℕ) : Type 0 where
+  pub many : d .«link_count» ≡ n
+  pub enters : (l : ℕ) → l < n → getD to l 0 ≡ linkAt d l .to
+
+-- the table's first n entries are numbers of tasks
+pub record Enters (to : List ℕ) (n : ℕ) : Type 0 where
+  pub few : n ≤ 256
+  pub some : (l : ℕ) → l < n → 1 ≤ getD to l 0
+  pub most : (l : ℕ) → l < n → getD to l 0 ≤ 32
+
+-- the rules, of the parts that each speaks of
+abbrev pub TasksLawful : List ℕ → ℕ → List Bool → List ℕ → Bool → Type 0
+TasksLawful runs tasks awake used r =
+    (d : Description) (waiting dropped : List Bool) (ages : List ℕ) → runs ≡ d .runs → d .«task_count» ≡ tasks
+    → r ≡ allN (taskRule d (parts awake used waiting dropped ages)) 1 32
+
+abbrev pub LinksLawful : List ℕ → ℕ → List Bool → List Bool → List Bool → Bool → Type 0
+LinksLawful to n awake waiting dropped r =
+    (d : Description) (used ages : List ℕ) → EntersOf d to n
+    → r ≡ allN (linkRule d (parts awake used waiting dropped ages)) 0 256
+
+abbrev pub SourcesLawful : List ℕ → ℕ → List ℕ → Bool → Type 0
+SourcesLawful gaps sources ages r =
+    (d : Description) (t : ℕ) (awake waiting dropped : List Bool) (used : List ℕ) → d .«source_count» ≡ sources → GapsOf d t gaps
+    → r ≡ allN (sourceRule d t (parts awake used waiting dropped ages)) 0 16
+
+abbrev pub Lawful : Wiring → List ℕ → Machine → Bool → Type 0
+Lawful w gaps m r = (d : Description) (t : ℕ) → WiringOf d w → GapsOf d t gaps → r ≡ lawful d t m

@@ -1,0 +1,126 @@
+// The rules of the machine's record.
+
+use model::Machine;
+use numbers::index;
+use wiring::Wiring;
+ghost use mathlib.Core.Path.{_≡_};
+ghost use mathlib.Core.Bool.{_||_, _&&_, not, cond};
+ghost use lib.Dec.{ltb, leb, eqb};
+ghost use Rattle.rules.specs.Rules.{Enters, TasksLawful, LinksLawful, SourcesLawful, Lawful};
+
+// Used is below the longest run, and 0 for a sleeping task; nothing is set for an absent one.
+fn task_lawful(here: bool, run: u32, awake: bool, used: u32) -> bool
+    ensures { λ r. ⌜ r ≡ cond here (ltb used run && (awake || eqb used 0)) (not awake && eqb used 0) ⌝ }
+{
+    if !here {
+        if awake {
+            return false;
+        }
+        return used == 0;
+    }
+    if run <= used {
+        return false;
+    }
+    if awake {
+        return true;
+    }
+    used == 0
+}
+
+fn tasks_lawful<'a>(
+    runs: &[u32; 32],
+    tasks: usize,
+    awake: &'a [bool; 32],
+    used: &'a [u32; 32],
+) -> bool
+    ensures { λ r. ⌜ TasksLawful (now (runs .entry)) tasks (now (awake .entry)) (now (used .entry)) r ⌝ }
+{
+    let mut k: usize = 0;
+    while k < 32 {
+        if !task_lawful(k < tasks, runs[k], awake[k], used[k]) {
+            return false;
+        }
+        k += 1;
+    }
+    true
+}
+
+// A waiting link's task is awake; nothing is set for an absent link.
+fn link_lawful(here: bool, waiting: bool, dropped: bool, awake: bool) -> bool
+    ensures { λ r. ⌜ r ≡ cond here (not waiting || awake) (not waiting && not dropped) ⌝ }
+{
+    if waiting {
+        if here {
+            return awake;
+        }
+        return false;
+    }
+    if here {
+        return true;
+    }
+    !dropped
+}
+
+fn links_lawful<'a>(
+    to: &[u8; 256],
+    links: usize,
+    awake: &'a [bool; 32],
+    waiting: &'a [bool; 256],
+    dropped: &'a [bool; 256],
+) -> bool
+    requires { ⌜ Enters (now to) links ⌝ }
+    ensures { λ r. ⌜ LinksLawful (now (to .entry)) links (now (awake .entry)) (now (waiting .entry)) (now (dropped .entry)) r ⌝ }
+{
+    let mut l: usize = 0;
+    while l < 256 {
+        let mut entered = false;
+        if l < links {
+            entered = awake[index(to[l]) - 1];
+        }
+        if !link_lawful(l < links, waiting[l], dropped[l], entered) {
+            return false;
+        }
+        l += 1;
+    }
+    true
+}
+
+// Ages do not exceed spacings; nothing is set for an absent source.
+fn source_lawful(here: bool, gap: u32, age: u32) -> bool
+    ensures { λ r. ⌜ r ≡ cond here (leb age gap) (eqb age 0) ⌝ }
+{
+    if here {
+        return age <= gap;
+    }
+    age == 0
+}
+
+fn sources_lawful(gaps: &[u32; 16], sources: usize, ages: &[u32; 16]) -> bool
+    ensures { λ r. ⌜ SourcesLawful (now (gaps .entry)) sources (now (ages .entry)) r ⌝ }
+{
+    let mut u: usize = 0;
+    while u < 16 {
+        if !source_lawful(u < sources, gaps[u], ages[u]) {
+            return false;
+        }
+        u += 1;
+    }
+    true
+}
+
+// Whether a record keeps the rules; 16 otherwise.
+pub fn lawful(w: Wiring, gaps: [u32; 16], m: Machine) -> bool
+    requires { ⌜ Enters (w .to) (w .links) ⌝ }
+    ensures { λ r. ⌜ Lawful w gaps m r ⌝ }
+{
+    let links = w.links;
+    let tasks = w.tasks;
+    let sources = w.sources;
+    if !tasks_lawful(&w.runs, tasks, &m.awake, &m.used) {
+        return false;
+    }
+    if !links_lawful(&w.to, links, &m.awake, &m.waiting, &m.dropped) {
+        return false;
+    }
+    sources_lawful(&gaps, sources, &m.ages)
+}

@@ -1,0 +1,10 @@
+-- `sets::without` meets its contract. Assumes nothing.
+use Rattle.sets.proofs.SetLaws.{member-less}
+use Rattle.sets.proofs.without.Statement.{statement}
+use Rattle.sets.proofs.without.Tie as tie
+
+returns : tie.Need-returns
+returns c = member-less (c .args .a) (c .args .b)
+
+pub without-spec : {M : Type 1} → statement M
+without-spec = tie.close (tie.spec returns)

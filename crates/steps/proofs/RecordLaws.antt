@@ -1,0 +1,218 @@
+-- A record and the words that hold it: marks one by one, ages, the start, and the rules. Assumes nothing.
+use Prim.Native.Nat.{ℕ, zero, suc, _+_, _-_, _/_, _%_, _≤_, _<_}
+use mathlib.Core.Path.{_≡_, refl, sym, ap, subst, _∙_}
+use mathlib.Core.Bool.{Bool, true, false, _||_, _&&_, not, cond}
+use mathlib.Core.List.{List, [], _∷_}
+use native.Mathlib.Omega.{arith}
+use native.Mathlib.Decide.{decLt}
+use lib.ListN.{getD, length, replicate, List·getD-eq-default}
+use lib.Seq.{ext-getD}
+use lib.Dec.{eqb, ltb, leb}
+use borrow.Author.Tests.{eqb-true, eq-eqb, ne-eqb, leb-true, lt-ltb, le-ltb, lt-leb, not-true}
+use Rattle.model.specs.declared.Description.{Description}
+use Rattle.model.specs.declared.Machine.{Machine}
+use Rattle.model.specs.Basics.{allN}
+use Rattle.model.specs.Delays.{spacingOf}
+use Rattle.model.specs.Machine.{awakeAt, usedAt, ageAt, idle, taskRule, linkRule, sourceRule, lawful}
+use Rattle.lemmas.proofs.Tests.{not-both, false-of, and-left, and-right}
+use Rattle.lemmas.proofs.Table.{getD-tab, length-tab}
+use Rattle.lemmas.proofs.Range.{all-at}
+use Rattle.theory.proofs.WellFormed.{WellFormed}
+use Rattle.theory.proofs.Spacing.{gap-some}
+use Rattle.assurance.proofs.Firing.{Sized, less-more}
+use Rattle.assurance.proofs.Machine.{getD-same}
+use Rattle.sets.specs.declared.wide.Wide.{Wide}
+use Rattle.sets.specs.Sets.{member}
+use Rattle.sets.specs.Wide.{wordIn, inside}
+use Rattle.sets.proofs.SetLaws.{member-none}
+use Rattle.steps.specs.declared.words.Words.{Words}
+use Rattle.spacings.specs.Gaps.{GapsOf}
+use Rattle.steps.specs.Words.{Holds}
+use Rattle.steps.specs.Record.{AwakeOf, AwakeIn, LinksOf, AgesOf, ReadyOf, Begins}
+
+-- a number that is marked, and one that is not
+pub on : (a b c : Bool) → b ≡ true → (a || c) ≡ (a || (b && c))
+on a b c e = rw e refl
+
+pub off : (a b c : Bool) → b ≡ false → a ≡ (a || (b && c))
+off true b c e = refl
+off false b c e = rw e refl
+
+-- one mark more of a word
+pub word-more : (f : ℕ → Bool) (set k set′ : ℕ) → ((j : ℕ) → member set j ≡ (ltb j k && f j)) → ((j : ℕ) → member set′ j ≡ (member set j || (f k && eqb j k))) → (j : ℕ) → member set′ j ≡ (ltb j (k + 1) && f j)
+word-more f set k set′ h e j =
+    let n : suc k ≡ k + 1 = omega arith in
+    e j ∙ rw (h j) (ap (λ b. (ltb j k && f j) || b) (swap (f k) (eqb j k)) ∙ sym (less-more f j k) ∙ ap (λ i. ltb j i && f j) n)
+  where
+    swap : (a b : Bool) → (a && b) ≡ (b && a)
+    swap true true = refl
+    swap true false = refl
+    swap false true = refl
+    swap false false = refl
+
+pub word-none : (f : ℕ → Bool) (j : ℕ) → member 0 j ≡ (ltb j 0 && f j)
+word-none f j = member-none j ∙ rw (le-ltb j 0 (omega arith)) refl
+
+-- four words of 64 marks each
+pub links-words : (s : Wide) (marks : List Bool) → length marks ≡ 256 → ((j : ℕ) → member (s .w0) j ≡ (ltb j 64 && getD marks (0 + j) false)) → ((j : ℕ) → member (s .w1) j ≡ (ltb j 64 && getD marks (64 + j) false)) → ((j : ℕ) → member (s .w2) j ≡ (ltb j 64 && getD marks (128 + j) false)) → ((j : ℕ) → member (s .w3) j ≡ (ltb j 64 && getD marks (192 + j) false)) → (l : ℕ) → inside s l ≡ getD marks l false
+unfolding inside wordIn
+links-words s marks z p q r t l = go (l / 64) refl
+  where
+    at : (w n : ℕ) → ((j : ℕ) → member w j ≡ (ltb j 64 && getD marks (n + j) false)) → n + l % 64 ≡ l → member w (l % 64) ≡ getD marks l false
+    at w n h e = h (l % 64) ∙ rw (lt-ltb (l % 64) 64 (omega arith)) (ap (λ i. getD marks i false) e)
+
+    go : (v : ℕ) → l / 64 ≡ v → member (wordIn s v) (l % 64) ≡ getD marks l false
+    go zero e = at (s .w0) 0 p (omega arith)
+    go (suc zero) e = at (s .w1) 64 q (omega arith)
+    go (suc (suc zero)) e = at (s .w2) 128 r (omega arith)
+    go (suc (suc (suc zero))) e = at (s .w3) 192 t (omega arith)
+    go (suc (suc (suc (suc v)))) e = member-none (l % 64) ∙ sym (List·getD-eq-default marks false {n = l} (omega arith))
+
+pub link-word : (s : Wide) (l : ℕ) → l < 256 → member (getD (s .w0 ∷ s .w1 ∷ s .w2 ∷ s .w3 ∷ []) (l / 64) 0) (l % 64) ≡ inside s l
+unfolding inside wordIn
+link-word s l h = go (l / 64) (omega arith)
+  where
+    go : (v : ℕ) → v < 4 → member (getD (s .w0 ∷ s .w1 ∷ s .w2 ∷ s .w3 ∷ []) v 0) (l % 64) ≡ member (wordIn s v) (l % 64)
+    go zero p = refl
+    go (suc zero) p = refl
+    go (suc (suc zero)) p = refl
+    go (suc (suc (suc zero))) p = refl
+    go (suc (suc (suc (suc v)))) p = absurd (omega arith)
+
+-- the awake tasks of a word, up to k
+pub awake-more : (awake : List Bool) (set k set′ : ℕ) → (member set 0 ≡ false) × ((j : ℕ) → member set (suc j) ≡ (ltb j k && getD awake j false)) → ((j : ℕ) → member set′ j ≡ (member set j || (getD awake k false && eqb j (k + 1)))) → (member set′ 0 ≡ false) × ((j : ℕ) → member set′ (suc j) ≡ (ltb j (k + 1) && getD awake j false))
+awake-more awake set k set′ h e =
+    (e 0 ∙ rw (h .0, ne-eqb 0 (k + 1) (λ z. omega arith)) (off (getD awake k false)), λ j. e (suc j) ∙ rw (h .1 j, step j) (ap (λ b. (ltb j k && getD awake j false) || b) (swap (getD awake k false) (eqb j k)) ∙ sym (less-more (λ i. getD awake i false) j k) ∙ ap (λ i. ltb j i && getD awake j false) next))
+  where
+    next : suc k ≡ k + 1
+    next = omega arith
+
+    off : (b : Bool) → (b && false) ≡ false
+    off true = refl
+    off false = refl
+
+    swap : (a b : Bool) → (a && b) ≡ (b && a)
+    swap true true = refl
+    swap true false = refl
+    swap false true = refl
+    swap false false = refl
+
+    step : (j : ℕ) → eqb (suc j) (k + 1) ≡ eqb j k
+    step j = go (eqb j k) refl
+      where
+        go : (b : Bool) → eqb j k ≡ b → eqb (suc j) (k + 1) ≡ eqb j k
+        go true f = eq-eqb (suc j) (k + 1) (omega (arith, eqb-true j k f)) ∙ sym f
+        go false f = false-of (eqb (suc j) (k + 1)) (λ y. not-both (eq-eqb j k (omega (arith, eqb-true (suc j) (k + 1) y))) f) ∙ sym f
+
+pub awake-done : (awake : List Bool) (set : ℕ) → length awake ≡ 32 → (member set 0 ≡ false) × ((j : ℕ) → member set (suc j) ≡ (ltb j 32 && getD awake j false)) → AwakeIn awake set
+awake-done awake set z h = (h .0, λ k p. let e : suc (k - 1) ≡ k = omega arith in subst (λ i. member set i ≡ getD awake (k - 1) false) e (h .1 (k - 1) ∙ at (k - 1) (decLt (k - 1) 32)))
+  where
+    at : (j : ℕ) → Dec (j < 32) → (ltb j 32 && getD awake j false) ≡ getD awake j false
+    at j (yes p) = rw (lt-ltb j 32 p) refl
+    at j (no p) = rw (le-ltb j 32 (omega arith)) (sym (List·getD-eq-default awake false {n = j} (omega arith)))
+
+-- the record that words hold is the record of their lists
+pub unpacked : (d : Description) (t : ℕ) (gaps : List ℕ) (sources : ℕ) (w : Words) (used ready : List ℕ) (m : Machine) (aw wa dr : List Bool) (ag : List ℕ) → d .«source_count» ≡ sources → GapsOf d t gaps → Holds d t w used ready m → AwakeOf (w .awake) aw → LinksOf (w .waiting) wa → LinksOf (w .dropped) dr → AgesOf gaps sources ready (w .tick) ag → record { awake = aw; used = used; waiting = wa; dropped = dr; ages = ag } ≡ m
+unpacked d t gaps sources w used ready m aw wa dr ag q g h a b c e =
+    whole (ext-getD false aw (m .awake) (a .0 ∙ sym (h .marks .sized .awakes)) (λ k p. let s : k + 1 - 1 ≡ k = omega arith in a .1 k (omega (arith, a .0)) ∙ h .marks .awake (k + 1) (omega arith) ∙ ap (λ i. getD (m .awake) i false) s))
+    (h .same-used)
+    (ext-getD false wa (m .waiting) (b .0 ∙ sym (h .marks .sized .waitings)) (λ l p. b .1 l (omega (arith, b .0)) ∙ h .marks .waiting l))
+    (ext-getD false dr (m .dropped) (c .0 ∙ sym (h .marks .sized .droppeds)) (λ l p. c .1 l (omega (arith, c .0)) ∙ h .marks .dropped l))
+    (ext-getD 0 ag (m .ages) (e .many ∙ sym (h .marks .sized .ages)) (λ u p. age u (decLt u (d .«source_count»))))
+  where
+    whole : aw ≡ m .awake → used ≡ m .used → wa ≡ m .waiting → dr ≡ m .dropped → ag ≡ m .ages → record { awake = aw; used = used; waiting = wa; dropped = dr; ages = ag } ≡ m
+    whole p q r s t = rw (p, q, r, s, t) refl
+
+    age : (u : ℕ) → Dec (u < d .«source_count») → getD ag u 0 ≡ getD (m .ages) u 0
+    age u (yes p) = e .here u (omega arith) ∙ ap (λ x. x - (getD ready u 0 - w .tick)) (g .at u p) ∙ sym (h .ages .here u p)
+    age u (no p) = e .past u (omega arith) ∙ sym (h .ages .past u (omega arith))
+
+-- at the start
+pub begun : (d : Description) (t : ℕ) (w : Words) → WellFormed d → 200 ≤ t → t ≤ 3000 → Begins w → Holds d t w (replicate 32 0) (replicate 16 0) (idle d t)
+unfolding idle
+begun d t w g low high b = record {
+  marks = record {
+    sized = record { awakes = refl; useds = refl; waitings = refl; droppeds = refl; ages = length-tab 16 _ };
+    no-zero = none 0;
+    present = λ k p. absurd (not-both p (none k));
+    awake = λ k p. none k ∙ sym (getD-same 32 (k - 1) false);
+    waiting = λ l. b .waiting l ∙ sym (getD-same 256 l false);
+    dropped = λ l. b .dropped l ∙ sym (getD-same 256 l false);
+  };
+  same-used = refl;
+  ages = record {
+    many = refl;
+    spaced = λ u p. gap-some d g (33 + u) (omega arith) (omega arith) t (omega arith) high;
+    near = λ u p. omega (arith, getD-same {A = ℕ} 16 u 0);
+    here = λ u p. getD-tab 16 _ 0 u (omega (arith, g .fields .few-sources)) ∙ rw (lt-ltb u (d .«source_count») p) (let e : _≡_ {A = ℕ} (getD (replicate 16 0) u 0) 0 = getD-same 16 u 0 in omega arith);
+    past = λ u p. absent u p (decLt u 16);
+  };
+}
+  where
+    none : (k : ℕ) → member (w .awake) k ≡ false
+    none k = ap (λ s. member s k) (b .asleep) ∙ member-none k
+
+    absent : (u : ℕ) → d .«source_count» ≤ u → Dec (u < 16) → ageAt (idle d t) u ≡ 0
+    absent u p (yes q) = getD-tab 16 _ 0 u q ∙ rw (le-ltb u (d .«source_count») p) refl
+    absent u p (no q) = List·getD-eq-default (idle d t .ages) 0 {n = u} (omega (arith, length-tab 16 (λ u. cond (ltb u (d .«source_count»)) (spacingOf d t (33 + u)) 0)))
+
+-- words of a record that keeps the rules hold it
+module _ (d : Description) (t : ℕ) (m : Machine) (g : WellFormed d) (low : 200 ≤ t) (high : t ≤ 3000) (l : lawful d t m ≡ true) (z : Sized m) where
+  task-rule : (k : ℕ) → 1 ≤ k → k ≤ 32 → taskRule d m k ≡ true
+  unfolding lawful
+  task-rule k p q = all-at (taskRule d m) 1 32 (and-left (allN (taskRule d m) 1 32) _ l) k p (omega arith)
+
+  source-rule : (u : ℕ) → u < 16 → sourceRule d t m u ≡ true
+  unfolding lawful
+  source-rule u p = all-at (sourceRule d t m) 0 16 (and-right (allN (linkRule d m) 0 256) _ (and-right (allN (taskRule d m) 1 32) _ l)) u (omega arith) (omega arith)
+
+  absent : (k : ℕ) → 1 ≤ k → d .«task_count» < k → awakeAt m k ≡ true → ⊥
+  absent k p q e = go (decLt 32 k)
+    where
+      go : Dec (32 < k) → ⊥
+      go (yes h) = not-both e (List·getD-eq-default (m .awake) false {n = k - 1} (omega (arith, z .awakes)))
+      go (no h) =
+          let r : (not (awakeAt m k) && eqb (usedAt m k) 0) ≡ true = rw (lt-leb k (d .«task_count») q) at (task-rule k p (omega arith)) in
+          not-both e (not-true (awakeAt m k) (and-left (not (awakeAt m k)) _ r))
+
+  age-low : (u : ℕ) → u < d .«source_count» → ageAt m u ≤ spacingOf d t (33 + u)
+  age-low u p =
+      let r : leb (ageAt m u) (spacingOf d t (33 + u)) ≡ true = rw (lt-ltb u (d .«source_count») p) at (source-rule u (omega (arith, g .fields .few-sources))) in
+      leb-true (ageAt m u) (spacingOf d t (33 + u)) r
+
+  age-none : (u : ℕ) → d .«source_count» ≤ u → ageAt m u ≡ 0
+  age-none u p = go (decLt u 16)
+    where
+      go : Dec (u < 16) → ageAt m u ≡ 0
+      go (yes h) =
+          let r : eqb (ageAt m u) 0 ≡ true = rw (le-ltb u (d .«source_count») p) at (source-rule u h) in
+          eqb-true (ageAt m u) 0 r
+      go (no h) = List·getD-eq-default (m .ages) 0 {n = u} (omega (arith, z .ages))
+
+  pub packed : (gaps ready : List ℕ) (w : Words) → GapsOf d t gaps → AwakeIn (m .awake) (w .awake) → ((l : ℕ) → inside (w .waiting) l ≡ getD (m .waiting) l false) → ((l : ℕ) → inside (w .dropped) l ≡ getD (m .dropped) l false) → ReadyOf gaps (m .ages) ready → w .tick ≡ 0 → Holds d t w (m .used) ready m
+  packed gaps ready w s a b c r e = record {
+    marks = record {
+      sized = z;
+      no-zero = a .0;
+      present = λ k p. present k p (decLt (d .«task_count») k);
+      awake = a .1;
+      waiting = b;
+      dropped = c;
+    };
+    same-used = refl;
+    ages = record {
+      many = r .many;
+      spaced = λ u p. gap-some d g (33 + u) (omega arith) (omega arith) t (omega arith) high;
+      near = λ u p. omega (arith, r .here u (omega (arith, g .fields .few-sources)), s .at u p);
+      here = λ u p. omega (arith, r .here u (omega (arith, g .fields .few-sources)), s .at u p, age-low u p);
+      past = age-none;
+    };
+  }
+    where
+      some : (k : ℕ) → member (w .awake) k ≡ true → 1 ≤ k
+      some zero p = absurd (not-both p (a .0))
+      some (suc k) p = omega arith
+
+      present : (k : ℕ) → member (w .awake) k ≡ true → Dec (d .«task_count» < k) → k ≤ d .«task_count»
+      present k p (yes h) = absurd (absent k (some k p) h (sym (a .1 k (some k p)) ∙ p))
+      present k p (no h) = omega arith

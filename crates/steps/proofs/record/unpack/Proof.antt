@@ -1,0 +1,25 @@
+-- `unpack` meets its contract, part by part. Assumes nothing.
+use Rattle.steps.proofs.RecordLaws.{unpacked}
+use borrow.Author.Needs.{needs}
+use Rattle.steps.proofs.record.unpack.Statement.{statement}
+use Rattle.steps.proofs.record.unpack.Tie as tie
+
+awake-of-requires : tie.Need-awake-of-requires
+awake-of-requires c κs = search needs
+
+links-of-requires : tie.Need-links-of-requires
+links-of-requires c κs = search needs
+
+links-of-requires-2 : tie.Need-links-of-requires-2
+links-of-requires-2 c κs = search needs
+
+ages-of-requires : tie.Need-ages-of-requires
+ages-of-requires c κs = search needs
+
+returns : tie.Need-returns
+returns c = λ d t m q g h. unpacked d t (c .before .before .before .before .before .before .args .gaps .now) (c .before .before .before .before .before .before .args .sources) (c .before .before .before .before .before .before .args .w) (c .before .before .before .before .before .before .args .used) (c .before .before .before .before .before .before .args .ready .now) m (c .before .before .before .awake-of .result) (c .before .before .links-of .result) (c .before .links-of2 .result) (c .ages-of .result) q g h (c .before .before .before .awake-of .ensures) (c .before .before .links-of .ensures) (c .before .links-of2 .ensures) (c .ages-of .ensures)
+
+pub unpack-spec : {M : Type 1} → statement M
+unpack-spec =
+    tie.close
+    (tie.spec awake-of-requires links-of-requires links-of-requires-2 ages-of-requires returns)

@@ -1,0 +1,54 @@
+-- The machine's record from words of bits, and words from a record.
+use Prim.Native.Nat.{ℕ, _+_, _-_, _≤_, _<_}
+use mathlib.Core.Bool.{Bool, true, false}
+use mathlib.Core.List.{List}
+use mathlib.Core.Path.{_≡_}
+use lib.ListN.{getD, length}
+use Rattle.model.specs.declared.Description.{Description}
+use Rattle.model.specs.declared.Machine.{Machine}
+use Rattle.model.specs.Machine.{lawful}
+use Rattle.theory.proofs.WellFormed.{WellFormed}
+use Rattle.sets.specs.declared.wide.Wide.{Wide}
+use Rattle.sets.specs.Sets.{member}
+use Rattle.sets.specs.Wide.{inside}
+use Rattle.steps.specs.declared.words.Words.{Words}
+use Rattle.spacings.specs.Gaps.{GapsOf}
+use Rattle.steps.specs.Words.{Holds}
+
+-- lists of marks, of the bits of words
+abbrev pub AwakeOf : ℕ → List Bool → Type 0
+AwakeOf awake r = (length r ≡ 32) × ((k : ℕ) → k < 32 → getD r k false ≡ member awake (k + 1))
+
+abbrev pub AwakeIn : List Bool → ℕ → Type 0
+AwakeIn awake r = (member r 0 ≡ false) × ((k : ℕ) → 1 ≤ k → member r k ≡ getD awake (k - 1) false)
+
+abbrev pub LinksOf : Wide → List Bool → Type 0
+LinksOf set r = (length r ≡ 256) × ((l : ℕ) → l < 256 → getD r l false ≡ inside set l)
+
+-- ages, of the ticks at which sources may come
+pub record AgesOf (gaps : List ℕ) (sources : ℕ) (ready : List ℕ) (now : ℕ) (r : List ℕ) : Type 0 where
+  pub many : length r ≡ 16
+  pub here : (u : ℕ) → u < sources → getD r u 0 ≡ getD gaps u 0 - (getD ready u 0 - now)
+  pub past : (u : ℕ) → sources ≤ u → getD r u 0 ≡ 0
+
+-- and those ticks, of ages
+pub record ReadyOf (gaps ages r : List ℕ) : Type 0 where
+  pub many : length r ≡ 16
+  pub here : (u : ℕ) → u < 16 → getD r u 0 ≡ getD gaps u 0 - getD ages u 0
+
+-- the words of the start
+pub record Begins (w : Words) : Type 0 where
+  pub asleep : w .awake ≡ 0
+  pub waiting : (l : ℕ) → inside (w .waiting) l ≡ false
+  pub dropped : (l : ℕ) → inside (w .dropped) l ≡ false
+  pub first : w .tick ≡ 0
+
+-- the record that words hold
+abbrev pub Unpacks : List ℕ → ℕ → Words → List ℕ → List ℕ → Machine → Type 0
+Unpacks gaps sources w used ready r =
+    (d : Description) (t : ℕ) (m : Machine) → d .«source_count» ≡ sources → GapsOf d t gaps → Holds d t w used ready m → r ≡ m
+
+-- words that hold a record which keeps the rules
+pub record Packs (gaps : List ℕ) (m : Machine) (w : Words) (ready : List ℕ) : Type 0 where
+  pub holds : (d : Description) (t : ℕ) → WellFormed d → 200 ≤ t → t ≤ 3000 → GapsOf d t gaps → lawful d t m ≡ true → Holds d t w (m .used) ready m
+  pub first : w .tick ≡ 0

@@ -1,4 +1,3 @@
 -- Laws that the proofs of this crate's functions share.
 pub mod Laws
 pub mod Places
-pub mod Stages

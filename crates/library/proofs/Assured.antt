@@ -1,7 +1,7 @@
 -- What the header promises of a run: up to the number that `bench_quote` answers, every list of calls is assured. The codes and the
 -- record that `bench_run` gives are those of these answers and this last record, by its contract. Assumes nothing.
 use Prim.Native.Nat.{ℕ, _≤_}
-use mathlib.Core.Path.{_≡_, refl, sym, _∙_}
+use mathlib.Core.Path.{_≡_, refl}
 use mathlib.Core.List.{List}
 use native.Mathlib.Omega.{arith}
 use Rattle.model.specs.declared.Quote.the-variants.{Tempo, Unquoted}
@@ -9,12 +9,11 @@ use Rattle.model.specs.declared.Refusal.{Refusal}
 use Rattle.model.specs.declared.Outcome.{Outcome}
 use Rattle.model.specs.declared.Outcome.the-variants.{Done, Refused}
 use Rattle.model.specs.File.{readFile}
-use Rattle.model.specs.Verdicts.{quoteOf}
+use Rattle.model.specs.Verdicts.{quotedFile}
 use Rattle.theory.proofs.NumberBytes.{Bytes as AllBytes}
 use Rattle.theory.proofs.ReadBack.{read-whence}
 use Rattle.assurance.proofs.PlainCalls.{AssuredOf, plain-assured}
 use Rattle.machine.specs.Run.{callsIn}
-use Rattle.library.specs.Replies.{quotedFile}
 
 pub run-assured : (s calls : List ℕ) (q t : ℕ) → AllBytes s → quotedFile s ≡ Tempo q → 200 ≤ t → t ≤ q → AssuredOf (readFile s .description) q t (callsIn calls)
 unfolding quotedFile

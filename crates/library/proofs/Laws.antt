@@ -1,4 +1,4 @@
--- Signed replies, the bytes of a record, and the quote of a file by its stages. Assumes nothing.
+-- Signed replies, the bytes of a record, and the place of a refusal. Assumes nothing.
 use Prim.Native.Nat.{ℕ, zero, suc, _+_, _-_, _/_, _%_, _^_, _≤_, _<_}
 use mathlib.Core.Path.{_≡_, refl, sym, ap, subst, _∙_}
 use mathlib.Core.Bool.{Bool, true, false}
@@ -13,7 +13,6 @@ use mir.Val.{SFits, toZ, ofZ, boolByte}
 use mir.ValLaws.{toZ-ofZ}
 use borrow.Author.Tests.{lt-ltb, le-ltb, eq-eqb, ne-eqb}
 use Rattle.model.specs.declared.Machine.{Machine}
-use Rattle.model.specs.declared.Reading.{Reading}
 use Rattle.model.specs.declared.Filled.{Filled}
 use Rattle.model.specs.declared.Filled.the-variants.{Bytes, Unfilled}
 use Rattle.model.specs.declared.Quote.{Quote}
@@ -23,20 +22,15 @@ use Rattle.model.specs.declared.Refusal.the-variants.{ShortPage}
 use Rattle.model.specs.declared.Outcome.{Outcome}
 use Rattle.model.specs.declared.Outcome.the-variants.{Done, Refused}
 use Rattle.model.specs.Refusals.{onDone}
-use Rattle.model.specs.File.{parseFile, readFile, fillWith, judge, lastChecks}
+use Rattle.model.specs.File.{readFile, fillWith, judge}
 use Rattle.model.specs.Report.{reportOf, reported}
-use Rattle.model.specs.Verdicts.{quoteOf, largestBelow, allHeld}
+use Rattle.model.specs.Verdicts.{quoteOf, quotedFile, largestBelow, allHeld}
 use Rattle.lemmas.proofs.Table.{length-tab, getD-tab}
 use Rattle.theory.proofs.NumberBytes.{Bytes as AllBytes}
 use Rattle.theory.proofs.FileLength.{read-place}
 use Rattle.theory.proofs.ReadBack.{read-judged}
-use Rattle.loads.specs.declared.Worked.{Worked}
-use Rattle.loads.specs.Tables.{WorkedOf}
-use Rattle.reading.specs.Steps.{parseAt}
-use Rattle.files.proofs.Stages.{parse-start, file-refused, file-unchecked, file-checked}
-use Rattle.quotes.proofs.Laws.{quote-judged}
 use Rattle.machine.proofs.RunLaws.{store-turn}
-use Rattle.library.specs.Replies.{bit, byteIn, quotedFile, recordByte, recordBytes}
+use Rattle.library.specs.Replies.{bit, byteIn, recordByte, recordBytes}
 
 -- a number below 2 ^ 32 and its negative, as 64 bits with a sign
 pub pos-fits : (x : ℕ) → x < 2 ^ 32 → SFits w64 (pos x)
@@ -111,37 +105,7 @@ pub record-whole : (m : Machine) (out out₁ : List ℕ) (i : ℕ) → i ≡ 736
 record-whole m out out₁ i q e =
     e ∙ ap (λ k. take k (recordBytes m) ++ drop k out) q ∙ ap (λ (l : List ℕ). l ++ drop 736 out) (take-all 736 (recordBytes m) (omega (arith, record-length m)))
 
--- the quote of a file: its fields refused, its last checks refused, or quoted
-module _ (s : List ℕ) (x : Reading) (from-start : x ≡ parseAt s 0) where
-  parsed : x ≡ parseFile s
-  parsed = from-start ∙ parse-start s
-
-  outcome-is : x .outcome ≡ parseFile s .outcome
-  outcome-is = ap (λ (r : Reading). r .outcome) parsed
-
-  pub quoted-unparsed : (r : Refusal) (p : ℕ) → x .outcome ≡ Refused r p → Unquoted r p ≡ quotedFile s
-  unfolding quotedFile
-  quoted-unparsed r p e = rw (← file-refused s r p (sym outcome-is ∙ e))
-
-  module _ (y : Worked) (checked : WorkedOf (x .description) y) (done : x .outcome ≡ Done) where
-    last-is : y .outcome ≡ lastChecks (parseFile s .description)
-    last-is = checked .judged ∙ ap (λ (r : Reading). lastChecks (r .description)) parsed
-
-    pub quoted-unchecked : (r : Refusal) (p : ℕ) → y .outcome ≡ Refused r p → Unquoted r p ≡ quotedFile s
-    unfolding quotedFile
-    quoted-unchecked r p e = rw (← file-unchecked s r p (sym outcome-is ∙ done) (sym last-is ∙ e))
-
-    pub quoted-done : AllBytes s → y .outcome ≡ Done → (q : Quote) → q ≡ largestBelow (allHeld (x .description)) 2801 → q ≡ quotedFile s
-    unfolding quotedFile
-    quoted-done b e q f =
-        let whole : x ≡ readFile s = parsed ∙ file-checked s (sym outcome-is ∙ done) (sym last-is ∙ e) in
-        let accepted : readFile s .outcome ≡ Done = sym (ap (λ (r : Reading). r .outcome) whole) ∙ done in
-        f
-        ∙ ap (λ (r : Reading). largestBelow (allHeld (r .description)) 2801) whole
-        ∙ quote-judged (readFile s .description) (read-judged s b accepted)
-        ∙ sym (rw accepted refl)
-
--- the place of its refusal
+-- the place of a file's refusal
 abbrev quotePlace : Quote → ℕ
 quotePlace (Tempo t) = 0
 quotePlace (Unquoted r p) = p

@@ -5,27 +5,23 @@ use mathlib.Core.Bool.{Bool, true, false, cond, _||_}
 use mathlib.Core.List.{List, _++_}
 use native.Mathlib.Omega.{arith}
 use lib.ListN.{length, drop}
-use lib.Dec.{ltb, leb}
+use lib.Dec.{ltb}
 use lib.IntN.{pos}
-use borrow.Author.Tests.{lt-ltb, le-ltb, lt-leb, le-leb}
+use borrow.Author.Tests.{lt-ltb, le-ltb}
 use Rattle.model.specs.declared.Description.{Description}
 use Rattle.model.specs.declared.Machine.{Machine}
 use Rattle.model.specs.declared.Reading.{Reading}
 use Rattle.model.specs.declared.Ticked.{Ticked}
 use Rattle.model.specs.declared.Refusal.{Refusal}
 use Rattle.model.specs.declared.Refusal.the-variants.{OffKnob, ShortPage}
-use Rattle.model.specs.declared.Outcome.{Outcome}
 use Rattle.model.specs.declared.Outcome.the-variants.{Done, Refused}
 use Rattle.model.specs.File.{readFile, filledBy}
-use Rattle.model.specs.Verdicts.{judgeAt}
+use Rattle.model.specs.Verdicts.{judgeAt, onKnob}
 use Rattle.model.specs.Machine.{idle}
 use Rattle.model.specs.History.{left}
-use Rattle.lemmas.proofs.Tests.{and-false-left, and-false-right, both, or-left, or-right, or-false}
-use Rattle.theory.proofs.WellFormed.{WellFormed}
 use Rattle.theory.proofs.NumberBytes.{Bytes as AllBytes}
 use Rattle.theory.proofs.FileLength.{placeIn, read-place}
-use Rattle.theory.proofs.FileLaws.{judge-well-formed}
-use Rattle.theory.proofs.ReadBack.{read-judged, read-whence}
+use Rattle.theory.proofs.ReadBack.{read-judged}
 use Rattle.machine.specs.Run.{callsIn, page, ran}
 use Rattle.machine.proofs.RunLaws.{calls-length}
 use Rattle.ticks.proofs.Laws.{at-done}
@@ -40,15 +36,10 @@ module _ (s : List ℕ) (x : Reading) (whole : x ≡ readFile s) where
       let k : placeIn (readFile s .outcome) ≡ p = ap placeIn (sym outcome-is ∙ e) in
       omega (arith, read-place s)
 
-  pub read-good : AllBytes s → x .outcome ≡ Done → WellFormed (x .description)
-  read-good b e =
+  pub read-done : AllBytes s → x .outcome ≡ Done → (t : ℕ) → onKnob t ≡ true → judgeAt (x .description) t ≡ Done
+  read-done b e t h =
       let a : readFile s .outcome ≡ Done = sym outcome-is ∙ e in
-      rw whole (judge-well-formed (readFile s .description) (read-whence s b a .widths) (read-judged s b a))
-
-  pub read-done : AllBytes s → x .outcome ≡ Done → (t : ℕ) → 200 ≤ t → t ≤ 3000 → judgeAt (x .description) t ≡ Done
-  read-done b e t l h =
-      let a : readFile s .outcome ≡ Done = sym outcome-is ∙ e in
-      rw whole (sym (at-done (readFile s .description) t (read-judged s b a) l h))
+      rw whole (sym (at-done (readFile s .description) t (read-judged s b a) h))
 
   module _ (t : ℕ) (calls outcomes out : List ℕ) where
     -- the refusals in their order
@@ -56,19 +47,15 @@ module _ (s : List ℕ) (x : Reading) (whole : x ≡ readFile s) where
     unfolding runOutcome
     run-unread r p e = rw (sym outcome-is ∙ e) refl
 
-    pub run-slow : x .outcome ≡ Done → t < 200 → runOutcome s t calls outcomes out ≡ Refused OffKnob 0
+    pub run-off : x .outcome ≡ Done → onKnob t ≡ false → runOutcome s t calls outcomes out ≡ Refused OffKnob 0
     unfolding runOutcome
-    run-slow e h = rw (sym outcome-is ∙ e, and-false-left (leb 200 t) (leb t 3000) (lt-leb 200 t h)) refl
+    run-off e h = rw (sym outcome-is ∙ e, h) refl
 
-    pub run-fast : x .outcome ≡ Done → 3000 < t → runOutcome s t calls outcomes out ≡ Refused OffKnob 0
-    unfolding runOutcome
-    run-fast e h = rw (sym outcome-is ∙ e, and-false-right (leb 200 t) (leb t 3000) (lt-leb t 3000 h)) refl
-
-    module _ (done : x .outcome ≡ Done) (low : 200 ≤ t) (high : t ≤ 3000) where
+    module _ (done : x .outcome ≡ Done) (on : onKnob t ≡ true) where
       short : (a b : Bool) → ltb (length out) 736 ≡ a → ltb (length outcomes) (length calls / 4) ≡ b → runOutcome s t calls outcomes out ≡ cond (a || b) (Refused ShortPage 0) Done
       unfolding runOutcome
       short a b p q =
-          rw (sym outcome-is ∙ done, both (leb 200 t) (leb t 3000) (le-leb 200 t low) (le-leb t 3000 high), p, q) refl
+          rw (sym outcome-is ∙ done, on, p, q) refl
 
       pub run-short-record : length out < 736 → runOutcome s t calls outcomes out ≡ Refused ShortPage 0
       run-short-record h = short true (ltb (length outcomes) (length calls / 4)) (lt-ltb (length out) 736 h) refl

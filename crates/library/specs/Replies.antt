@@ -18,7 +18,7 @@ use Rattle.model.specs.declared.Outcome.the-variants.{Done, Refused}
 use Rattle.model.specs.Basics.{tab}
 use Rattle.model.specs.Refusals.{numberOf, onDone}
 use Rattle.model.specs.File.{readFile, filledBy}
-use Rattle.model.specs.Verdicts.{onKnob, quoteOf}
+use Rattle.model.specs.Verdicts.{onKnob}
 use Rattle.model.specs.Machine.{idle}
 use Rattle.model.specs.History.{left}
 use Rattle.machine.specs.Run.{callsIn, page}

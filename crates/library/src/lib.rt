@@ -1,22 +1,23 @@
 // The calls for programs in C and Rust: lent bytes and numbers in, one number out. A number below 0 is a refusal.
 
-use machine::run::run_judged;
 use model::Filled;
 use model::Machine;
 use model::Outcome;
 use model::Quote;
 use model::Refusal;
 use refusals::number_of;
-use ticks::gaps_of;
+use spacings::on_knob;
+use ticks::run_accepted;
 ghost use mathlib.Core.Path.{_≡_};
-ghost use Prim.Native.Nat.{ℕ, _<_, _≤_};
+ghost use Prim.Native.Nat.{_<_, _≤_};
 ghost use mathlib.Core.List.{_++_};
 ghost use lib.ListN.{length, drop};
 ghost use lib.IntN.{pos, negℤ};
 ghost use Rattle.model.specs.File.{readFile};
+ghost use Rattle.model.specs.Verdicts.{quotedFile};
 ghost use Rattle.model.specs.Report.{reported, pageReported};
 ghost use Rattle.steps.specs.Parts.{parts};
-ghost use Rattle.library.specs.Replies.{refusalCode, reportReply, quoteReply, quotedFile, byteIn, recordByte, recordBytes, runOutcome, runReply, codesAfter, recordAfter};
+ghost use Rattle.library.specs.Replies.{refusalCode, reportReply, quoteReply, byteIn, recordByte, recordBytes, runOutcome, runReply, codesAfter, recordAfter};
 
 // x itself.
 fn positive(x: u32) -> i64
@@ -39,24 +40,6 @@ fn refusal_code(why: Refusal, place: usize) -> i64
 {
     let number = number_of(why);
     negative((10000 * number + place) as u32)
-}
-
-// The quote of a file.
-fn quote_file(file: &[u8]) -> Quote
-    ensures { λ r. ⌜ r ≡ quotedFile (now (file .entry)) ⌝ }
-{
-    let parsed = reading::parse(file, 0);
-    let fields = parsed.outcome;
-    if let Outcome::Refused(why, place) = fields {
-        return Quote::Unquoted(why, place);
-    }
-    let d = parsed.description;
-    let worked = loads::work_out(d);
-    let last = worked.outcome;
-    if let Outcome::Refused(why, place) = last {
-        return Quote::Unquoted(why, place);
-    }
-    quotes::quote_from(d, &worked.adds, &worked.works)
 }
 
 // Byte k of a number's four, high byte first.
@@ -136,7 +119,7 @@ pub extern "C" fn bench_report(file: &[u8], out: &mut [u8]) -> i64
 pub extern "C" fn bench_quote(file: &[u8]) -> i64
     ensures { λ r. ⌜ r ≡ quoteReply (quotedFile (now (file .entry))) ⌝ }
 {
-    let quote = quote_file(file);
+    let quote = quotes::quote_file(file);
     match quote {
         Quote::Tempo(t) => positive(t),
         Quote::Unquoted(why, place) => refusal_code(why, place),
@@ -162,10 +145,7 @@ pub extern "C" fn bench_run(
         return refusal_code(why, place);
     }
     let d = read.description;
-    if tempo < 200 {
-        return refusal_code(Refusal::OffKnob, 0);
-    }
-    if 3000 < tempo {
+    if !on_knob(tempo) {
         return refusal_code(Refusal::OffKnob, 0);
     }
     if state.len() < 736 {
@@ -174,8 +154,7 @@ pub extern "C" fn bench_run(
     if outcomes.len() < calls.len() / 4 {
         return refusal_code(Refusal::ShortPage, 0);
     }
-    let gaps = gaps_of(d, tempo);
-    let ran = run_judged(d, tempo, gaps, calls, &mut *outcomes);
+    let ran = run_accepted(d, tempo, calls, &mut *outcomes);
     put_record(ran.machine, &mut *state);
     0
 }

@@ -1,7 +1,6 @@
 -- `bench_quote` meets its contract. Assumes nothing.
 use Rattle.library.proofs.Laws.{quoted-place}
-use mathlib.Core.Path.{_≡_, sym, ap, _∙_}
-use lib.IntN.{ℤ}
+use mathlib.Core.Path.{sym, ap, _∙_}
 use mir.Syntax.{w64}
 use mir.ValLaws.{toZ-ofZ}
 use Rattle.model.specs.declared.Quote.{Quote}
@@ -9,11 +8,7 @@ use Rattle.library.specs.Replies.{quoteReply}
 use borrow.Author.Needs.{needs}
 use Rattle.library.proofs.bench_quote.Statement.{statement}
 use Rattle.library.proofs.bench_quote.Tie as tie
-use Rattle.library.proofs.bench_quote.Reads as reads
-use Rattle.library.proofs.bench_quote.Lts as lts
-use Rattle.library.proofs.positive.Reads as positive-reads
-use Rattle.library.proofs.quote_file.Reads as quote-file-reads
-use Rattle.library.proofs.refusal_code.Reads as refusal-code-reads
+
 
 quote-file-requires : tie.Need-quote-file-requires
 quote-file-requires c κs = search needs

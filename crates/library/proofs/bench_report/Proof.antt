@@ -1,8 +1,7 @@
 -- `bench_report` meets its contract. Assumes nothing.
 use Rattle.refusals.proofs.Laws.{number-most}
 use Rattle.library.proofs.Laws.{filled-most}
-use mathlib.Core.Path.{_≡_, sym, ap, _∙_}
-use lib.IntN.{ℤ}
+use mathlib.Core.Path.{sym, ap, _∙_}
 use mir.Syntax.{w64}
 use mir.ValLaws.{toZ-ofZ}
 use Prim.Native.Nat.{ℕ}
@@ -14,12 +13,6 @@ use Rattle.library.specs.Replies.{reportReply}
 use borrow.Author.Needs.{needs}
 use Rattle.library.proofs.bench_report.Statement.{statement}
 use Rattle.library.proofs.bench_report.Tie as tie
-use Rattle.library.proofs.bench_report.Reads as reads
-use Rattle.library.proofs.bench_report.Lts as lts
-use Rattle.library.proofs.negative.Reads as negative-reads
-use Rattle.library.proofs.positive.Reads as positive-reads
-use Rattle.refusals.proofs.number_of.Reads as number-of-reads
-use Rattle.report.proofs.report.Reads as report-reads
 
 report-requires : tie.Need-report-requires
 report-requires c κs = search needs

@@ -3,8 +3,6 @@ use Rattle.library.proofs.Laws.{byte-0, byte-1, byte-2, byte-3}
 use borrow.Author.Needs.{needs}
 use Rattle.library.proofs.byte_of.Statement.{statement}
 use Rattle.library.proofs.byte_of.Tie as tie
-use Rattle.library.proofs.byte_of.Reads as reads
-use Rattle.library.proofs.byte_of.Lts as lts
 
 cast-result : tie.Need-cast-result
 cast-result c = search needs

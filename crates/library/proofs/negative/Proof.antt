@@ -3,9 +3,6 @@ use Rattle.library.proofs.Laws.{below-fits, below}
 use borrow.Author.Needs.{needs}
 use Rattle.library.proofs.negative.Statement.{statement}
 use Rattle.library.proofs.negative.Tie as tie
-use Rattle.library.proofs.negative.Reads as reads
-use Rattle.library.proofs.negative.Lts as lts
-use Rattle.library.proofs.positive.Reads as positive-reads
 
 positive-requires : tie.Need-positive-requires
 positive-requires c κs = search needs

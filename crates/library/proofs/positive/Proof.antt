@@ -5,8 +5,6 @@ use mir.ValLaws.{toZ-ofZ}
 use borrow.Author.Needs.{needs}
 use Rattle.library.proofs.positive.Statement.{statement}
 use Rattle.library.proofs.positive.Tie as tie
-use Rattle.library.proofs.positive.Reads as reads
-use Rattle.library.proofs.positive.Lts as lts
 
 cast-result : tie.Need-cast-result
 cast-result c = search needs

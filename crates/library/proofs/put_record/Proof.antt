@@ -9,9 +9,6 @@ use Rattle.steps.specs.Parts.{parts}
 use Rattle.library.specs.Replies.{recordBytes}
 use Rattle.library.proofs.put_record.Statement.{statement}
 use Rattle.library.proofs.put_record.Tie as tie
-use Rattle.library.proofs.put_record.Reads as reads
-use Rattle.library.proofs.put_record.Lts as lts
-use Rattle.library.proofs.record_byte.Reads as record-byte-reads
 
 abbrev Inv-loop : tie.InvT-loop
 Inv-loop out₀ awake used waiting dropped ages i₀ out i = (i ≤ 736) × (length out ≡ length out₀) × (out ≡ take i (recordBytes (parts awake used waiting dropped ages)) ++ drop i out₀)

@@ -8,9 +8,6 @@ use Rattle.steps.specs.Parts.{parts}
 use borrow.Author.Needs.{needs}
 use Rattle.library.proofs.record_byte.Statement.{statement}
 use Rattle.library.proofs.record_byte.Tie as tie
-use Rattle.library.proofs.record_byte.Reads as reads
-use Rattle.library.proofs.record_byte.Lts as lts
-use Rattle.library.proofs.byte_of.Reads as byte-of-reads
 
 element-copy-out-result : tie.Need-element-copy-out-result
 element-copy-out-result c = search needs

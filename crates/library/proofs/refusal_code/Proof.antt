@@ -1,18 +1,14 @@
 -- `refusal_code` meets its contract: the number is at most 16 and the place at most 2,128. Assumes nothing.
 use Rattle.refusals.proofs.Laws.{number-most}
-use mathlib.Core.Path.{_≡_, ap, _∙_}
+use mathlib.Core.Path.{ap, _∙_}
 use Prim.Native.Nat.{ℕ, _+_, _*_}
 use native.Mathlib.Omega.{arith}
-use lib.IntN.{ℤ, pos, negℤ}
+use lib.IntN.{pos, negℤ}
 use mir.Syntax.{w64}
 use mir.ValLaws.{toZ-ofZ}
 use borrow.Author.Needs.{needs}
 use Rattle.library.proofs.refusal_code.Statement.{statement}
 use Rattle.library.proofs.refusal_code.Tie as tie
-use Rattle.library.proofs.refusal_code.Reads as reads
-use Rattle.library.proofs.refusal_code.Lts as lts
-use Rattle.library.proofs.negative.Reads as negative-reads
-use Rattle.refusals.proofs.number_of.Reads as number-of-reads
 
 number-of-requires : tie.Need-number-of-requires
 number-of-requires c κs = search needs

@@ -13,7 +13,6 @@ use Rattle.model.specs.Graph.{system, linkAt}
 use Rattle.model.specs.Order.{walk, inOrder}
 use Rattle.lemmas.proofs.Tests.{and-left, and-right, both}
 use Rattle.theory.proofs.WellFormed.{WellFormed}
-
 use Rattle.theory.proofs.Links.{ends-inside}
 use Rattle.theory.proofs.Walk.{in-order-alike}
 use Rattle.orders.specs.Into.{intoSystem, IntoOf}

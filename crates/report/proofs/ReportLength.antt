@@ -24,7 +24,6 @@ use Rattle.theory.proofs.WellFormed.{WellFormed, IsTask, IsSource}
 use Rattle.theory.proofs.Spacing.{spacing-most}
 use Rattle.theory.proofs.Rounds.{settle-fixed}
 use Rattle.theory.proofs.Quotes.{largest-hit, largest-miss}
-
 use Rattle.theory.proofs.Links.{from-most, to-most}
 use Rattle.text.proofs.Digits.{decimal-most, decimal-bound}
 use Rattle.lines.proofs.LineLaws.{held-length, doubt-length, link-length, tempo-length, refused-length}

@@ -1,16 +1,12 @@
 -- The shape of a description whose fields are checked. Assumes nothing.
-use Prim.Native.Nat.{ℕ, suc, _+_, _≤_, _<_}
+use Prim.Native.Nat.{ℕ, _≤_, _<_}
 use mathlib.Core.Path.{_≡_, refl}
 use mathlib.Core.Bool.{Bool, true, false, cond, _&&_}
-use mathlib.Core.Logic.{_⊎_}
 use native.Mathlib.Omega.{arith}
 use lib.Dec.{eqb, leb}
 use borrow.Author.Tests.{eqb-true, leb-true, le-leb}
 use Rattle.model.specs.declared.Description.{Description}
-use Rattle.model.specs.declared.Field.the-variants.{OfSource}
-use Rattle.model.specs.Field.{onScale}
-use Rattle.model.specs.Graph.{system, linked, runOf, linkAt, sourceAt, cyclic}
-use Rattle.model.specs.Loads.{tooHeavy}
+use Rattle.model.specs.Graph.{system, linked, runOf, linkAt}
 use Rattle.lemmas.proofs.Tests.{and-left, and-right}
 use Rattle.lemmas.proofs.Range.{Found, any-found}
 use Rattle.theory.proofs.WellFormed.{Fielded, WellFormed, Shaped}

@@ -14,7 +14,6 @@ use Rattle.model.specs.Graph.{linkAt}
 use Rattle.lemmas.proofs.Tests.{Cmp, less, same, more, cmp, at-or-not}
 use Rattle.lemmas.proofs.Table.{getD-same}
 use Rattle.theory.proofs.WellFormed.{WellFormed}
-
 use Rattle.theory.proofs.Links.{ends-inside}
 use Rattle.verdicts.specs.Slots.{limitBy, LimitsOf}
 

@@ -9,7 +9,6 @@ use borrow.Author.Needs.{needs}
 use Rattle.library.proofs.bench_quote.Statement.{statement}
 use Rattle.library.proofs.bench_quote.Tie as tie
 
-
 quote-file-requires : tie.Need-quote-file-requires
 quote-file-requires c κs = search needs
 

@@ -7,7 +7,6 @@ use lib.ListN.{length, getD, length-set}
 use Rattle.model.specs.Graph.{linkAt}
 use Rattle.lemmas.proofs.Table.{stored}
 use Rattle.orders.specs.Orders.{orderBy}
-
 use Rattle.theory.proofs.Links.{ends-inside}
 use Rattle.orders.proofs.orders_by.Statement.{statement}
 use Rattle.orders.proofs.orders_by.Tie as tie

@@ -1,6 +1,5 @@
 -- `orders_of` meets its contract. Assumes nothing.
 use borrow.Author.Needs.{needs}
-
 use Rattle.orders.proofs.OrderLaws.{orders-of}
 use Rattle.orders.proofs.orders_of.Statement.{statement}
 use Rattle.orders.proofs.orders_of.Tie as tie

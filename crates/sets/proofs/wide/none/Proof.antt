@@ -1,7 +1,6 @@
 -- `wide::none` meets its contract. Assumes nothing.
 use Prim.Native.Nat.{_/_, _%_}
 use Rattle.sets.specs.Wide.{inside}
-use Rattle.sets.proofs.SetLaws.{member-none}
 use Rattle.sets.proofs.WideLaws.{empty}
 use Rattle.sets.proofs.wide.none.Statement.{statement}
 use Rattle.sets.proofs.wide.none.Tie as tie

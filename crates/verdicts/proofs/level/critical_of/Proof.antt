@@ -3,7 +3,6 @@ use Prim.Native.Nat.{_≤_, _-_}
 use mathlib.Core.Path.{_≡_}
 use native.Mathlib.Omega.{arith}
 use Rattle.model.specs.Graph.{linkAt}
-
 use Rattle.theory.proofs.Links.{from-most, to-most}
 use Rattle.verdicts.proofs.LevelSteps.{CriticalTo, critical-none, critical-more}
 use borrow.Author.Needs.{needs}

@@ -6,7 +6,6 @@ use lib.ListN.{getD, replicate, getD-replicate, List·getD-eq-default}
 use Rattle.model.specs.declared.VerdictSlot.{VerdictSlot}
 use Rattle.model.specs.Verdicts.{freeSlot}
 use Rattle.lemmas.proofs.Tests.{Cmp, less, same, more, cmp}
-
 use Rattle.theory.proofs.Links.{from-most, to-most}
 use Rattle.verdicts.proofs.SlotLaws.{SlotsTo, slot-in, slots-more, slots-done}
 use Rattle.verdicts.proofs.slots.decide_all.Statement.{statement}

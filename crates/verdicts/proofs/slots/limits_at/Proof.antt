@@ -4,7 +4,6 @@ use mathlib.Core.Path.{_≡_, refl}
 use native.Mathlib.Omega.{arith}
 use borrow.Author.Needs.{needs}
 use Rattle.model.specs.Graph.{linkAt}
-
 use Rattle.theory.proofs.Links.{from-most, to-most}
 use Rattle.verdicts.proofs.LimitLaws.{zeros-most, LimitsTo, limits-more, limits-done}
 use Rattle.verdicts.proofs.slots.limits_at.Statement.{statement}

@@ -21,7 +21,7 @@ use Rattle.model.specs.Machine.{awakeAt, usedAt, waitingAt, droppedAt, ageAt, i
 use Rattle.model.specs.History.{Call, left}
 use Rattle.lemmas.proofs.Tests.{not-both, false-of, and-left, and-right, both, or-left, or-right, or-false, or-cases}
 use Rattle.lemmas.proofs.Range.{any-at, any-none, all-of}
-use Rattle.lemmas.proofs.Table.{getD-tab}
+use Rattle.lemmas.proofs.Table.{getD-tab, getD-same}
 use Rattle.theory.proofs.WellFormed.{WellFormed, Loaded, Shaped}
 use Rattle.theory.proofs.Fielded.{shaped}
 use Rattle.theory.proofs.LoadLaws.{loaded}
@@ -29,7 +29,7 @@ use Rattle.theory.proofs.Spacing.{gap-some}
 use Rattle.assurance.proofs.Arriving.{Arrived, arrived}
 use Rattle.assurance.proofs.Stepping.{after-stays, after-fires, after-wakes}
 use Rattle.assurance.proofs.Replay.{stateAt, Passed, taken, Replayed, replayed}
-use Rattle.assurance.proofs.Machine.{getD-same, at, marksAt, highAt, endAt, at-sized, at-step, at-rests, at-below}
+use Rattle.assurance.proofs.Machine.{at, marksAt, highAt, endAt, at-sized, at-step, at-rests, at-below}
 use Rattle.assurance.proofs.Marks.{firesIn, endsIn, link-here, kind, waiting-next, waiting-first}
 
 module _ (d : Description) (wf : WellFormed d) (L : Loaded (system d)) (G : Shaped (system d)) (t : ℕ) (spaced : (u : ℕ) → 33 ≤ u → u < 33 + d .«source_count» → 1 ≤ spacingOf d t u) where

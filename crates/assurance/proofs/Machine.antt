@@ -5,7 +5,7 @@ use mathlib.Core.Bool.{Bool, true, false, _||_, _&&_, not, cond}
 use mathlib.Core.List.{List}
 use mathlib.Core.Logic.{_⊎_, inl, inr}
 use native.Mathlib.Omega.{arith}
-use lib.ListN.{length, getD, replicate, length-replicate, getD-replicate, List·getD-eq-default}
+use lib.ListN.{length, getD, length-replicate, List·getD-eq-default}
 use lib.Dec.{ltb, eqb, leb}
 use borrow.Author.Tests.{eqb-true, eqb-false, eq-eqb, ne-eqb, lt-ltb, ltb-false, le-leb, not-true}
 use Rattle.model.specs.declared.Description.{Description}
@@ -17,7 +17,7 @@ use Rattle.model.specs.Machine.{awakeAt, usedAt, ageAt, idle, arrive, highest, 
 use Rattle.model.specs.History.{Call}
 use Rattle.lemmas.proofs.Tests.{Cmp, less, same, more, cmp, not-both, false-of, and-left, and-right, and-false-left, or-left, or-right, or-false-left, or-cases, both}
 use Rattle.lemmas.proofs.Range.{Found, any-at, any-found, none-any}
-use Rattle.lemmas.proofs.Table.{length-tab}
+use Rattle.lemmas.proofs.Table.{length-tab, getD-same}
 use Rattle.theory.proofs.WellFormed.{WellFormed, Shaped}
 use Rattle.assurance.proofs.Firing.{Sized}
 use Rattle.assurance.proofs.Arriving.{arrived}
@@ -26,18 +26,6 @@ use Rattle.assurance.proofs.Stepping.{after-stays, after-wakes, after-f
 use Rattle.assurance.proofs.Potential.{live}
 use Rattle.assurance.proofs.Schedule.{Left, Schedule, beginsAt, endsAt, Preempts, below}
 use Rattle.assurance.proofs.Replay.{quietCall, callAt, stateAt, Passed}
-
--- an entry of a list of one value is that value, past its end too
-pub getD-same : {A : Type 0} (n i : ℕ) (a : A) → getD (replicate n a) i a ≡ a
-getD-same n i a = go (cmp i n)
-  where
-    past : n ≤ i → getD (replicate n a) i a ≡ a
-    past p = List·getD-eq-default (replicate n a) a {n = i} (omega (arith, length-replicate n a))
-
-    go : Cmp i n → getD (replicate n a) i a ≡ a
-    go (less r) = getD-replicate n i a a r
-    go (same r) = past (omega arith)
-    go (more r) = past (omega arith)
 
 -- a run pends where its task is awake and has used nothing; an awake task is live
 abbrev pub pend : (ℕ → Bool) → (ℕ → ℕ) → ℕ → Bool

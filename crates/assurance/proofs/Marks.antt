@@ -17,8 +17,9 @@ use Rattle.lemmas.proofs.Range.{any-at}
 use Rattle.theory.proofs.WellFormed.{WellFormed, Loaded, IsTask, IsSource}
 use Rattle.assurance.proofs.Firing.{eqb-sym}
 use Rattle.assurance.proofs.Arriving.{comes}
-use Rattle.assurance.proofs.Machine.{getD-same, at, marksAt, highAt, endAt, at-step, high-low}
+use Rattle.assurance.proofs.Machine.{at, marksAt, highAt, endAt, at-step, high-low}
 use Rattle.assurance.proofs.Replay.{stateAt}
+use Rattle.lemmas.proofs.Table.{getD-same}
 
 -- ev: the ticks in which a link gets an event; sv: those in which the run that takes its last event ends; wa, dr: its two marks before
 -- each tick. In the base machine every end of its task's runs is one of sv (Events, no-end).

@@ -19,7 +19,7 @@ use Rattle.theory.proofs.JudgeLaws.{LastPasses, last-passes}
 use Rattle.theory.proofs.ReadBack.{read-judged, read-whence}
 use Rattle.theory.proofs.WellFormed.{WellFormed}
 use Rattle.refusals.specs.Beside.{refusedSheet}
-use Rattle.refusals.proofs.Laws.{refused-not}
+use Rattle.lemmas.proofs.Outcomes.{refused-not}
 use Rattle.reading.specs.Steps.{recordChecks, parseAt}
 use Rattle.loads.specs.declared.Worked.{Worked}
 use Rattle.loads.specs.Tables.{WorkedOf, checkedLoads}

@@ -1,6 +1,7 @@
--- General lemmas: tests, ranges, tables and counting. Nothing here is about firmware.
+-- General lemmas: tests, ranges, tables, counting and outcomes.
 pub mod Tests
 pub mod Bools
 pub mod Range
 pub mod Table
 pub mod Pigeonhole
+pub mod Outcomes

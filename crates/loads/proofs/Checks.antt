@@ -1,7 +1,7 @@
 -- The four ways that the last checks end, the loads of a description that passes, and what a caller reads off. Assumes nothing.
 use Prim.Native.Nat.{ℕ, suc, _-_, _<_}
 use mathlib.Core.Path.{_≡_, refl, sym, ap, _∙_}
-use mathlib.Core.Bool.{Bool, true, false}
+use mathlib.Core.Bool.{true, false}
 use mathlib.Core.List.{List, []}
 use native.Mathlib.Omega.{arith}
 use lib.ListN.{getD}
@@ -17,7 +17,7 @@ use Rattle.model.specs.Graph.{system, cyclic}
 use Rattle.model.specs.Basics.{tab}
 use Rattle.model.specs.Loads.{load, tooHeavy, sheet, noRow}
 use Rattle.model.specs.File.{lastChecks, judge, loadSheet}
-use Rattle.lemmas.proofs.Tests.{not-both, same-test}
+use Rattle.lemmas.proofs.Tests.{same-test}
 use Rattle.lemmas.proofs.Range.{Found, any-at, any-found}
 use Rattle.lemmas.proofs.Table.{is-tab}
 use Rattle.theory.proofs.WellFormed.{Fielded}
@@ -27,6 +27,7 @@ use Rattle.works.specs.Works.{Ready, WorksOf, Scaled, loadBy}
 use Rattle.loads.specs.Tables.{heavyBy, LoadsOf, SheetBy, RowsAre, WorkedOf, checkedLoads, refusedLoads}
 use Rattle.paths.proofs.Tabled.{sets-cyclic, sets-load}
 use Rattle.works.proofs.Bringing.{self-cyclic, adds-ready, load-by}
+use Rattle.lemmas.proofs.Outcomes.{refused-not}
 
 -- how the last checks end
 module _ (d : Description) where
@@ -47,17 +48,9 @@ module _ (d : Description) where
     unfolding lastChecks
     ends-done e f = rw (ne-eqb (d .«task_count») 0 some, e, f)
 
-isDone : Outcome → Bool
-isDone Done = true
-isDone (Refused r place) = false
-
-pub not-done : (r : Refusal) (place : ℕ) → Refused r place ≡ Done → ⊥
-unfolding isDone
-not-done r place e = not-both {b = isDone Done} refl (sym (ap isDone e))
-
 -- a refusal comes with no works
 pub worked-refused : (d : Description) (r : Worked) (why : Refusal) → r .outcome ≡ Refused why 0 → lastChecks d ≡ Refused why 0 → WorkedOf d r
-worked-refused d r why e f = record { judged = e ∙ sym f; worked = λ g. absurd (not-done why 0 (sym f ∙ g)) }
+worked-refused d r why e f = record { judged = e ∙ sym f; worked = λ g. refused-not (sym f ∙ g) }
 
 -- sets that are closed, and works over them, give a description's loads
 module _ (d : Description) (F : Fielded d) (succ adds : List ℕ) (M : SuccessorsOf d succ) (C : Closed succ (d .«task_count») adds) where

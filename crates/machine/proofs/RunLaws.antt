@@ -14,8 +14,7 @@ use Rattle.model.specs.declared.Source.the-variants.{Fixed, Paced}
 use Rattle.model.specs.declared.Field.the-variants.{OfSource}
 use Rattle.model.specs.declared.Description.{Description}
 use Rattle.model.specs.declared.Machine.{Machine}
-use Rattle.model.specs.declared.Refusal.{Refusal}
-use Rattle.model.specs.declared.Refusal.the-variants.{ShortPage, OffKnob}
+use Rattle.model.specs.declared.Refusal.the-variants.{ShortPage}
 use Rattle.model.specs.declared.Outcome.{Outcome}
 use Rattle.model.specs.declared.Outcome.the-variants.{Done, Refused}
 use Rattle.model.specs.Refusals.{noSource}
@@ -24,14 +23,15 @@ use Rattle.model.specs.Graph.{sourceAt}
 use Rattle.model.specs.File.{SourceFits, Widths, judge, filledBy}
 use Rattle.model.specs.Verdicts.{judgeAt, onKnob}
 use Rattle.model.specs.Machine.{idle, blankMachine, lawful, plainTick}
-use Rattle.model.specs.History.{Call, answers, left, isDone}
-use Rattle.lemmas.proofs.Tests.{not-both, and-left, and-right}
-use Rattle.lemmas.proofs.Table.{length-tab, getD-tab}
+use Rattle.model.specs.History.{Call, answers, left}
+use Rattle.lemmas.proofs.Tests.{and-left, and-right}
+use Rattle.lemmas.proofs.Table.{length-tab, getD-tab, store-more}
 use Rattle.theory.proofs.WellFormed.{WellFormed}
 use Rattle.assurance.proofs.Replay.{callAt, quietCall}
 use Rattle.assurance.proofs.Lawful.{rules-kept}
 use Rattle.machine.specs.Calls.{plainCall}
 use Rattle.machine.specs.Run.{callOf, callIn, callsIn, codeOf, codes, page, ran}
+use Rattle.lemmas.proofs.Outcomes.{refused-not}
 
 -- as many calls as whole fours, the i-th being that of the i-th four
 pub calls-length : (bytes : List ℕ) → length (callsIn bytes) ≡ length bytes / 4
@@ -60,16 +60,6 @@ pub codes-length : (d : Description) (t : ℕ) (cs : List Call) (m : Machine) �
 unfolding codes answers
 codes-length d t [] m = refl
 codes-length d t (c ∷ cs) m = ap suc (codes-length d t cs (plainTick d t m (c .arrivals) (c .finish) .machine))
-
--- one more byte of a page stored in a buffer
-pub store-more : (out text : List ℕ) (i : ℕ) → i < length out → i < length text → set (take i text ++ drop i out) i (getD text i 0) ≡ take (i + 1) text ++ drop (i + 1) out
-store-more out text i a b = rw add-one (go out text i a b)
-  where
-    go : (out text : List ℕ) (i : ℕ) → i < length out → i < length text → set (take i text ++ drop i out) i (getD text i 0) ≡ take (suc i) text ++ drop (suc i) out
-    go [] text i a b = absurd (omega arith)
-    go (y ∷ out) [] i a b = absurd (omega arith)
-    go (y ∷ out) (x ∷ text) zero a b = refl
-    go (y ∷ out) (x ∷ text) (suc i) a b = ap (λ l. x ∷ l) (go out text i (omega arith) (omega arith))
 
 -- one turn of a run
 pub run-left : (d : Description) (t : ℕ) (cs : List Call) (m : Machine) (i mask : ℕ) (finish : Bool) → i < length cs → callAt cs i ≡ callOf mask finish → plainCall d t (left d t m (take i cs)) mask finish .machine ≡ left d t m (take (i + 1) cs)
@@ -103,14 +93,11 @@ pub on-knob : (d : Description) (t : ℕ) → judgeAt d t ≡ Done → (200 ≤ 
 unfolding judgeAt
 on-knob d t e = go (judge d) refl (onKnob t) refl
   where
-    done-only : (r : Refusal) (place : ℕ) → Refused r place ≡ Done → ⊥
-    done-only r place q = not-both (ap isDone q) refl
-
     go : (o : Outcome) → judge d ≡ o → (b : Bool) → onKnob t ≡ b → (200 ≤ t) × (t ≤ 3000)
     go Done p true q =
         (leb-true 200 t (and-left (leb 200 t) (leb t 3000) q), leb-true t 3000 (and-right (leb 200 t) (leb t 3000) q))
-    go Done p false q = absurd (done-only OffKnob 0 (rw (p, q) at e))
-    go (Refused r place) p b q = absurd (done-only r place (rw p at e))
+    go Done p false q = refused-not (rw (p, q) at e)
+    go (Refused r place) p b q = refused-not (rw p at e)
 
 -- the record before each call keeps the rules
 pub kept : (d : Description) (t : ℕ) (cs : List Call) (m : Machine) → WellFormed d → judgeAt d t ≡ Done → m ≡ left d t (idle d t) cs → lawful d t m ≡ true

@@ -1,7 +1,7 @@
 -- Laws of the sets of nodes with a link to a task. Assumes nothing.
 use Prim.Native.Nat.{ℕ, suc, _+_, _-_, _/_, _%_, _^_, _≤_, _<_}
 use mathlib.Core.Path.{_≡_, refl, sym, ap, _∙_}
-use mathlib.Core.Bool.{Bool, true, false, _||_, _&&_}
+use mathlib.Core.Bool.{Bool, true, _||_, _&&_}
 use mathlib.Core.List.{List}
 use native.Mathlib.Omega.{arith}
 use lib.ListN.{getD, set, length}
@@ -17,6 +17,7 @@ use Rattle.sets.specs.Sets.{member}
 use Rattle.sets.proofs.SetLaws.{member-shift, member-past}
 use Rattle.theory.proofs.Links.{Linkable, linkedTo}
 use Rattle.orders.specs.Into.{linkInto}
+use Rattle.lemmas.proofs.Bools.{or-none}
 
 -- bits of the low half of 48
 low-bit : (s i k : ℕ) → s % 2 ^ (i + 1 + k) / 2 ^ k % 2 ≡ s / 2 ^ k % 2
@@ -45,10 +46,6 @@ rest-link into x r k p =
     let s = getD into (x - 1) 0 in
     let e : suc (r + k) - 1 ≡ r + k = omega arith in
     ap (λ i. member s i) e ∙ sym (member-low s (r + k) p) ∙ sym (member-shift (s % 281474976710656) r k)
-
-or-none : (a b : Bool) → b ≡ false → (a || b) ≡ a
-or-none true b e = refl
-or-none false b e = e
 
 -- one more link of the description is put into the sets
 pub into-more : (d : Description) (into : List ℕ) (l w : ℕ) → length into ≡ 32 → Linkable (linkAt d l .from) (linkAt d l .to)

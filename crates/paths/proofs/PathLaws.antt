@@ -9,13 +9,13 @@ use native.Mathlib.Decide.{decLt}
 use lib.ListN.{getD}
 use lib.Dec.{ltb}
 use borrow.Author.Tests.{lt-ltb, le-ltb}
-use Rattle.lemmas.proofs.Tests.{Cmp, less, same, more, cmp, not-both, false-of, or-left, or-right, or-new, and-left, and-right, both}
+use Rattle.lemmas.proofs.Tests.{Cmp, less, same, more, cmp, not-both, false-of, or-left, or-right, or-new, and-left, and-right, both, and-false-right}
 use Rattle.paths.specs.Paths.{Through}
 use Rattle.paths.specs.Paths.Through.{one, more as on}
 use Rattle.sets.specs.Sets.{member}
 use Rattle.paths.specs.Rows.{linkBy, rowOf, NodeOf, TaskOf, Grown, Allowed, Absent, Closed}
-use Rattle.sets.proofs.SetLaws.{and-off}
 use Rattle.paths.proofs.Tabled.{link-is, link-inside}
+use Rattle.lemmas.proofs.Bools.{or-none}
 
 module _ (link : ℕ → ℕ → Bool) where
   pub weaken : (v w : ℕ) → w ≤ v → {i j : ℕ} → Through link v i j → Through link w i j
@@ -54,10 +54,6 @@ module _ (link : ℕ → ℕ → Bool) where
   pub first : (v : ℕ) {i j : ℕ} → Through link v i j → (k : ℕ) × (link i k ≡ true)
   first v (one {j = j} e) = (j, e)
   first v (on {k = k} e p t) = (k, e)
-
-or-off : (a b : Bool) → b ≡ false → (a || b) ≡ a
-or-off true b e = refl
-or-off false b e = e
 
 -- the sets once paths may pass the tasks above v: up to v they may still grow, from v on they are closed
 pub record RowsAt (succ : List ℕ) (n v : ℕ) (rows : List ℕ) : Type 0 where
@@ -118,8 +114,8 @@ module _ (succ : List ℕ) (n : ℕ) (few : n ≤ 32) (v : ℕ) (p : suc v ≤ n
   kept i j N q =
       let c : ltb (j - 1) v ≡ false = le-ltb (j - 1) v (omega arith) in
       G i N (j - 1)
-      ∙ or-off (member (rowOf rows i) (j - 1)) _
-      (and-off (member (rowOf rows i) v) (member low (j - 1)) (L (j - 1) ∙ and-off (member (getD rows v 0) (j - 1)) (ltb (j - 1) v) c))
+      ∙ or-none (member (rowOf rows i) (j - 1)) _
+      (and-false-right (member (rowOf rows i) v) (member low (j - 1)) (L (j - 1) ∙ and-false-right (member (getD rows v 0) (j - 1)) (ltb (j - 1) v) c))
 
   -- one task more may be passed
   pub rows-step : RowsAt succ n v rows′
@@ -143,7 +139,7 @@ module _ (succ : List ℕ) (n : ℕ) (few : n ≤ 32) (v : ℕ) (p : suc v ≤ n
 
 -- a set without task v + 1 does not grow
 pub same-grown : (row low v : ℕ) → member row v ≡ false → Grown row low v row
-same-grown row low v e k = sym (or-off (member row k) _ (ap (λ b. b && member low k) e))
+same-grown row low v e k = sym (or-none (member row k) _ (ap (λ b. b && member low k) e))
 
 -- both ranges of nodes have grown, and the others have no set to grow
 pub all-grown : (succ : List ℕ) (n m : ℕ) → n ≤ 32 → Absent succ n m → (v : ℕ) → suc v ≤ n → (low : ℕ) (rows rows₁ rows₂ : List ℕ) → RowsAt succ n (suc v) rows → Allowed low v 0 n rows rows₁ → Allowed low v 32 (32 + m) rows₁ rows₂ → (i : ℕ) → NodeOf i → Grown (rowOf rows i) low v (rowOf rows₂ i)

@@ -25,10 +25,7 @@ use Rattle.theory.proofs.Alike.{SameLinks, same-cyclic, same-load}
 use Rattle.sets.specs.Sets.{member}
 use Rattle.theory.proofs.Links.{Linkable, linkedTo}
 use Rattle.paths.specs.Rows.{SuccessorsOf, linkBy, rowOf, graph, NodeOf, TaskOf, Absent}
-
-or-off : (a b : Bool) → b ≡ false → (a || b) ≡ a
-or-off true b e = refl
-or-off false b e = e
+use Rattle.lemmas.proofs.Bools.{or-none}
 
 module _ (succ : List ℕ) (n : ℕ) where
   -- a link of the graph is a member of a set, within the nodes and the tasks
@@ -124,4 +121,4 @@ sets-more d succ l r len p new all i j q = go (ℕ-discrete i (linkAt d l .from)
     go (no f) =
         ap (λ x. member x (j - 1)) (getD-set-other succ (linkAt d l .from - 1) (i - 1) r 0 (λ e. f (omega (arith, p, q))))
         ∙ all i j q
-        ∙ sym (any-more here l ∙ or-off _ _ (false-of _ (λ e. f (sym (eqb-true (linkAt d l .from) i (and-left (eqb (linkAt d l .from) i) (eqb (linkAt d l .to) j) e))))))
+        ∙ sym (any-more here l ∙ or-none _ _ (false-of _ (λ e. f (sym (eqb-true (linkAt d l .from) i (and-left (eqb (linkAt d l .from) i) (eqb (linkAt d l .to) j) e))))))

@@ -72,7 +72,3 @@ reads-stop s at p d t e k (suc n) z m = go (takeField s at) refl
     go (Whole f next) q = unfit f next q (checkField p f) refl
     go (Broken r) q = let w : Broken r ≡ t = rw q at e in rw (← w) (sym (parse-broken n s at p d r q))
     go End q = let w : End ≡ t = rw q at e in rw (← w) (sym (parse-end n s at p d q))
-
--- the two cases of a sum, the sum first
-pub cases : {A B C : Type 0} → A ⊎ B → (A → C) → (B → C) → C
-cases s f g = ⊎-elim f g s

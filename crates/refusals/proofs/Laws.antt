@@ -1,14 +1,9 @@
--- A refusal is not the end of work done, and its number is at most 16. Assumes nothing.
-use Prim.Native.Nat.{ℕ, _≤_}
-use mathlib.Core.Path.{_≡_}
+-- A refusal's number is at most 16. Assumes nothing.
+use Prim.Native.Nat.{_≤_}
 use native.Mathlib.Omega.{arith}
-use Rattle.model.specs.declared.Outcome.the-variants.{Done, Refused}
 use Rattle.model.specs.declared.Refusal.{Refusal}
 use Rattle.model.specs.declared.Refusal.the-variants.{CutShort, StrangeTag, WrongLength, OutOfTurn, TooMany, OffScale, NoSuchEnd, NoTask, Loop, TooHeavy, OffKnob, NoTempo, ShortPage, TooSoon, Stranger, ForeignState}
 use Rattle.model.specs.Refusals.{numberOf}
-
-pub refused-not : {A : Type 0} {r : Refusal} {place : ℕ} → Refused r place ≡ Done → A
-refused-not q = let z : _≡_ {A = ℕ} 0 1 = cc in absurd (omega arith)
 
 -- refusals are numbered up to 16
 pub number-most : (r : Refusal) → numberOf r ≤ 16

@@ -13,7 +13,6 @@ use Rattle.model.specs.Basics.{allN}
 use Rattle.model.specs.Graph.{linkAt}
 use Rattle.model.specs.Delays.{spacingOf}
 use Rattle.model.specs.Machine.{taskRule, linkRule, sourceRule}
-use mathlib.Core.Logic.{_⊎_, ⊎-elim}
 use Rattle.lemmas.proofs.Tests.{same-test, false-of, not-both, both}
 use Rattle.lemmas.proofs.Range.{all-at}
 use Rattle.assurance.proofs.Firing.{to-some, to-most}
@@ -61,10 +60,6 @@ source-is d t gaps n u aw wa dr us ag r p g e = go (ltb u (d .«source_count»))
 
 pub and-true : (a b : Bool) → a ≡ true → (a && b) ≡ b
 and-true a b e = rw e refl
-
--- by cases, the sum first
-pub cases : {A B C : Type 0} → A ⊎ B → (A → C) → (B → C) → C
-cases s f g = ⊎-elim f g s
 
 -- the wiring of a description: what its links enter
 pub enters-of : (d : Description) (w : Wiring) → WiringOf d w → EntersOf d (w .to) (w .links)

@@ -1,7 +1,7 @@
 -- Laws of sets as bits. Assumes nothing.
 use Prim.Native.Nat.{ℕ, zero, suc, _+_, _-_, _*_, _/_, _%_, _^_, _≤_, _<_, max, min}
 use mathlib.Core.Path.{_≡_, refl, sym, ap, _∙_}
-use mathlib.Core.Bool.{Bool, true, false, _||_, _&&_, not}
+use mathlib.Core.Bool.{true, false, _||_, _&&_, not}
 use native.Mathlib.Omega.{arith}
 use native.Mathlib.Nat.{div-eq-of-lt, div-eq-of-lt-le, div-one, pow-suc, mod-lt, lt-of-lt-of-le}
 use native.Mathlib.Decide.{decLt}
@@ -10,8 +10,9 @@ use lib.Bits.{bitOr, bitAnd, bitXor, differ, or-step, or-shr, and-step, and-shr,
 use lib.Pow.{pow-pos, pow-mono, pow-lt, pow-add, shl-shr, shl-exact, shr-shr, field, mod-mod-pow}
 use lib.Count.{trailingZeros, leadingZeros, under, leading-top}
 use borrow.Author.Tests.{eq-eqb, eqb-true, lt-ltb, le-ltb, ltb-true}
-use Rattle.lemmas.proofs.Tests.{Cmp, less, same, more, cmp, not-both, false-of, same-test}
+use Rattle.lemmas.proofs.Tests.{Cmp, less, same, more, cmp, not-both, false-of, same-test, and-false-right}
 use Rattle.sets.specs.Sets.{member}
+use Rattle.lemmas.proofs.Bools.{and-on}
 
 odd-of : (z b m : ℕ) → z ≡ b * 2 + m → m < 2 → z % 2 ≡ m
 odd-of z b m e p = omega arith
@@ -81,14 +82,6 @@ high-bit set k j p =
     let small : set % 2 ^ k < 2 ^ j = lt-of-lt-of-le (mod-lt set (pow-pos k)) (pow-mono p) in
     ap (λ z. eqb (z % 2) 1) (div-eq-of-lt small)
 
-and-on : (a b : Bool) → b ≡ true → (a && b) ≡ a
-and-on true b e = e
-and-on false b e = refl
-
-pub and-off : (a b : Bool) → b ≡ false → (a && b) ≡ false
-and-off true b e = e
-and-off false b e = refl
-
 member-mod : (set k j : ℕ) → member (set % 2 ^ k) j ≡ (member set j && ltb j k)
 member-mod set k j = go (decLt j k)
   where
@@ -96,7 +89,7 @@ member-mod set k j = go (decLt j k)
     go (yes p) =
         let e : k ≡ suc (k - suc j) + j = omega arith in
         ap (λ z. member (set % 2 ^ z) j) e ∙ low-bit set (k - suc j) j ∙ sym (and-on (member set j) (ltb j k) (lt-ltb j k p))
-    go (no p) = high-bit set k j (omega arith) ∙ sym (and-off (member set j) (ltb j k) (le-ltb j k (omega arith)))
+    go (no p) = high-bit set k j (omega arith) ∙ sym (and-false-right (member set j) (ltb j k) (le-ltb j k (omega arith)))
 
 pub member-below : (set k j : ℕ) → k < 64 → member (bitAnd set (1 * 2 ^ k % 18446744073709551616 - 1)) j ≡ (member set j && ltb j k)
 member-below set k j p =
@@ -230,7 +223,7 @@ member-rest zero s j e none =
     ap (λ z. member z j) (rest-odd s o) ∙ go j
   where
     go : (j : ℕ) → member (s / 2 * 2) j ≡ (member s j && ltb 0 j)
-    go zero = double-zero (s / 2) ∙ sym (and-off (member s 0) (ltb 0 0) (le-ltb 0 0 (omega arith)))
+    go zero = double-zero (s / 2) ∙ sym (and-false-right (member s 0) (ltb 0 0) (le-ltb 0 0 (omega arith)))
     go (suc i) = double (s / 2) i ∙ sym (member-half s i) ∙ sym (and-on (member s (suc i)) (ltb 0 (suc i)) (lt-ltb 0 (suc i) (omega arith)))
 member-rest (suc k) s j e none = go j (member-rest k (s / 2))
   where
@@ -248,7 +241,7 @@ member-rest (suc k) s j e none = go j (member-rest k (s / 2))
     next i = same-test (ltb k i) (ltb (suc k) (suc i)) (λ h. lt-ltb (suc k) (suc i) (omega (arith, ltb-true k i h))) (λ h. lt-ltb k i (omega (arith, ltb-true (suc k) (suc i) h)))
 
     go : (j : ℕ) → ((j : ℕ) → member (s / 2) k ≡ true → ((i : ℕ) → i < k → member (s / 2) i ≡ false) → member (bitAnd (s / 2) (s / 2 - 1)) j ≡ (member (s / 2) j && ltb k j)) → member (bitAnd s (s - 1)) j ≡ (member s j && ltb (suc k) j)
-    go zero ih = ap (λ z. member z 0) (rest-even s o some) ∙ double-zero (bitAnd (s / 2) (s / 2 - 1)) ∙ sym (and-off (member s 0) (ltb (suc k) 0) (le-ltb (suc k) 0 (omega arith)))
+    go zero ih = ap (λ z. member z 0) (rest-even s o some) ∙ double-zero (bitAnd (s / 2) (s / 2 - 1)) ∙ sym (and-false-right (member s 0) (ltb (suc k) 0) (le-ltb (suc k) 0 (omega arith)))
     go (suc i) ih =
         ap (λ z. member z (suc i)) (rest-even s o some) ∙ double (bitAnd (s / 2) (s / 2 - 1)) i
         ∙ ih i (sym (member-half s k) ∙ e) (λ n p. sym (member-half s n) ∙ none (suc n) (omega arith))

@@ -39,7 +39,7 @@ pub record GapsTo (s : Sources) (t n : ℕ) (gaps : List ℕ) : Type 0 where
   pub at : (u : ℕ) → u < n → getD gaps u 0 ≡ spacing (sourceIn s u) t
   pub fit : Fit n gaps
 
-zeros-most : (n j : ℕ) → getD (replicate n 0) j 0 ≤ 1000000000
+pub zeros-most : (n j : ℕ) → getD (replicate n 0) j 0 ≤ 1000000000
 zeros-most n j = rw (getD-same {A = ℕ} n j 0) (omega arith)
 
 pub gaps-none : (s : Sources) (t : ℕ) → GapsTo s t 0 (replicate 16 0)

@@ -15,12 +15,11 @@ use Rattle.model.specs.Basics.{allN}
 use Rattle.model.specs.Delays.{spacingOf}
 use Rattle.model.specs.Machine.{awakeAt, usedAt, ageAt, idle, taskRule, linkRule, sourceRule, lawful}
 use Rattle.lemmas.proofs.Tests.{not-both, false-of, and-left, and-right}
-use Rattle.lemmas.proofs.Table.{getD-tab, length-tab}
+use Rattle.lemmas.proofs.Table.{getD-tab, length-tab, getD-same}
 use Rattle.lemmas.proofs.Range.{all-at}
 use Rattle.theory.proofs.WellFormed.{WellFormed}
 use Rattle.theory.proofs.Spacing.{gap-some}
 use Rattle.assurance.proofs.Firing.{Sized, less-more}
-use Rattle.assurance.proofs.Machine.{getD-same}
 use Rattle.sets.specs.declared.wide.Wide.{Wide}
 use Rattle.sets.specs.Sets.{member}
 use Rattle.sets.specs.Wide.{wordIn, inside}

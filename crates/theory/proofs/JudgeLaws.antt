@@ -25,6 +25,7 @@ use Rattle.lemmas.proofs.Range.{any-cong}
 use Rattle.theory.proofs.FieldLaws.{length-field}
 use Rattle.theory.proofs.RecordLaws.{Widths, offset, offset-more, progressAt, copyAt, readAt, read-fine, read-unfit, read-end}
 use Rattle.theory.proofs.RecordState.{filled, getD-filled, copy-links}
+use Rattle.lemmas.proofs.Outcomes.{refused-not}
 
 -- a field that may stand where it does passed each check
 pub record Passes (p : Progress) (f : Field) : Type 0 where
@@ -60,9 +61,6 @@ offset-le d k (suc m) h = go (cmp k (suc m)) (offset-le d k m)
 pub record Checked (d : Description) (n k : ℕ) : Type 0 where
   pub fine : (j : ℕ) → k ≤ j → j < fieldCount d → checkField (progressAt d j) (fieldOf d j) ≡ Fine
   pub reads : readAt d n k ≡ record { outcome = Done; description = copyAt d (fieldCount d) }
-
-refused-not : {A : Type 0} {r : Refusal} {place : ℕ} → Refused r place ≡ Done → A
-refused-not q = let z : _≡_ {A = ℕ} 0 1 = cc in absurd (omega arith)
 
 pub all-checked : (d : Description) → Widths d → (n k : ℕ) → k ≤ fieldCount d → length (fileOf d) < offset d k + n → readAt d n k .outcome ≡ Done → Checked d n k
 unfolding fileOf

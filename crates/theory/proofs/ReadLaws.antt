@@ -13,12 +13,11 @@ use Rattle.model.specs.declared.Description.{Description}
 use Rattle.model.specs.declared.Field.{Field}
 use Rattle.model.specs.declared.Field.the-variants.{OfTask, OfSource, OfLink}
 use Rattle.model.specs.declared.Progress.{Progress}
-use Rattle.model.specs.declared.Refusal.{Refusal}
 use Rattle.model.specs.declared.Taken.{Taken}
 use Rattle.model.specs.declared.Taken.the-variants.{Whole, Broken, End}
 use Rattle.model.specs.declared.Check.{Check}
 use Rattle.model.specs.declared.Check.the-variants.{Fine, Unfit}
-use Rattle.model.specs.declared.Outcome.the-variants.{Done, Refused}
+use Rattle.model.specs.declared.Outcome.the-variants.{Done}
 use Rattle.model.specs.Basics.{joined}
 use Rattle.model.specs.Refusals.{noLink, noSource, blank}
 use Rattle.model.specs.Field.{fieldBytes, takeField, checkField, withField, passed, noProgress, fieldOf, fieldCount}
@@ -28,6 +27,7 @@ use Rattle.theory.proofs.NumberBytes.{Bytes}
 use Rattle.theory.proofs.FieldLaws.{SourceFits, FieldFits, Took, take-took, take-end, took-fits, took-bytes, took-inside}
 use Rattle.theory.proofs.RecordLaws.{Widths, parse-fine, parse-unfit, parse-broken, parse-end, field-task, field-source, field-link, by-place}
 use Rattle.theory.proofs.JudgeLaws.{Passes, fine-passes, Few}
+use Rattle.lemmas.proofs.Outcomes.{refused-not}
 
 pub joined-cong : {A : Type 0} (n : ℕ) (f g : ℕ → List A) → ((k : ℕ) → k < n → f k ≡ g k) → joined n f ≡ joined n g
 unfolding joined
@@ -174,9 +174,6 @@ pub record Whence (s : List ℕ) (d : Description) : Type 0 where
   pub sized : Sized d
   pub few : Few d
   pub widths : Widths d
-
-refused-not : {A : Type 0} {r : Refusal} {place : ℕ} → Refused r place ≡ Done → A
-refused-not q = let z : _≡_ {A = ℕ} 0 1 = cc in absurd (omega arith)
 
 pub parse-whence : (n : ℕ) (s : List ℕ) (at : ℕ) (p : Progress) (d : Description) → Bytes s → SoFar s at p d → parseFrom n s at p d .outcome ≡ Done → Whence s (parseFrom n s at p d .description)
 unfolding parseFrom

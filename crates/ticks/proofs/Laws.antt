@@ -3,7 +3,6 @@ use Prim.Native.Nat.{ℕ, _-_, _≤_}
 use mathlib.Core.Path.{_≡_, refl, sym, ap, _∙_}
 use mathlib.Core.Bool.{Bool, true, false, cond}
 use mathlib.Core.List.{List}
-use native.Mathlib.Omega.{arith}
 use lib.Dec.{leb}
 use borrow.Author.Tests.{leb-true}
 use Rattle.model.specs.declared.Description.{Description}
@@ -24,9 +23,7 @@ use Rattle.theory.proofs.WellFormed.{WellFormed}
 use Rattle.theory.proofs.FileLaws.{judge-well-formed}
 use Rattle.machine.specs.Run.{RunOf}
 use Rattle.ticks.specs.Calls.{unstarted, untouched, RunCall}
-
-refused-not : {r : Refusal} {p : ℕ} → Refused r p ≡ Done → ⊥
-refused-not e = let z : _≡_ {A = ℕ} 0 1 = cc in omega arith
+use Rattle.lemmas.proofs.Outcomes.{refused-not}
 
 module _ (d : Description) (t : ℕ) where
   pub at-refused : (r : Refusal) (p : ℕ) → judge d ≡ Refused r p → Refused r p ≡ judgeAt d t
@@ -48,8 +45,8 @@ module _ (d : Description) (t : ℕ) where
     where
       go : (o : Outcome) → judge d ≡ o → (b : Bool) → onKnob t ≡ b → onDone o (cond b (let x : Outcome = Done in x) (Refused OffKnob 0)) Refused ≡ Done → WellFormed d × (200 ≤ t) × (t ≤ 3000)
       go Done e true k f = (judge-well-formed d w e, leb-true 200 t (and-left (leb 200 t) (leb t 3000) k), leb-true t 3000 (and-right (leb 200 t) (leb t 3000) k))
-      go Done e false k f = absurd (refused-not f)
-      go (Refused r p) e b k f = absurd (refused-not f)
+      go Done e false k f = refused-not f
+      go (Refused r p) e b k f = refused-not f
 
   pub start-refused : (r : Refusal) (p : ℕ) → judgeAt d t ≡ Refused r p → unstarted r p ≡ started d t
   unfolding started
@@ -67,7 +64,7 @@ module _ (d : Description) (t : ℕ) where
   run-refused cs b r p x e q =
       record {
         refused = λ r′ p′ e′. (q ∙ same r p r′ p′ (sym e ∙ e′), refl);
-        done = λ e′. absurd (refused-not (sym e ∙ e′));
+        done = λ e′. refused-not (sym e ∙ e′);
       }
     where
       same : (a : Refusal) (i : ℕ) (b : Refusal) (j : ℕ) → Refused a i ≡ Refused b j → unstarted a i ≡ unstarted b j
@@ -76,6 +73,6 @@ module _ (d : Description) (t : ℕ) where
   pub run-done : (cs : List Call) (b b′ : List ℕ) (x : Ticked) → judgeAt d t ≡ Done → RunOf d t cs b b′ x → RunCall d t cs b b′ x
   run-done cs b b′ x e g =
       record {
-        refused = λ r p e′. absurd (refused-not (sym e′ ∙ e));
+        refused = λ r p e′. refused-not (sym e′ ∙ e);
         done = λ e′. g;
       }

@@ -18,25 +18,22 @@ use Rattle.sets.specs.Sets.{member}
 use Rattle.sets.proofs.SetLaws.{member-none}
 use Rattle.verdicts.specs.Held.{criticalLink, criticalTo}
 use Rattle.verdicts.specs.Tables.{narrowerOf, NarrowestIn}
+use Rattle.lemmas.proofs.Bools.{or-off}
 
 -- whether a link is critical and comes from source 33 + u
 abbrev pub comes : Link → ℕ → Bool
 comes k u = eqb (k .critical) 1 && eqb (k .from) (33 + u)
 
 module _ (set : ℕ) (k : Link) where
-  or-none : (a : Bool) → a ≡ (a || false)
-  or-none true = refl
-  or-none false = refl
-
   pub comes-free : (k .critical ≡ 1 → ⊥) → (u : ℕ) → member set u ≡ (member set u || comes k u)
-  comes-free n u = rw (ne-eqb (k .critical) 1 n) (or-none (member set u))
+  comes-free n u = rw (ne-eqb (k .critical) 1 n) (sym (or-off (member set u)))
 
   pub comes-task : k .from < 33 → (u : ℕ) → member set u ≡ (member set u || comes k u)
   comes-task h u = rw (ne-eqb (k .from) (33 + u) (λ e. omega arith)) (go (eqb (k .critical) 1))
     where
       go : (b : Bool) → member set u ≡ (member set u || (b && false))
-      go true = or-none (member set u)
-      go false = or-none (member set u)
+      go true = sym (or-off (member set u))
+      go false = sym (or-off (member set u))
 
   pub comes-source : (r : ℕ) → k .critical ≡ 1 → 33 ≤ k .from → ((u : ℕ) → member r u ≡ (member set u || eqb u (k .from - 33))) → (u : ℕ) → member r u ≡ (member set u || comes k u)
   comes-source r e h m u = m u ∙ rw (eq-eqb (k .critical) 1 e) (ap (λ b. member set u || b) (go (cmp u (k .from - 33))))

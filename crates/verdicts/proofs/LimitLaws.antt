@@ -4,7 +4,7 @@ use mathlib.Core.Path.{_≡_, refl, _∙_}
 use mathlib.Core.Bool.{Bool, true, false, cond, _&&_}
 use mathlib.Core.List.{List}
 use native.Mathlib.Omega.{arith}
-use lib.ListN.{length, getD, set, replicate, length-set}
+use lib.ListN.{length, getD, set, length-set}
 use lib.Seq.{getD-set-same, getD-set-other}
 use lib.Dec.{eqb, leb}
 use borrow.Author.Tests.{eq-eqb, ne-eqb, le-leb, lt-leb}
@@ -12,14 +12,9 @@ use Rattle.model.specs.declared.Link.{Link}
 use Rattle.model.specs.declared.Description.{Description}
 use Rattle.model.specs.Graph.{linkAt}
 use Rattle.lemmas.proofs.Tests.{Cmp, less, same, more, cmp, at-or-not}
-use Rattle.lemmas.proofs.Table.{getD-same}
 use Rattle.theory.proofs.WellFormed.{WellFormed}
 use Rattle.theory.proofs.Links.{ends-inside}
 use Rattle.verdicts.specs.Slots.{limitBy, LimitsOf}
-
--- nothing is filled in yet
-pub zeros-most : (n j : ℕ) → getD (replicate n 0) j 0 ≤ 1000000000
-zeros-most n j = rw (getD-same {A = ℕ} n j 0) (omega arith)
 
 -- a critical source link's own spacing, and no more than the scale has
 module _ (gaps : List ℕ) (k : Link) where

@@ -16,10 +16,10 @@ use Rattle.lemmas.proofs.Tests.{same-test, and-left, and-right, both}
 use Rattle.lemmas.proofs.Range.{any-more}
 use Rattle.theory.proofs.WellFormed.{WellFormed, IsTask, IsSource}
 use Rattle.assurance.proofs.Firing.{getD-set, less-more, eqb-sym, to-most}
-use Rattle.assurance.proofs.Machine.{getD-same}
 use Rattle.sets.specs.Sets.{member}
 use Rattle.sets.proofs.SetLaws.{member-none}
 use Rattle.wiring.specs.Rows.{bitAt, Marked, RowsOf, Wired}
+use Rattle.lemmas.proofs.Table.{getD-same}
 
 -- a store at a node's word
 pub stored : (rows : List ℕ) (x w k i v : ℕ) → length rows ≡ 576 → x < 64 → w < 9 → i ≡ 9 * x + w → ((j : ℕ) → member v j ≡ (member (getD rows i 0) j || eqb j k)) → Marked rows x w k (set rows i v)

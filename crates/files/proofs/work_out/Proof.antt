@@ -3,7 +3,7 @@ use borrow.Author.Needs.{needs}
 use mathlib.Core.Path.{refl, sym, _∙_}
 use Rattle.theory.proofs.FileLaws.{judge-well-formed}
 use Rattle.theory.proofs.Typed.{typed-widths}
-use Rattle.refusals.proofs.Laws.{refused-not}
+use Rattle.lemmas.proofs.Outcomes.{refused-not}
 use Rattle.files.proofs.Laws.{judge-refused, judge-checked, record-good}
 use Rattle.files.proofs.work_out.Statement.{statement}
 use Rattle.files.proofs.work_out.Tie as tie

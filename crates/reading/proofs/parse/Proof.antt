@@ -13,9 +13,10 @@ use Rattle.model.specs.declared.Check.the-variants.{Fine}
 use Rattle.model.specs.Field.{takeField, checkField, withField}
 use Rattle.theory.proofs.JudgeLaws.{Passes, fine-passes}
 use Rattle.reading.specs.Steps.{parseAt}
-use Rattle.reading.proofs.Laws.{cases, fine-taken, ReadsAs, reads-more, reads-stop}
+use Rattle.reading.proofs.Laws.{fine-taken, ReadsAs, reads-more, reads-stop}
 use Rattle.reading.proofs.parse.Statement.{statement}
 use Rattle.reading.proofs.parse.Tie as tie
+use Rattle.lemmas.proofs.Tests.{cases}
 
 abbrev Inv-loop : tie.InvT-loop
 Inv-loop s start d₀ p₀ at₀ d p at =

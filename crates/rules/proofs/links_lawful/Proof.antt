@@ -13,9 +13,10 @@ use native.Mathlib.Nat.{zero-add}
 use Rattle.model.specs.Machine.{linkRule}
 use Rattle.steps.specs.Parts.{parts}
 use Rattle.rules.specs.Rules.{EntersOf}
-use Rattle.rules.proofs.RuleLaws.{all-none, all-next, all-fails, link-is, cases}
+use Rattle.rules.proofs.RuleLaws.{all-none, all-next, all-fails, link-is}
 use Rattle.rules.proofs.links_lawful.Statement.{statement}
 use Rattle.rules.proofs.links_lawful.Tie as tie
+use Rattle.lemmas.proofs.Tests.{cases}
 
 abbrev Inv-loop : tie.InvT-loop
 Inv-loop to links awake waiting dropped l₀ l = (l ≤ 256) × ((d : Description) (us ag : List ℕ) → EntersOf d to links → allN (linkRule d (parts awake us waiting dropped ag)) 0 l ≡ true)

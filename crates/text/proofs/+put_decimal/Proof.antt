@@ -2,7 +2,6 @@
 use Prim.Native.Nat.{ℕ, _<_, _+_, _/_, _%_, _^_}
 use mathlib.Core.Path.{_≡_, ap, sym, _∙_}
 use mathlib.Core.List.{List, [], _∷_, _++_, append-assoc}
-use mathlib.Core.Logic.{_⊎_, ⊎-elim}
 use native.Mathlib.Omega.{arith}
 use lib.ListN.{length, take, length-append}
 use Rattle.model.specs.Report.{decimal}
@@ -15,9 +14,7 @@ use Rattle.text.proofs.+put_decimal.Lts-put_decimal as put-decimal-lts
 use Rattle.text.proofs.put_byte.Reads as put-byte-reads
 use Rattle.text.proofs.+put_decimal.{statement}
 use Rattle.text.proofs.+put_decimal.Tie.{close}
-
-cases : {A B C : Type 0} → A ⊎ B → (A → C) → (B → C) → C
-cases s f g = ⊎-elim f g s
+use Rattle.lemmas.proofs.Tests.{cases}
 
 abbrev μ-put-decimal : Measures 1 put-decimal-kinds.ps ℕ
 μ-put-decimal κs a = a .1 .1 .0

@@ -4,8 +4,7 @@ use mathlib.Core.Path.{_≡_, refl, _∙_}
 use native.Mathlib.Omega.{arith}
 use lib.ListN.{getD, length, length-set}
 use lib.Seq.{getD-set-other}
-use Rattle.lemmas.proofs.Table.{stored}
-use Rattle.assurance.proofs.Machine.{getD-same}
+use Rattle.lemmas.proofs.Table.{stored, getD-same}
 use borrow.Author.Needs.{needs}
 use Rattle.steps.proofs.record.ages_of.Statement.{statement}
 use Rattle.steps.proofs.record.ages_of.Tie as tie

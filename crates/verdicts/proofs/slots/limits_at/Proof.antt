@@ -5,9 +5,10 @@ use native.Mathlib.Omega.{arith}
 use borrow.Author.Needs.{needs}
 use Rattle.model.specs.Graph.{linkAt}
 use Rattle.theory.proofs.Links.{from-most, to-most}
-use Rattle.verdicts.proofs.LimitLaws.{zeros-most, LimitsTo, limits-more, limits-done}
+use Rattle.verdicts.proofs.LimitLaws.{LimitsTo, limits-more, limits-done}
 use Rattle.verdicts.proofs.slots.limits_at.Statement.{statement}
 use Rattle.verdicts.proofs.slots.limits_at.Tie as tie
+use Rattle.spacings.proofs.GapLaws.{zeros-most}
 
 abbrev Inv-loop : tie.InvT-loop
 Inv-loop gaps d limits₀ l₀ limits l = (l ≤ d .«link_count») × LimitsTo d gaps limits l

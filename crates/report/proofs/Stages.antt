@@ -15,7 +15,6 @@ use Rattle.model.specs.Verdicts.{allHeld, largestBelow, slotAt}
 use Rattle.model.specs.Report.{tempoLine, linkLines, refusedLine, shownTempo, reportFor, reportOf}
 use Rattle.theory.proofs.WellFormed.{WellFormed}
 use Rattle.theory.proofs.Quotes.{Largest, largest-found}
-use Rattle.loads.specs.Tables.{LoadsOf}
 use Rattle.files.specs.declared.Judged.{Judged}
 use Rattle.files.specs.Answers.{ReadAs}
 use Rattle.report.specs.Listing.{listing}
@@ -39,15 +38,15 @@ module _ (s : List ℕ) (j : Judged) (examined : ReadAs (readFile s) j) where
   pub stage-refused : (r : Refusal) (p : ℕ) → j .outcome ≡ Refused r p → refusedLine r p ≡ reportOf s
   stage-refused r p e = report-refused s r p (sym (examined .judged) ∙ e)
 
-  pub stage-good : j .outcome ≡ Done → WellFormed (j .description)
-  stage-good e = examined .good (sym (examined .judged) ∙ e)
+  pub told-done : j .outcome ≡ Done → readFile s .outcome ≡ Done
+  told-done e = sym (examined .judged) ∙ e
 
-  pub stage-loads : j .outcome ≡ Done → LoadsOf (j .description) (j .adds) (j .works)
-  stage-loads e = examined .worked (sym (examined .judged) ∙ e)
+  pub stage-good : j .outcome ≡ Done → WellFormed (j .description)
+  stage-good e = examined .good (told-done e)
 
   -- the tempo line and the link lines are the report
   pub stage-parts : j .outcome ≡ Done → (q : Quote) (slots : List VerdictSlot) → q ≡ largestBelow (allHeld (j .description)) 2801 → slots ≡ tab 256 (slotAt (j .description) (shownTempo q)) → tempoLine q ++ listing (j .description) slots (j .description .«link_count») ≡ reportOf s
   stage-parts e q slots f k =
       quoted-parts (j .description) q slots (stage-good e) f k
       ∙ ap (λ (d : Description). reportFor d (largestBelow (allHeld d) 2801)) (examined .same)
-      ∙ report-done s (sym (examined .judged) ∙ e)
+      ∙ report-done s (told-done e)

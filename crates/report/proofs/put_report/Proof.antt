@@ -9,7 +9,6 @@ use Rattle.model.specs.Delays.{spacingOf}
 use Rattle.model.specs.Verdicts.{largestBelow, allHeld}
 use Rattle.model.specs.Report.{tempoLine, refusedLine, shownTempo, reportOf}
 use Rattle.theory.proofs.WellFormed.{WellFormed}
-use Rattle.loads.specs.Tables.{LoadsOf}
 use Rattle.spacings.specs.Gaps.{GapsOf}
 use Rattle.spacings.proofs.GapLaws.{gaps-of, scaled-of}
 use Rattle.verdicts.proofs.TableLaws.{slots-at-tempo}
@@ -17,16 +16,13 @@ use Rattle.text.proofs.Pages.{put-then, put-same}
 use Rattle.report.specs.Listing.{listing}
 use Rattle.report.proofs.ReportLength.{refusal-length}
 use Rattle.report.proofs.ReportLaws.{report-length}
-use Rattle.report.proofs.Stages.{shown-on, stage-refused, stage-good, stage-loads, stage-parts}
+use Rattle.report.proofs.Stages.{shown-on, stage-refused, stage-good, told-done, stage-parts}
 use Rattle.report.proofs.put_report.Statement.{statement}
 use Rattle.report.proofs.put_report.Tie as tie
 
 -- what is known of an accepted description
 good : (c : tie.After-enum-told) → WellFormed (c .before .before .examine .result .description)
 good c = stage-good (c .before .before .before .before .before .args .file .now) (c .before .before .examine .result) (c .before .before .examine .ensures) (c .enum-told .given .1)
-
-loads : (c : tie.After-enum-told) → LoadsOf (c .before .before .examine .result .description) (c .before .before .examine .result .adds) (c .before .before .examine .result .works)
-loads c = stage-loads (c .before .before .before .before .before .args .file .now) (c .before .before .examine .result) (c .before .before .examine .ensures) (c .enum-told .given .1)
 
 -- its tables and its quote
 quoted : (c : tie.After-quote-by) → c .quote-by .result ≡ largestBelow (allHeld (c .before .before .before .before .before .before .before .before .before .before .before .before .before .examine .result .description)) 2801
@@ -68,7 +64,9 @@ enum-told : tie.Need-enum-told
 enum-told c = search needs
 
 tables-of-requires : tie.Need-tables-of-requires
-tables-of-requires c κs = (good (c .before .before .before .before), loads (c .before .before .before .before))
+tables-of-requires c κs =
+    let k = c .before .before .before .before in
+    (good k, k .before .before .examine .ensures .worked (told-done (k .before .before .before .before .before .args .file .now) (k .before .before .examine .result) (k .before .before .examine .ensures) (k .enum-told .given .1)))
 
 quote-by-requires : tie.Need-quote-by-requires
 quote-by-requires c κs = record { of = c .before .before .before .before .before .before .before .before .before .before .before .before .examine .result .description; tables = c .before .before .before .before .before .tables-of .ensures .by-levels }

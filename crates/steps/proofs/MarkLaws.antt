@@ -7,14 +7,13 @@ use native.Mathlib.Omega.{arith}
 use native.Mathlib.Decide.{decLt}
 use lib.ListN.{getD, length-set}
 use lib.Dec.{eqb, ltb}
-use borrow.Author.Tests.{ne-eqb, eqb-true, le-ltb}
+use borrow.Author.Tests.{eqb-true, le-ltb}
 use Rattle.model.specs.declared.Description.{Description}
 use Rattle.model.specs.declared.Machine.{Machine}
-use Rattle.model.specs.Basics.{anyN}
 use Rattle.model.specs.Graph.{linkAt, system}
-use Rattle.model.specs.Machine.{awakeAt, setAwake, setUsed, setAge, fire, highest, clearInto}
-use Rattle.lemmas.proofs.Tests.{Cmp, less, same, more, cmp, not-both, and-left, and-right, or-cases, or-false, and-false-right}
-use Rattle.lemmas.proofs.Range.{any-none, any-found}
+use Rattle.model.specs.Machine.{awakeAt, waitingAt, droppedAt, setAwake, setUsed, fire, highest, clearInto}
+use Rattle.lemmas.proofs.Tests.{Cmp, less, same, more, cmp, not-both, false-of, and-left, and-right, or-cases, or-false}
+use Rattle.lemmas.proofs.Range.{any-found}
 use Rattle.theory.proofs.WellFormed.{WellFormed}
 use Rattle.assurance.proofs.Firing.{Sized, Fired, fired, getD-task, to-some}
 use Rattle.assurance.proofs.Ending.{highest-above, highest-awake, Cleared, cleared}
@@ -24,7 +23,7 @@ use Rattle.sets.specs.Wide.{wordIn, inside}
 use Rattle.sets.proofs.SetLaws.{member-none}
 use Rattle.wiring.specs.Rows.{RowsOf}
 use Rattle.steps.specs.declared.words.Words.{Words}
-use Rattle.steps.specs.Words.{wideAt, Marks}
+use Rattle.steps.specs.Words.{wideAt, Sent, Marks}
 
 -- a node's words as a set: the links out of it, and those into it
 row-word : (rows : List ℕ) (i v : ℕ) → v < 4 → wordIn (wideAt rows i) v ≡ getD rows (i + v) 0
@@ -61,32 +60,33 @@ row-out d rows x g r = row-inside rows (9 * x) (d .«link_count») (λ l. eqb (l
 pub row-into : (d : Description) (rows : List ℕ) (x : ℕ) → WellFormed d → RowsOf d (d .«link_count») rows → (l : ℕ) → inside (wideAt rows (9 * x + 4)) l ≡ (ltb l (d .«link_count») && eqb (linkAt d l .to) x)
 row-into d rows x g r = row-inside rows (9 * x + 4) (d .«link_count») (λ l. eqb (linkAt d l .to) x) (g .fields .few-links) (λ l h. let e : 9 * x + 4 + l / 64 ≡ 9 * x + (4 + l / 64) = omega arith in ap (λ k. member (getD rows k 0) (l % 64)) e ∙ r .into x l h)
 
--- a task that some link wakes is one of the description's
-woken : (d : Description) → WellFormed d → (x k : ℕ) → anyN (λ l. eqb (linkAt d l .from) x && eqb (linkAt d l .to) k) 0 (d .«link_count») ≡ true → k ≤ d .«task_count»
+-- a task that some link of a node wakes is one of the description's
+pub woken : (d : Description) (rows : List ℕ) → WellFormed d → RowsOf d (d .«link_count») rows → (x k : ℕ) → member (getD rows (9 * x + 8) 0) k ≡ true → (1 ≤ k) × (k ≤ d .«task_count»)
 unfolding system
-woken d g x k q =
-    let z = any-found _ 0 (d .«link_count») q in
+woken d rows g r x k e =
+    let z = any-found (λ l. eqb (linkAt d l .from) x && eqb (linkAt d l .to) k) 0 (d .«link_count») (sym (r .wakes x k) ∙ e) in
     let y : linkAt d (z .at) .to ≡ k = eqb-true (linkAt d (z .at) .to) k (and-right (eqb (linkAt d (z .at) .from) x) _ (z .passes)) in
     let i : z .at < d .«link_count» = omega (arith, z .within) in
     let t : linkAt d (z .at) .to ≤ d .«task_count» = g .fields .link-to (z .at) i .1 in
-    omega arith
+    (omega (arith, to-some d g (z .at) i), omega arith)
+
+-- links have fired together, and so they have in the record
+module _ (d : Description) (w w′ : Words) (out : Wide) (wakes : ℕ) (s : Sent w out wakes w′) (m m′ : Machine) (tasks : (k : ℕ) → member wakes k ≡ true → (1 ≤ k) × (k ≤ d .«task_count»)) (z : Sized m′) (a : (k : ℕ) → 1 ≤ k → awakeAt m′ k ≡ (awakeAt m k || member wakes k)) (b : (l : ℕ) → waitingAt m′ l ≡ (waitingAt m l || inside out l)) (c : (l : ℕ) → droppedAt m′ l ≡ (droppedAt m l || (waitingAt m l && inside out l))) where
+  pub marks-sent : Marks d w m → Marks d w′ m′
+  marks-sent h = record {
+    sized = z;
+    no-zero = s .awake 0 ∙ or-false (member (w .awake) 0) (member wakes 0) (h .no-zero) (false-of (member wakes 0) (λ q. omega (arith, tasks 0 q .0)));
+    present = λ k p. or-cases (member (w .awake) k) (member wakes k) (sym (s .awake k) ∙ p) (h .present k) (λ q. tasks k q .1);
+    awake = λ k p. s .awake k ∙ ap (λ i. i || member wakes k) (h .awake k p) ∙ sym (a k p);
+    waiting = λ l. s .waiting l ∙ ap (λ i. i || inside out l) (h .waiting l) ∙ sym (b l);
+    dropped = λ l. s .dropped l ∙ rw (h .dropped l, h .waiting l) (sym (c l));
+  }
 
 -- node x fires
-module _ (d : Description) (rows : List ℕ) (x : ℕ) (w w′ : Words) (out missed : Wide) (o : out ≡ wideAt rows (9 * x)) (a : (k : ℕ) → member (w′ .awake) k ≡ (member (w .awake) k || member (getD rows (9 * x + 8) 0) k)) (b : (l : ℕ) → inside (w′ .waiting) l ≡ (inside (w .waiting) l || inside out l)) (c : (l : ℕ) → inside missed l ≡ (inside (w .waiting) l && inside out l)) (e : (l : ℕ) → inside (w′ .dropped) l ≡ (inside (w .dropped) l || inside missed l)) where
-  pub marks-fired : (m : Machine) → WellFormed d → RowsOf d (d .«link_count») rows → Marks d w m → Marks d w′ (fire d x m)
-  marks-fired m g r h =
-      let f : Fired d x (d .«link_count») m (fire d x m) = fired d g x m (h .sized) in
-      record {
-        sized = f .sized;
-        no-zero = a 0 ∙ or-false (member (w .awake) 0) _ (h .no-zero) (r .wakes x 0 ∙ any-none _ 0 (d .«link_count») (λ l p q. and-false-right (eqb (linkAt d l .from) x) _ (ne-eqb (linkAt d l .to) 0 (λ z. let i : l < d .«link_count» = omega arith in omega (arith, to-some d g l i)))));
-        present = λ k p. or-cases (member (w .awake) k) _ (sym (a k) ∙ p) (h .present k) (λ q. woken d g x k (sym (r .wakes x k) ∙ q));
-        awake = λ k p. a k ∙ rw (h .awake k p, r .wakes x k) (sym (f .awake k p));
-        waiting = λ l. b l ∙ rw (h .waiting l, links l) (sym (f .waiting l));
-        dropped = λ l. e l ∙ rw (h .dropped l, c l, h .waiting l, links l) (sym (f .dropped l));
-      }
-    where
-      links : (l : ℕ) → inside out l ≡ (ltb l (d .«link_count») && eqb (linkAt d l .from) x)
-      links l = ap (λ s. inside s l) o ∙ row-out d rows x g r l
+pub marks-fired : (d : Description) (rows : List ℕ) (x : ℕ) (w w′ : Words) → Sent w (wideAt rows (9 * x)) (getD rows (9 * x + 8) 0) w′ → (m : Machine) → WellFormed d → RowsOf d (d .«link_count») rows → Marks d w m → Marks d w′ (fire d x m)
+marks-fired d rows x w w′ s m g r h =
+    let f : Fired d x (d .«link_count») m (fire d x m) = fired d g x m (h .sized) in
+    marks-sent d w w′ (wideAt rows (9 * x)) (getD rows (9 * x + 8) 0) s m (fire d x m) (woken d rows g r x) (f .sized) (λ k p. rw (r .wakes x k) (f .awake k p)) (λ l. rw (row-out d rows x g r l) (f .waiting l)) (λ l. rw (row-out d rows x g r l) (f .dropped l)) h
 
 -- task h sleeps, and the marks on links into it clear
 and-not : (a e : Bool) → (a && not e) ≡ cond e false a
@@ -114,16 +114,6 @@ module _ (d : Description) (rows : List ℕ) (x : ℕ) (w w′ : Words) (alone :
 pub marks-used : (d : Description) (w : Words) (m : Machine) (k x : ℕ) → Marks d w m → Marks d w (setUsed k x m)
 marks-used d w m k x h = record {
   sized = record { awakes = h .sized .awakes; useds = length-set (m .used) (k - 1) x ∙ h .sized .useds; waitings = h .sized .waitings; droppeds = h .sized .droppeds; ages = h .sized .ages };
-  no-zero = h .no-zero;
-  present = h .present;
-  awake = h .awake;
-  waiting = h .waiting;
-  dropped = h .dropped;
-}
-
-pub marks-age : (d : Description) (w : Words) (m : Machine) (u x : ℕ) → Marks d w m → Marks d w (setAge u x m)
-marks-age d w m u x h = record {
-  sized = record { awakes = h .sized .awakes; useds = h .sized .useds; waitings = h .sized .waitings; droppeds = h .sized .droppeds; ages = length-set (m .ages) u x ∙ h .sized .ages };
   no-zero = h .no-zero;
   present = h .present;
   awake = h .awake;

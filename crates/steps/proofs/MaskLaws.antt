@@ -1,14 +1,16 @@
 -- Masks of arrivals, bit by bit, as a loop over the bits that are set goes through them. Assumes nothing.
 use Prim.Native.Nat.{ℕ, _+_, _-_, _/_, _^_, _≤_, _<_}
 use mathlib.Core.Path.{_≡_, refl, sym, ap, subst, _∙_}
-use mathlib.Core.Bool.{Bool, true, false, _&&_}
+use mathlib.Core.Bool.{Bool, true, false, _||_, _&&_}
 use native.Mathlib.Omega.{arith}
 use native.Mathlib.Nat.{div-div-eq-div-mul, div-eq-of-lt, zero-div, add-sub-of-le}
 use lib.Pow.{pow-add}
 use lib.ListN.{getD}
 use lib.Dec.{leb, ltb}
 use borrow.Author.Tests.{le-leb, leb-true, lt-ltb, ltb-true}
-use Rattle.lemmas.proofs.Tests.{Cmp, less, same, more, cmp, not-both, false-of, same-test, and-left, and-right, both}
+use Rattle.model.specs.Basics.{anyN}
+use Rattle.lemmas.proofs.Tests.{Cmp, less, same, more, cmp, not-both, false-of, same-test, and-left, and-right, both, or-left, or-right, or-cases}
+use Rattle.lemmas.proofs.Range.{any-at, any-found}
 use Rattle.lemmas.proofs.Table.{getD-tab}
 use Rattle.sets.specs.Sets.{member, FirstIn, RestOf}
 use Rattle.sets.proofs.SetLaws.{member-none}
@@ -48,7 +50,7 @@ rest-all mask j = sym (and-true (heard mask j) (leb 0 j) (le-leb 0 j (omega arit
     and-true false b e = refl
 
 -- nothing is left: no member from r on
-pub rest-none : (mask r rest : ℕ) → Rest mask r rest → rest ≡ 0 → (u : ℕ) → r ≤ u → heard mask u ≡ false
+rest-none : (mask r rest : ℕ) → Rest mask r rest → rest ≡ 0 → (u : ℕ) → r ≤ u → heard mask u ≡ false
 rest-none mask r rest h e u p = false-of (heard mask u) (λ q. not-both (h u ∙ both (heard mask u) (leb r u) q (le-leb r u p)) (ap (λ s. member s u) e ∙ member-none u))
 
 pub rest-under : (mask r rest : ℕ) → Rest mask r rest → rest ≡ 0 → (u : ℕ) → heard mask u ≡ true → u < r
@@ -97,6 +99,22 @@ passed P mask r u rest′ T low this v h e = go (cmp v u) (cmp v r)
     go (less p) (more q) = absurd (not-both e (T .between v (omega arith) p))
     go (same p) q = subst P (sym p) this
     go (more p) q = absurd (omega arith)
+
+-- and what some member up to it passes, some member below r or u passes
+pub any-turn : (f : ℕ → Bool) (mask r u rest′ : ℕ) → Turn mask r u rest′ → anyN (λ v. heard mask v && f v) 0 (u + 1) ≡ (anyN (λ v. heard mask v && f v) 0 r || f u)
+any-turn f mask r u rest′ T = same-test (anyN p 0 (u + 1)) (anyN p 0 r || f u) to back
+  where
+    p : ℕ → Bool
+    p v = heard mask v && f v
+
+    to : anyN p 0 (u + 1) ≡ true → (anyN p 0 r || f u) ≡ true
+    to e =
+        let z = any-found p 0 (u + 1) e in
+        passed (λ v. f v ≡ true → (anyN p 0 r || f u) ≡ true) mask r u rest′ T (λ v h on y. or-left (anyN p 0 r) (f u) (any-at p 0 r v (omega arith) (omega arith) (both (heard mask v) (f v) on y))) (λ y. or-right (anyN p 0 r) (f u) y) (z .at) (omega (arith, z .within)) (and-left (heard mask (z .at)) (f (z .at)) (z .passes)) (and-right (heard mask (z .at)) (f (z .at)) (z .passes))
+
+    back : (anyN p 0 r || f u) ≡ true → anyN p 0 (u + 1) ≡ true
+    back e =
+        or-cases (anyN p 0 r) (f u) e (λ q. let z = any-found p 0 r q in any-at p 0 (u + 1) (z .at) (omega arith) (omega (arith, z .within, T .from)) (z .passes)) (λ q. any-at p 0 (u + 1) u (omega arith) (omega arith) (both (heard mask u) (f u) (T .here) q))
 
 -- a mask of 16 bits
 pub sourced : (mask : ℕ) → mask < 2 ^ 16 → Sourced mask

@@ -1,21 +1,21 @@
 -- One step of a tick on the words and on the record that they hold. Assumes nothing.
 use Prim.Native.Nat.{ℕ, zero, suc, _+_, _-_, _≤_, _<_, min}
 use mathlib.Core.Path.{_≡_, refl, sym, ap, subst, _∙_}
-use mathlib.Core.Bool.{Bool, true, false, _||_, _&&_, not, cond}
+use mathlib.Core.Bool.{Bool, true, false, _||_, _&&_, not}
 use mathlib.Core.List.{List}
 use native.Mathlib.Omega.{arith}
-use lib.ListN.{getD, set, length, length-set}
+use lib.ListN.{getD, set, length-set}
 use lib.Seq.{getD-set-same}
 use lib.Dec.{eqb}
-use borrow.Author.Tests.{ne-eqb, eqb-true, lt-ltb, le-ltb}
+use borrow.Author.Tests.{ne-eqb, lt-ltb, le-ltb}
 use Rattle.model.specs.declared.Description.{Description}
 use Rattle.model.specs.declared.Machine.{Machine}
 use Rattle.model.specs.Basics.{upTo}
 use Rattle.model.specs.Graph.{runOf}
 use Rattle.model.specs.Delays.{spacingOf}
-use Rattle.model.specs.Machine.{usedAt, ageAt, setAwake, setUsed, setAge, fire, arriveOne, runTask, clearInto, endRun, ageAll}
+use Rattle.model.specs.Machine.{usedAt, ageAt, setAwake, setUsed, fire, arriveOne, runTask, clearInto, endRun, ageAll}
 use Rattle.theory.proofs.WellFormed.{WellFormed}
-use Rattle.assurance.proofs.Firing.{Sized, Fired, fired, getD-set}
+use Rattle.assurance.proofs.Firing.{Sized, Fired, fired}
 use Rattle.assurance.proofs.Ending.{Cleared, cleared, Aged, aged}
 use Rattle.sets.specs.Sets.{member, LastIn}
 use Rattle.sets.specs.Wide.{inside}
@@ -23,7 +23,7 @@ use Rattle.steps.specs.declared.words.Words.{Words}
 use Rattle.steps.specs.Parts.{heard, marksIn}
 use Rattle.steps.specs.Words.{Marks, Ages, Holds, worked}
 use Rattle.steps.proofs.MaskLaws.{mark-in}
-use Rattle.steps.proofs.MarkLaws.{marks-used, marks-age, highest-is, highest-none}
+use Rattle.steps.proofs.MarkLaws.{marks-used, highest-is, highest-none}
 
 -- steps that change nothing from a place on
 upTo-rest : {A : Type 0} (l j : ℕ) (step : ℕ → A → A) (a : A) → ((k : ℕ) → l ≤ k → k < l + j → (x : A) → x ≡ step k x) → upTo l step a ≡ upTo (l + j) step a
@@ -33,14 +33,10 @@ upTo-rest l (suc j) step a h =
     let e : suc (l + j) ≡ l + suc j = omega arith in
     upTo-rest l j step a (λ k a b. h k a (omega arith)) ∙ h (l + j) (omega arith) (omega arith) (upTo (l + j) step a) ∙ ap (λ n. upTo n step a) e
 
--- a source that does not arrive, and one that does
+-- a source that does not arrive
 arrive-off : (d : Description) (marks : List Bool) (u : ℕ) (m : Machine) → getD marks u false ≡ false → m ≡ arriveOne d marks u m
 unfolding arriveOne
 arrive-off d marks u m e = rw e refl
-
-arrive-on : (d : Description) (marks : List Bool) (u : ℕ) (m : Machine) → getD marks u false ≡ true → setAge u 0 (fire d (33 + u) m) ≡ arriveOne d marks u m
-unfolding arriveOne
-arrive-on d marks u m e = rw e refl
 
 -- sources of a mask with no bit from l up to n
 pub arrive-none : (d : Description) (mask l n : ℕ) (m : Machine) → l ≤ n → n ≤ 16 → ((u : ℕ) → l ≤ u → u < n → heard mask u ≡ false) → upTo l (arriveOne d (marksIn mask)) m ≡ upTo n (arriveOne d (marksIn mask)) m
@@ -48,7 +44,7 @@ arrive-none d mask l n m h p none =
     let q : l + (n - l) ≡ n = omega arith in
     upTo-rest l (n - l) (arriveOne d (marksIn mask)) m (λ u a b x. arrive-off d (marksIn mask) u x (mark-in mask u (omega arith) ∙ none u a (omega arith))) ∙ ap (λ n. upTo n (arriveOne d (marksIn mask)) m) q
 
--- ages beside other parts, and a source's age after it has come
+-- ages beside other parts
 pub ages-same : (d : Description) (t now : ℕ) (ready : List ℕ) (m m′ : Machine) → m′ .ages ≡ m .ages → Ages d t now ready m → Ages d t now ready m′
 ages-same d t now ready m m′ e h = record {
   many = h .many;
@@ -57,51 +53,6 @@ ages-same d t now ready m m′ e h = record {
   here = λ u p. ap (λ (l : List ℕ). getD l u 0) e ∙ h .here u p;
   past = λ u p. ap (λ (l : List ℕ). getD l u 0) e ∙ h .past u p;
 }
-
-ages-set : (d : Description) (t now : ℕ) (ready : List ℕ) (m : Machine) (u v : ℕ) → Ages d t now ready m → length (m .ages) ≡ 16 → u < d .«source_count» → u < 16 → v ≡ now + spacingOf d t (33 + u) → Ages d t now (set ready u v) (setAge u 0 m)
-ages-set d t now ready m u v h z p q e = record {
-  many = length-set ready u v ∙ h .many;
-  spaced = h .spaced;
-  near = λ k y. at-near k y (eqb k u) refl;
-  here = λ k y. at-here k y (eqb k u) refl;
-  past = λ k y. getD-set (m .ages) u 0 0 k (omega arith) ∙ rw (ne-eqb k u (λ x. omega arith)) (h .past k y);
-}
-  where
-    stored : (k : ℕ) → getD (set ready u v) k 0 ≡ cond (eqb k u) v (getD ready k 0)
-    stored k = getD-set ready u v 0 k (omega (arith, h .many))
-
-    at-near : (k : ℕ) → k < d .«source_count» → (b : Bool) → eqb k u ≡ b → getD (set ready u v) k 0 ≤ now + spacingOf d t (33 + k)
-    at-near k y true f =
-        let x : k ≡ u = eqb-true k u f in
-        let s : getD (set ready u v) k 0 ≡ v = stored k ∙ rw f refl in
-        let r : spacingOf d t (33 + k) ≡ spacingOf d t (33 + u) = ap (λ i. spacingOf d t (33 + i)) x in
-        omega arith
-    at-near k y false f =
-        let s : getD (set ready u v) k 0 ≡ getD ready k 0 = stored k ∙ rw f refl in
-        omega (arith, h .near k y)
-
-    at-here : (k : ℕ) → k < d .«source_count» → (b : Bool) → eqb k u ≡ b → getD (set (m .ages) u 0) k 0 ≡ spacingOf d t (33 + k) - (getD (set ready u v) k 0 - now)
-    at-here k y true f =
-        let x : k ≡ u = eqb-true k u f in
-        let s : getD (set ready u v) k 0 ≡ v = stored k ∙ rw f refl in
-        let r : spacingOf d t (33 + k) ≡ spacingOf d t (33 + u) = ap (λ i. spacingOf d t (33 + i)) x in
-        let a : getD (set (m .ages) u 0) k 0 ≡ 0 = getD-set (m .ages) u 0 0 k (omega arith) ∙ rw f refl in
-        omega arith
-    at-here k y false f =
-        let s : getD (set ready u v) k 0 ≡ getD ready k 0 = stored k ∙ rw f refl in
-        let a : getD (set (m .ages) u 0) k 0 ≡ getD (m .ages) k 0 = getD-set (m .ages) u 0 0 k (omega arith) ∙ rw f refl in
-        a ∙ h .here k y ∙ ap (λ i. spacingOf d t (33 + k) - (i - now)) (sym s)
-
--- a source that arrives: its firing, and the tick at which it may come next
-pub arrive-turn : (d : Description) (t : ℕ) (w w′ : Words) (used ready : List ℕ) (marks : List Bool) (u v : ℕ) (m : Machine) → WellFormed d → Holds d t w used ready m → (Marks d w m → Marks d w′ (fire d (33 + u) m)) → w′ .tick ≡ w .tick → getD marks u false ≡ true → u < d .«source_count» → v ≡ w .tick + spacingOf d t (33 + u) → Holds d t w′ used (set ready u v) (arriveOne d marks u m)
-arrive-turn d t w w′ used ready marks u v m g h fires q e p s =
-    let f : Fired d (33 + u) (d .«link_count») m (fire d (33 + u) m) = fired d g (33 + u) m (h .marks .sized) in
-    subst (λ (k : Machine). Holds d t w′ used (set ready u v) k) (arrive-on d marks u m e)
-    (record {
-      marks = marks-age d w′ (fire d (33 + u) m) u 0 (fires (h .marks));
-      same-used = h .same-used ∙ sym (f .used);
-      ages = subst (λ n. Ages d t n (set ready u v) (setAge u 0 (fire d (33 + u) m))) (sym q) (ages-set d t (w .tick) ready (fire d (33 + u) m) u v (ages-same d t (w .tick) ready m (fire d (33 + u) m) (f .ages) (h .ages)) (f .sized .ages) p (omega (arith, g .fields .few-sources)) s);
-    })
 
 -- the task that runs, or none
 run-none : (m : Machine) → runTask 0 m ≡ m

@@ -1,7 +1,7 @@
 -- How words of bits hold the machine's record, and what each step on them ensures: of every record that the words hold, they hold
 -- what the plain machine's step makes of it.
 use Prim.Native.Nat.{ℕ, _+_, _-_, _^_, _≤_, _<_}
-use mathlib.Core.Bool.{Bool, true, false}
+use mathlib.Core.Bool.{Bool, true, false, _||_, _&&_}
 use mathlib.Core.List.{List}
 use mathlib.Core.Path.{_≡_}
 use lib.ListN.{getD, length}
@@ -45,6 +45,13 @@ pub record Holds (d : Description) (t : ℕ) (w : Words) (used ready : List ℕ)
   pub marks : Marks d w m
   pub same-used : used ≡ m .used
   pub ages : Ages d t (w .tick) ready m
+
+-- the links of a set have fired, and their tasks are awake
+pub record Sent (w : Words) (out : Wide) (wakes : ℕ) (w′ : Words) : Type 0 where
+  pub awake : (k : ℕ) → member (w′ .awake) k ≡ (member (w .awake) k || member wakes k)
+  pub waiting : (l : ℕ) → inside (w′ .waiting) l ≡ (inside (w .waiting) l || inside out l)
+  pub dropped : (l : ℕ) → inside (w′ .dropped) l ≡ (inside (w .dropped) l || (inside (w .waiting) l && inside out l))
+  pub then : w′ .tick ≡ w .tick
 
 -- node x has fired
 pub record Fires (rows : List ℕ) (x : ℕ) (w w′ : Words) : Type 0 where

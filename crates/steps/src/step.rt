@@ -9,7 +9,7 @@ ghost use Prim.Native.Nat.{_+_, _<_, _^_};
 ghost use lib.ListN.{length};
 ghost use lib.Dec.{eqb};
 ghost use Rattle.steps.specs.Parts.{Sourced};
-ghost use Rattle.steps.specs.Words.{wideAt, Fires, Arrives, Sleeps, Works, Workable, Passes};
+ghost use Rattle.steps.specs.Words.{wideAt, Sent, Fires, Arrives, Sleeps, Works, Workable, Passes};
 
 // The four words from place i on.
 fn row(rows: &[u64; 576], i: usize) -> Wide
@@ -24,21 +24,27 @@ fn row(rows: &[u64; 576], i: usize) -> Wide
     }
 }
 
+// Links fire together: each that waits is dropped, each waits anew, and their tasks wake.
+fn send(w: Words, out: Wide, wakes: u64) -> Words
+    ensures { λ r. ⌜ Sent w out wakes r ⌝ }
+{
+    let waiting = w.waiting;
+    let dropped = w.dropped;
+    let missed = wide::both(waiting, out);
+    Words {
+        awake: sets::union(w.awake, wakes),
+        waiting: wide::union(waiting, out),
+        dropped: wide::union(dropped, missed),
+        tick: w.tick,
+    }
+}
+
 // Node x fires: each link out of it that waits is dropped, waits anew and wakes its task.
 pub fn fire(rows: &[u64; 576], x: usize, w: Words) -> Words
     requires { ⌜ x < 64 ⌝ }
     ensures { λ r. ⌜ Fires (now (rows .entry)) x w r ⌝ }
 {
-    let out = row(rows, 9 * x);
-    let waiting = w.waiting;
-    let dropped = w.dropped;
-    let missed = wide::both(waiting, out);
-    Words {
-        awake: sets::union(w.awake, rows[9 * x + 8]),
-        waiting: wide::union(waiting, out),
-        dropped: wide::union(dropped, missed),
-        tick: w.tick,
-    }
+    send(w, row(rows, 9 * x), rows[9 * x + 8])
 }
 
 // A number of ticks as a number of 64 bits.
@@ -48,26 +54,29 @@ pub fn long(x: u32) -> u64
     x as u64
 }
 
-// Step 1: each arriving source fires, in rising number, and its age becomes 0: it may come once its spacing has passed.
+// Step 1: each arriving source fires, and its age becomes 0: it may come once its spacing has passed. Links out of different sources
+// are different links, so those out of all that arrive fire together.
 pub fn arrive<'a>(
     rows: &'a [u64; 576],
     gaps: &'a [u32; 16],
     mask: u64,
-    start: Words,
+    w: Words,
     ready: &mut [u64; 16],
 ) -> Words
-    requires { ⌜ Sourced mask × (start .tick < 2 ^ 63) × (length (now ready) ≡ 16) ⌝ }
-    ensures { λ r. ⌜ Arrives (now (rows .entry)) (now (gaps .entry)) mask start (now (ready .entry)) r (now (ready .exit)) ⌝ }
+    requires { ⌜ Sourced mask × (w .tick < 2 ^ 63) × (length (now ready) ≡ 16) ⌝ }
+    ensures { λ r. ⌜ Arrives (now (rows .entry)) (now (gaps .entry)) mask w (now (ready .entry)) r (now (ready .exit)) ⌝ }
 {
-    let mut w = start;
+    let mut out = wide::none();
+    let mut wakes: u64 = 0;
     let mut rest = mask;
     while rest != 0 {
         let u = sets::first(rest);
-        w = fire(rows, 33 + u, w);
+        out = wide::union(out, row(rows, 9 * (33 + u)));
+        wakes = sets::union(wakes, rows[9 * (33 + u) + 8]);
         ready[u] = w.tick + long(gaps[u]);
         rest = sets::rest(rest);
     }
-    w
+    send(w, out, wakes)
 }
 
 // Task h sleeps, and the waiting marks on links into it clear.

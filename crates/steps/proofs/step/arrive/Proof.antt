@@ -1,62 +1,118 @@
--- `arrive` meets its contract: the sources below r have arrived, and what is left of the mask has the others. Assumes nothing.
+-- `arrive` meets its contract: the links out of the sources below r are joined, and what is left of the mask has the others. Assumes nothing.
 use Prim.Native.Nat.{ℕ, _+_, _≤_}
-use mathlib.Core.Path.{_≡_, refl, sym, subst, _∙_}
-use mathlib.Core.List.{List}
+use mathlib.Core.Path.{_≡_, refl, ap, _∙_}
+use mathlib.Core.Bool.{_||_}
 use native.Mathlib.Omega.{arith}
-use lib.ListN.{set, length, length-set}
-use Rattle.model.specs.declared.Description.{Description}
-use Rattle.model.specs.declared.Machine.{Machine}
-use Rattle.model.specs.Basics.{upTo}
-use Rattle.model.specs.Machine.{arriveOne, arrive}
-use Rattle.lemmas.proofs.Range.{upTo-more}
-use Rattle.theory.proofs.WellFormed.{WellFormed}
-use Rattle.wiring.specs.Rows.{RowsOf}
-use Rattle.spacings.specs.Gaps.{GapsOf}
-use Rattle.steps.specs.Parts.{Known, marksIn}
-use Rattle.steps.specs.Words.{Holds}
-use Rattle.steps.proofs.MaskLaws.{none-above, mark-in, heard-under, Rest, rest-all, rest-none, least, turn}
-use Rattle.steps.proofs.StepLaws.{arrive-none, arrive-turn}
+use lib.ListN.{length, length-set}
+use Rattle.sets.specs.declared.wide.Wide.{Wide}
+use Rattle.sets.specs.Wide.{inside}
+use Rattle.steps.proofs.MaskLaws.{Rest, rest-all, rest-under, least, turn}
+use Rattle.steps.proofs.ArriveLaws.{Joined, joined-none, joined-more, all-arrived}
 use borrow.Author.Needs.{needs}
 use Rattle.steps.proofs.step.arrive.Statement.{statement}
 use Rattle.steps.proofs.step.arrive.Tie as tie
 
 abbrev Inv-loop : tie.InvT-loop
-Inv-loop rows gaps mask ready₀ w₀ rest₀ ready w rest =
-    (length ready ≡ 16) × (w .tick ≡ w₀ .tick) × (r : ℕ) × (r ≤ 16) × Rest mask r rest × ((d : Description) (t : ℕ) (used : List ℕ) (m : Machine) → WellFormed d → RowsOf d (d .«link_count») rows → GapsOf d t gaps → Known d mask → Holds d t w₀ used ready₀ m → Holds d t w used ready (upTo r (arriveOne d (marksIn mask)) m))
+Inv-loop rows gaps mask w ready₀ out₀ wakes₀ rest₀ ready out wakes rest =
+    (length ready ≡ 16) × (r : ℕ) × (r ≤ 16) × Rest mask r rest × Joined rows gaps mask r (w .tick) ready₀ ready out wakes
 
 abbrev μ-loop : tie.MeasureT-loop
-μ-loop rows gaps mask ready₀ w₀ rest₀ ready w rest = rest
+μ-loop rows gaps mask w ready₀ out₀ wakes₀ rest₀ ready out wakes rest = rest
+
+none-requires : tie.Need-none-requires Inv-loop μ-loop
+none-requires c κs = search needs
 
 loop-holds : tie.Need-loop-holds Inv-loop μ-loop
-unfolding upTo
-loop-holds c = (c .pre .2, refl, 0, omega arith, rest-all (c .args .mask), λ d t used m g r s k h. h)
+loop-holds c =
+    let S = c .before in
+    (S .pre .2, 0, omega arith, rest-all (S .args .mask), joined-none (S .args .rows .now) (S .args .gaps .now) (S .args .mask) (S .args .w .tick) _ (c .none .result) (c .none .ensures))
 
 first-requires : tie.Need-first-requires Inv-loop μ-loop
 first-requires c κs = search needs
 
-add-fire : tie.Need-add-fire Inv-loop μ-loop
-add-fire c = let S = c .before .before .before in let L = c .before .before .loop in omega (arith, least (S .args .mask) (L .inv .2) (L .rest) (c .first .result) (S .pre .0) (L .inv .4) (c .first .ensures))
+add-row : tie.Need-add-row Inv-loop μ-loop
+add-row c =
+    let A = c .before .before .before .before .args in
+    let L = c .before .before .loop in
+    omega (arith, least (A .mask) (L .inv .1) (L .rest) (c .first .result) (c .before .before .before .before .pre .0) (L .inv .3) (c .first .ensures))
 
-fire-requires : tie.Need-fire-requires Inv-loop μ-loop
-fire-requires c κs = let S = c .before .before .before in let L = c .before .before .loop in omega (arith, least (S .args .mask) (L .inv .2) (L .rest) (c .first .result) (S .pre .0) (L .inv .4) (c .first .ensures))
+mul-row : tie.Need-mul-row Inv-loop μ-loop
+mul-row c =
+    let A = c .before .before .before .before .args in
+    let L = c .before .before .loop in
+    omega (arith, least (A .mask) (L .inv .1) (L .rest) (c .first .result) (c .before .before .before .before .pre .0) (L .inv .3) (c .first .ensures))
+
+row-requires : tie.Need-row-requires Inv-loop μ-loop
+row-requires c κs =
+    let A = c .before .before .before .before .args in
+    let L = c .before .before .loop in
+    omega (arith, least (A .mask) (L .inv .1) (L .rest) (c .first .result) (c .before .before .before .before .pre .0) (L .inv .3) (c .first .ensures))
+
+union-requires : tie.Need-union-requires Inv-loop μ-loop
+union-requires c κs = search needs
+
+add-union : tie.Need-add-union Inv-loop μ-loop
+add-union c =
+    let A = c .before .before .before .before .before .before .args in
+    let L = c .before .before .before .before .loop in
+    omega (arith, least (A .mask) (L .inv .1) (L .rest) (c .before .before .first .result) (c .before .before .before .before .before .before .pre .0) (L .inv .3) (c .before .before .first .ensures))
+
+mul-union : tie.Need-mul-union Inv-loop μ-loop
+mul-union c =
+    let A = c .before .before .before .before .before .before .args in
+    let L = c .before .before .before .before .loop in
+    omega (arith, least (A .mask) (L .inv .1) (L .rest) (c .before .before .first .result) (c .before .before .before .before .before .before .pre .0) (L .inv .3) (c .before .before .first .ensures))
+
+add-union-2 : tie.Need-add-union-2 Inv-loop μ-loop
+add-union-2 c =
+    let A = c .before .before .before .before .before .before .args in
+    let L = c .before .before .before .before .loop in
+    omega (arith, least (A .mask) (L .inv .1) (L .rest) (c .before .before .first .result) (c .before .before .before .before .before .before .pre .0) (L .inv .3) (c .before .before .first .ensures))
+
+mul-union-2 : tie.Need-mul-union-2 Inv-loop μ-loop
+mul-union-2 c =
+    let A = c .before .before .before .before .before .before .args in
+    let L = c .before .before .before .before .loop in
+    omega (arith, least (A .mask) (L .inv .1) (L .rest) (c .before .before .first .result) (c .before .before .before .before .before .before .pre .0) (L .inv .3) (c .before .before .first .ensures))
+
+element-copy-out-union : tie.Need-element-copy-out-union Inv-loop μ-loop
+element-copy-out-union c =
+    let A = c .before .before .before .before .before .before .args in
+    let L = c .before .before .before .before .loop in
+    omega (arith, least (A .mask) (L .inv .1) (L .rest) (c .before .before .first .result) (c .before .before .before .before .before .before .pre .0) (L .inv .3) (c .before .before .first .ensures))
+
+union-requires-2 : tie.Need-union-requires-2 Inv-loop μ-loop
+union-requires-2 c κs = search needs
 
 mul-long : tie.Need-mul-long Inv-loop μ-loop
-mul-long c = let S = c .before .before .before .before in let L = c .before .before .before .loop in omega (arith, least (S .args .mask) (L .inv .2) (L .rest) (c .before .first .result) (S .pre .0) (L .inv .4) (c .before .first .ensures))
+mul-long c =
+    let A = c .before .before .before .before .before .before .before .before .args in
+    let L = c .before .before .before .before .before .before .loop in
+    omega (arith, least (A .mask) (L .inv .1) (L .rest) (c .before .before .before .before .first .result) (c .before .before .before .before .before .before .before .before .pre .0) (L .inv .3) (c .before .before .before .before .first .ensures))
 
 element-copy-out-long : tie.Need-element-copy-out-long Inv-loop μ-loop
-element-copy-out-long c = let S = c .before .before .before .before in let L = c .before .before .before .loop in omega (arith, least (S .args .mask) (L .inv .2) (L .rest) (c .before .first .result) (S .pre .0) (L .inv .4) (c .before .first .ensures))
+element-copy-out-long c =
+    let A = c .before .before .before .before .before .before .before .before .args in
+    let L = c .before .before .before .before .before .before .loop in
+    omega (arith, least (A .mask) (L .inv .1) (L .rest) (c .before .before .before .before .first .result) (c .before .before .before .before .before .before .before .before .pre .0) (L .inv .3) (c .before .before .before .before .first .ensures))
 
 long-requires : tie.Need-long-requires Inv-loop μ-loop
 long-requires c κs = search needs
 
 add-ready : tie.Need-add-ready Inv-loop μ-loop
-add-ready c = let S = c .before .before .before .before .before .before .before in let L = c .before .before .before .before .before .before .loop in omega (arith, S .pre .1, L .inv .1, c .before .before .before .fire .ensures .then, c .before .long .ensures .1)
+add-ready c = omega (arith, c .before .before .before .before .before .before .before .before .before .before .before .pre .1, c .before .long .ensures .1)
 
 mul-ready : tie.Need-mul-ready Inv-loop μ-loop
-mul-ready c = let S = c .before .before .before .before .before .before .before in let L = c .before .before .before .before .before .before .loop in omega (arith, least (S .args .mask) (L .inv .2) (L .rest) (c .before .before .before .before .first .result) (S .pre .0) (L .inv .4) (c .before .before .before .before .first .ensures))
+mul-ready c =
+    let A = c .before .before .before .before .before .before .before .before .before .before .before .args in
+    let L = c .before .before .before .before .before .before .before .before .before .loop in
+    omega (arith, least (A .mask) (L .inv .1) (L .rest) (c .before .before .before .before .before .before .before .first .result) (c .before .before .before .before .before .before .before .before .before .before .before .pre .0) (L .inv .3) (c .before .before .before .before .before .before .before .first .ensures))
 
 element-write-ready : tie.Need-element-write-ready Inv-loop μ-loop
-element-write-ready c = let S = c .before .before .before .before .before .before .before in let L = c .before .before .before .before .before .before .loop in omega (arith, L .inv .0, least (S .args .mask) (L .inv .2) (L .rest) (c .before .before .before .before .first .result) (S .pre .0) (L .inv .4) (c .before .before .before .before .first .ensures))
+element-write-ready c =
+    let A = c .before .before .before .before .before .before .before .before .before .before .before .args in
+    let L = c .before .before .before .before .before .before .before .before .before .loop in
+    omega (arith, L .inv .0, least (A .mask) (L .inv .1) (L .rest) (c .before .before .before .before .before .before .before .first .result) (c .before .before .before .before .before .before .before .before .before .before .before .pre .0) (L .inv .3) (c .before .before .before .before .before .before .before .first .ensures))
 
 rest-requires : tie.Need-rest-requires Inv-loop μ-loop
 rest-requires c κs = search needs
@@ -66,33 +122,29 @@ loop-less c = c .rest .ensures .fewer
 
 loop-again : tie.Need-loop-again Inv-loop μ-loop
 loop-again c =
-    let S = c .before .before .before .before .before .before .before .before in
-    let L = c .before .before .before .before .before .before .before .loop in
+    let S = c .before .before .before .before .before .before .before .before .before .before .before .before in
     let A = S .args in
-    let u = c .before .before .before .before .before .first .result in
-    let w = c .before .before .before .before .fire .result in
-    let v = w .tick + c .before .before .long .result in
-    let T = turn (A .mask) (L .inv .2) (L .rest) u (c .rest .result) (S .pre .0) (L .inv .4) (c .before .before .before .before .before .first .ensures) (c .rest .ensures) in (
+    let L = c .before .before .before .before .before .before .before .before .before .before .loop in
+    let u = c .before .before .before .before .before .before .before .before .first .result in
+    let v = A .w .tick + c .before .before .long .result in
+    let T = turn (A .mask) (L .inv .1) (L .rest) u (c .rest .result) (S .pre .0) (L .inv .3) (c .before .before .before .before .before .before .before .before .first .ensures) (c .rest .ensures) in (
       length-set (L .ready) u v ∙ L .inv .0,
-      c .before .before .before .before .fire .ensures .then ∙ L .inv .1,
       u + 1,
       omega (arith, T .within),
       T .after,
-      λ d t used m g r s k h.
-          let p = heard-under (A .mask) (d .«source_count») u (k .1) (T .here) in
-          let H = subst (λ (n : Machine). Holds d t (L .w) used (L .ready) n) (arrive-none d (A .mask) (L .inv .2) u m (T .from) (omega (arith, T .within)) (T .between)) (L .inv .5 d t used m g r s k h) in
-          subst (λ (n : Machine). Holds d t w used (set (L .ready) u v) n) (sym (upTo-more u (arriveOne d (marksIn (A .mask))) m)) (arrive-turn d t (L .w) w used (L .ready) (marksIn (A .mask)) u v (upTo u (arriveOne d (marksIn (A .mask))) m) g H (c .before .before .before .before .fire .ensures .fired d _ g r) (c .before .before .before .before .fire .ensures .then) (mark-in (A .mask) u (T .within) ∙ T .here) p (omega (arith, c .before .before .before .before .fire .ensures .then, c .before .before .long .ensures .0, s .at u p))),
+      joined-more (A .rows .now) (A .gaps .now) (A .mask) (L .inv .1) (A .w .tick) _ (L .ready) (L .out) (c .before .before .before .before .before .before .union .result) (L .wakes) (c .before .before .before .before .union2 .result) u (c .rest .result) v T (L .inv .0) (omega (arith, c .before .before .long .ensures .0)) (λ l. c .before .before .before .before .before .before .union .ensures l ∙ ap (λ (s : Wide). inside (L .out) l || inside s l) (c .before .before .before .before .before .before .before .row .ensures)) (c .before .before .before .before .union2 .ensures) (L .inv .4),
     )
 
+send-requires : tie.Need-send-requires Inv-loop μ-loop
+send-requires c κs = search needs
+
 returns : tie.Need-returns Inv-loop μ-loop
-unfolding arrive
 returns c =
-    let S = c .before .before in
-    let L = c .before .loop in
-    let mask = S .args .mask in
+    let A = c .before .before .before .before .args in
+    let L = c .before .before .loop in
     record {
-      arrived = λ d t used m g r s k h. subst (λ (n : Machine). Holds d t (L .w) used (L .ready) n) (arrive-none d mask (L .inv .2) 16 m (L .inv .3) (omega arith) (λ u a b. rest-none mask (L .inv .2) (L .rest) (L .inv .4) (c .loop-test .left) u a) ∙ sym (arrive-none d mask (d .«source_count») 16 m (k .0) (omega arith) (λ u a b. none-above mask (d .«source_count») u (k .1) a))) (L .inv .5 d t used m g r s k h);
-      then = L .inv .1;
+      arrived = λ d t used m g r s k h. all-arrived d t (A .rows .now) (A .gaps .now) (A .mask) (L .inv .1) (A .w .tick) _ (L .ready) (L .out) (L .wakes) (L .inv .4) (rest-under (A .mask) (L .inv .1) (L .rest) (L .inv .3) (c .before .loop-test .left)) g r s k (A .w) (c .send .result) used m refl (L .inv .0) (c .send .ensures) h;
+      then = c .send .ensures .then;
     }
 
 pub arrive-spec : {M : Type 1} → statement M
@@ -101,10 +153,19 @@ arrive-spec =
     (tie.spec
     Inv-loop
     μ-loop
+    none-requires
     loop-holds
     first-requires
-    add-fire
-    fire-requires
+    add-row
+    mul-row
+    row-requires
+    union-requires
+    add-union
+    mul-union
+    add-union-2
+    mul-union-2
+    element-copy-out-union
+    union-requires-2
     mul-long
     element-copy-out-long
     long-requires
@@ -114,4 +175,5 @@ arrive-spec =
     rest-requires
     loop-less
     loop-again
+    send-requires
     returns)

@@ -1,5 +1,9 @@
--- `fire` meets its contract, bit by bit. Assumes nothing.
-use mathlib.Core.Path.{refl}
+-- `fire` meets its contract: the links of its row are sent. Assumes nothing.
+use Prim.Native.Nat.{_+_, _*_}
+use mathlib.Core.Path.{subst}
+use lib.ListN.{getD}
+use Rattle.sets.specs.declared.wide.Wide.{Wide}
+use Rattle.steps.specs.Words.{Sent}
 use Rattle.steps.proofs.MarkLaws.{marks-fired}
 use borrow.Author.Needs.{needs}
 use Rattle.steps.proofs.step.fire.Statement.{statement}
@@ -11,36 +15,27 @@ mul-row c = search needs
 row-requires : tie.Need-row-requires
 row-requires c κs = search needs
 
-both-requires : tie.Need-both-requires
-both-requires c κs = search needs
+mul-send : tie.Need-mul-send
+mul-send c = search needs
 
-mul-union : tie.Need-mul-union
-mul-union c = search needs
+add-send : tie.Need-add-send
+add-send c = search needs
 
-add-union : tie.Need-add-union
-add-union c = search needs
+mul-send-2 : tie.Need-mul-send-2
+mul-send-2 c = search needs
 
-mul-union-2 : tie.Need-mul-union-2
-mul-union-2 c = search needs
+element-copy-out-send : tie.Need-element-copy-out-send
+element-copy-out-send c = search needs
 
-element-copy-out-union : tie.Need-element-copy-out-union
-element-copy-out-union c = search needs
-
-union-requires : tie.Need-union-requires
-union-requires c κs = search needs
-
-union-requires-2 : tie.Need-union-requires-2
-union-requires-2 c κs = search needs
-
-union-requires-3 : tie.Need-union-requires-3
-union-requires-3 c κs = search needs
+send-requires : tie.Need-send-requires
+send-requires c κs = search needs
 
 returns : tie.Need-returns
 returns c =
-    let S = c .before .before .before .before .before .before .before .before in
+    let A = c .before .before .before .args in
     record {
-      fired = λ d m g r h. marks-fired d (S .args .rows .now) (S .args .x) (S .args .w) _ (c .before .before .before .before .before .before .before .row .result) (c .before .before .before .before .both .result) (c .before .before .before .before .before .before .before .row .ensures) (c .before .before .union .ensures) (c .before .union2 .ensures) (c .before .before .before .before .both .ensures) (c .union3 .ensures) m g r h;
-      then = refl;
+      fired = λ d m g r h. marks-fired d (A .rows .now) (A .x) (A .w) (c .send .result) (subst (λ (out : Wide). Sent (A .w) out (getD (A .rows .now) (9 * A .x + 8) 0) (c .send .result)) (c .before .before .row .ensures) (c .send .ensures)) m g r h;
+      then = c .send .ensures .then;
     }
 
 pub fire-spec : {M : Type 1} → statement M
@@ -49,12 +44,9 @@ fire-spec =
     (tie.spec
     mul-row
     row-requires
-    both-requires
-    mul-union
-    add-union
-    mul-union-2
-    element-copy-out-union
-    union-requires
-    union-requires-2
-    union-requires-3
+    mul-send
+    add-send
+    mul-send-2
+    element-copy-out-send
+    send-requires
     returns)

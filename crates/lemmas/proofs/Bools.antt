@@ -32,6 +32,13 @@ pub and-on : (a b : Bool) → b ≡ true → (a && b) ≡ a
 and-on true b e = e
 and-on false b e = refl
 
+pub and-off : (b : Bool) → (b && false) ≡ false
+and-off b = and-false-right b false refl
+
+pub and-swap : (a b : Bool) → (a && b) ≡ (b && a)
+and-swap true b = sym (and-on b true refl)
+and-swap false b = sym (and-off b)
+
 pub and-not-or : (a b c : Bool) → (a && not b && not c) ≡ (a && not (b || c))
 and-not-or true true c = refl
 and-not-or true false c = refl

@@ -17,6 +17,7 @@ use Rattle.theory.proofs.Links.{ends-inside}
 use Rattle.theory.proofs.Walk.{in-order-alike}
 use Rattle.orders.specs.Into.{intoSystem, IntoOf}
 use Rattle.orders.specs.Orders.{betweenTasks, orderBy, OrdersOf, orderHeld}
+use Rattle.lemmas.proofs.Bools.{and-off}
 
 -- a critical link between tasks by its test
 pub between-is : (k : Link) → k .critical ≡ 1 → k .from < 33 → betweenTasks k ≡ true
@@ -31,11 +32,7 @@ not-critical : (k : Link) → (k .critical ≡ 1 → ⊥) → betweenTasks k ≡
 not-critical k n = rw (ne-eqb (k .critical) 1 n)
 
 not-task : (k : Link) → 33 ≤ k .from → betweenTasks k ≡ false
-not-task k h = rw (le-ltb (k .from) 33 h) (go (eqb (k .critical) 1))
-  where
-    go : (b : Bool) → (b && false) ≡ false
-    go true = refl
-    go false = refl
+not-task k h = rw (le-ltb (k .from) 33 h) (and-off (eqb (k .critical) 1))
 
 -- the order of a critical link between tasks, and false of any other link
 module _ (into : List ℕ) (k : Link) where

@@ -15,6 +15,7 @@ use Rattle.lemmas.proofs.Table.{getD-tab}
 use Rattle.sets.specs.Sets.{member, FirstIn, RestOf}
 use Rattle.sets.proofs.SetLaws.{member-none}
 use Rattle.steps.specs.Parts.{heard, marksIn, Sourced}
+use Rattle.lemmas.proofs.Bools.{and-on}
 
 -- a mask with nothing left above the first s bits has no bit there
 pub none-above : (mask s k : ℕ) → mask / 2 ^ s ≡ 0 → s ≤ k → heard mask k ≡ false
@@ -43,11 +44,7 @@ Rest mask r rest = (j : ℕ) → member rest j ≡ (heard mask j && leb r j)
 
 pub rest-all : (mask : ℕ) → Rest mask 0 mask
 unfolding member
-rest-all mask j = sym (and-true (heard mask j) (leb 0 j) (le-leb 0 j (omega arith)))
-  where
-    and-true : (a b : Bool) → b ≡ true → (a && b) ≡ a
-    and-true true b e = e
-    and-true false b e = refl
+rest-all mask j = sym (and-on (heard mask j) (leb 0 j) (le-leb 0 j (omega arith)))
 
 -- nothing is left: no member from r on
 rest-none : (mask r rest : ℕ) → Rest mask r rest → rest ≡ 0 → (u : ℕ) → r ≤ u → heard mask u ≡ false

@@ -28,26 +28,17 @@ use Rattle.steps.specs.declared.words.Words.{Words}
 use Rattle.spacings.specs.Gaps.{GapsOf}
 use Rattle.steps.specs.Words.{Holds}
 use Rattle.steps.specs.Record.{AwakeOf, AwakeIn, LinksOf, AgesOf, ReadyOf, Begins}
+use Rattle.lemmas.proofs.Bools.{and-off, and-swap}
 
--- a number that is marked, and one that is not
+-- a number that is marked
 pub on : (a b c : Bool) → b ≡ true → (a || c) ≡ (a || (b && c))
 on a b c e = rw e refl
-
-pub off : (a b c : Bool) → b ≡ false → a ≡ (a || (b && c))
-off true b c e = refl
-off false b c e = rw e refl
 
 -- one mark more of a word
 pub word-more : (f : ℕ → Bool) (set k set′ : ℕ) → ((j : ℕ) → member set j ≡ (ltb j k && f j)) → ((j : ℕ) → member set′ j ≡ (member set j || (f k && eqb j k))) → (j : ℕ) → member set′ j ≡ (ltb j (k + 1) && f j)
 word-more f set k set′ h e j =
     let n : suc k ≡ k + 1 = omega arith in
-    e j ∙ rw (h j) (ap (λ b. (ltb j k && f j) || b) (swap (f k) (eqb j k)) ∙ sym (less-more f j k) ∙ ap (λ i. ltb j i && f j) n)
-  where
-    swap : (a b : Bool) → (a && b) ≡ (b && a)
-    swap true true = refl
-    swap true false = refl
-    swap false true = refl
-    swap false false = refl
+    e j ∙ rw (h j) (ap (λ b. (ltb j k && f j) || b) (and-swap (f k) (eqb j k)) ∙ sym (less-more f j k) ∙ ap (λ i. ltb j i && f j) n)
 
 pub word-none : (f : ℕ → Bool) (j : ℕ) → member 0 j ≡ (ltb j 0 && f j)
 word-none f j = member-none j ∙ rw (le-ltb j 0 (omega arith)) refl
@@ -81,20 +72,10 @@ link-word s l h = go (l / 64) (omega arith)
 -- the awake tasks of a word, up to k
 pub awake-more : (awake : List Bool) (set k set′ : ℕ) → (member set 0 ≡ false) × ((j : ℕ) → member set (suc j) ≡ (ltb j k && getD awake j false)) → ((j : ℕ) → member set′ j ≡ (member set j || (getD awake k false && eqb j (k + 1)))) → (member set′ 0 ≡ false) × ((j : ℕ) → member set′ (suc j) ≡ (ltb j (k + 1) && getD awake j false))
 awake-more awake set k set′ h e =
-    (e 0 ∙ rw (h .0, ne-eqb 0 (k + 1) (λ z. omega arith)) (off (getD awake k false)), λ j. e (suc j) ∙ rw (h .1 j, step j) (ap (λ b. (ltb j k && getD awake j false) || b) (swap (getD awake k false) (eqb j k)) ∙ sym (less-more (λ i. getD awake i false) j k) ∙ ap (λ i. ltb j i && getD awake j false) next))
+    (e 0 ∙ rw (h .0, ne-eqb 0 (k + 1) (λ z. omega arith)) (and-off (getD awake k false)), λ j. e (suc j) ∙ rw (h .1 j, step j) (ap (λ b. (ltb j k && getD awake j false) || b) (and-swap (getD awake k false) (eqb j k)) ∙ sym (less-more (λ i. getD awake i false) j k) ∙ ap (λ i. ltb j i && getD awake j false) next))
   where
     next : suc k ≡ k + 1
     next = omega arith
-
-    off : (b : Bool) → (b && false) ≡ false
-    off true = refl
-    off false = refl
-
-    swap : (a b : Bool) → (a && b) ≡ (b && a)
-    swap true true = refl
-    swap true false = refl
-    swap false true = refl
-    swap false false = refl
 
     step : (j : ℕ) → eqb (suc j) (k + 1) ≡ eqb j k
     step j = go (eqb j k) refl

@@ -24,6 +24,7 @@ use Rattle.steps.specs.Parts.{heard, marksIn}
 use Rattle.steps.specs.Words.{Marks, Ages, Holds, worked}
 use Rattle.steps.proofs.MaskLaws.{mark-in}
 use Rattle.steps.proofs.MarkLaws.{marks-used, highest-is, highest-none}
+use Rattle.lemmas.proofs.Bools.{and-off}
 
 -- steps that change nothing from a place on
 upTo-rest : {A : Type 0} (l j : ℕ) (step : ℕ → A → A) (a : A) → ((k : ℕ) → l ≤ k → k < l + j → (x : A) → x ≡ step k x) → upTo l step a ≡ upTo (l + j) step a
@@ -70,10 +71,6 @@ end-none d finish m = refl
 end-off : (d : Description) (h : ℕ) (finish : Bool) (m : Machine) → (eqb (usedAt m h) (runOf d h) || finish) ≡ false → endRun d h finish m ≡ m
 unfolding endRun
 end-off d h finish m e = rw (e, and-off (not (eqb h 0))) refl
-  where
-    and-off : (b : Bool) → (b && false) ≡ false
-    and-off true = refl
-    and-off false = refl
 
 end-on : (d : Description) (h : ℕ) (finish : Bool) (m : Machine) → 1 ≤ h → (eqb (usedAt m h) (runOf d h) || finish) ≡ true → endRun d h finish m ≡ fire d h (clearInto d h (setUsed h 0 (setAwake h false m)))
 unfolding endRun

@@ -20,6 +20,7 @@ use Rattle.sets.specs.Sets.{member}
 use Rattle.sets.proofs.SetLaws.{member-none}
 use Rattle.wiring.specs.Rows.{bitAt, Marked, RowsOf, Wired}
 use Rattle.lemmas.proofs.Table.{getD-same}
+use Rattle.lemmas.proofs.Bools.{and-swap}
 
 -- a store at a node's word
 pub stored : (rows : List ℕ) (x w k i v : ℕ) → length rows ≡ 576 → x < 64 → w < 9 → i ≡ 9 * x + w → ((j : ℕ) → member v j ≡ (member (getD rows i 0) j || eqb j k)) → Marked rows x w k (set rows i v)
@@ -63,13 +64,7 @@ place-on l n w = ap (λ b. b && eqb (l % 64) (n % 64)) (same-test (eqb (w + l / 
 
 -- one link more
 one-more : (f : ℕ → Bool) (l n : ℕ) (a b : Bool) → a ≡ (ltb l n && f l) → b ≡ eqb l n → (c : Bool) → c ≡ f n → (a || (c && b)) ≡ (ltb l (n + 1) && f l)
-one-more f l n a b p q c r = rw (p, q, r) (ap (λ z. (ltb l n && f l) || z) (swap (f n) (eqb l n)) ∙ sym (less-more f l n) ∙ ap (λ k. ltb l k && f l) (sym (add-one n)))
-  where
-    swap : (a b : Bool) → (a && b) ≡ (b && a)
-    swap true true = refl
-    swap true false = refl
-    swap false true = refl
-    swap false false = refl
+one-more f l n a b p q c r = rw (p, q, r) (ap (λ z. (ltb l n && f l) || z) (and-swap (f n) (eqb l n)) ∙ sym (less-more f l n) ∙ ap (λ k. ltb l k && f l) (sym (add-one n)))
 
 module _ (n x y : ℕ) (few : n < 256) (rows r₁ r₂ r₃ : List ℕ) (a : Marked rows x (n / 64) (n % 64) r₁) (b : Marked r₁ y (4 + n / 64) (n % 64) r₂) (c : Marked r₂ x 8 y r₃) where
   pub wired-more : Wired rows n x y r₃

@@ -1,5 +1,6 @@
 -- What the calls for C and Rust answer: one number, and the lent bytes as they leave them.
 use Prim.Native.Nat.{ℕ, _+_, _-_, _*_, _/_, _%_}
+use mathlib.Core.Path.{_≡_}
 use mathlib.Core.Bool.{Bool, false, cond, _||_}
 use mathlib.Core.List.{List, _++_}
 use lib.ListN.{length, getD, drop}
@@ -74,3 +75,9 @@ codesAfter o d t calls outcomes = onDone o (filledBy (page d t (callsIn calls)) 
 abbrev pub recordAfter : Outcome → Description → ℕ → List ℕ → List ℕ → List ℕ
 recordAfter o d t calls out =
     onDone o (recordBytes (left d t (idle d t) (callsIn calls)) ++ drop 736 out) (λ r place. out)
+
+-- what a run answers, and what it leaves in the buffers of outcomes and of the record
+pub record RunReplied (s : List ℕ) (t : ℕ) (calls outcomes out outcomes′ out′ : List ℕ) (r : ℤ) : Type 0 where
+  pub answer : r ≡ runReply (runOutcome s t calls outcomes out)
+  pub codes : outcomes′ ≡ codesAfter (runOutcome s t calls outcomes out) (readFile s .description) t calls outcomes
+  pub bytes : out′ ≡ recordAfter (runOutcome s t calls outcomes out) (readFile s .description) t calls out

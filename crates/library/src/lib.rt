@@ -17,7 +17,7 @@ ghost use Rattle.model.specs.File.{readFile};
 ghost use Rattle.model.specs.Verdicts.{quotedFile};
 ghost use Rattle.model.specs.Report.{reported, pageReported};
 ghost use Rattle.steps.specs.Parts.{parts};
-ghost use Rattle.library.specs.Replies.{refusalCode, reportReply, quoteReply, byteIn, recordByte, recordBytes, runOutcome, runReply, codesAfter, recordAfter};
+ghost use Rattle.library.specs.Replies.{refusalCode, reportReply, quoteReply, byteIn, recordByte, recordBytes, RunReplied};
 
 // x itself.
 fn positive(x: u32) -> i64
@@ -135,9 +135,7 @@ pub extern "C" fn bench_run(
     outcomes: &mut [u8],
     state: &mut [u8],
 ) -> i64
-    ensures { λ r. ⌜ r ≡ runReply (runOutcome (now (file .entry)) tempo (now (calls .entry)) (now (outcomes .entry)) (now (state .entry))) ⌝ }
-    ensures { λ _. ⌜ now (outcomes .exit) ≡ codesAfter (runOutcome (now (file .entry)) tempo (now (calls .entry)) (now (outcomes .entry)) (now (state .entry))) (readFile (now (file .entry)) .description) tempo (now (calls .entry)) (now (outcomes .entry)) ⌝ }
-    ensures { λ _. ⌜ now (state .exit) ≡ recordAfter (runOutcome (now (file .entry)) tempo (now (calls .entry)) (now (outcomes .entry)) (now (state .entry))) (readFile (now (file .entry)) .description) tempo (now (calls .entry)) (now (state .entry)) ⌝ }
+    ensures { λ r. ⌜ RunReplied (now (file .entry)) tempo (now (calls .entry)) (now (outcomes .entry)) (now (state .entry)) (now (outcomes .exit)) (now (state .exit)) r ⌝ }
 {
     let read = files::read(file);
     let judged = read.outcome;

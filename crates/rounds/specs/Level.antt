@@ -39,6 +39,12 @@ pub record CountsOn (load gap d : ℕ) (ends : List ℕ) (u sum : ℕ) (after : 
   pub here : u < length ends → getD after u 0 ≡ getD ends u 0 + moreBy d (getD ends u 0) gap * gap
   pub others : (k : ℕ) → (k ≡ u → ⊥) → getD after k 0 ≡ getD ends k 0
 
+-- a round after the one that gave d from p: it is worked out by the firings that d has beyond those counted for p
+abbrev pub NextRound : List ℕ → List ℕ → ℕ → ℕ → List ℕ → List ℕ → ℕ → Type 0
+NextRound loads gaps n d ends after r =
+    (start p : ℕ) → p ≤ d → Counted loads gaps n p ends → d ≡ roundIn start loads gaps n p
+    → (r ≡ roundIn start loads gaps n d) × Counted loads gaps n d after
+
 -- where its rounds come to
 unfoldable pub reachIn : ℕ → List ℕ → List ℕ → ℕ → ℕ → ℕ
 reachIn start loads gaps n limit = reachOf (settle (suc limit) (roundIn start loads gaps n) limit start) limit

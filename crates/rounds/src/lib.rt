@@ -2,10 +2,10 @@
 
 ghost use mathlib.Core.Path.{_≡_};
 ghost use mathlib.Core.Bool.{true};
-ghost use Prim.Native.Nat.{ℕ, _+_, _*_, _≤_, _<_};
+ghost use Prim.Native.Nat.{_+_, _*_, _≤_, _<_};
 ghost use lib.ListN.{length};
 ghost use Rattle.model.specs.Delays.{spacings};
-ghost use Rattle.rounds.specs.Level.{LevelOn, roundIn, reachIn, shareIn, Counted, CountsOn};
+ghost use Rattle.rounds.specs.Level.{LevelOn, roundIn, reachIn, shareIn, Counted, CountsOn, NextRound};
 
 // How many spacings of m ticks a stretch of d ticks holds: rounded up, and at least 1.
 pub fn spacings_in(d: u64, m: u64) -> u64
@@ -71,7 +71,7 @@ fn count_on(load: u64, gap: u64, d: u64, ends: &mut [u64; 16], u: usize, sum: u6
 // A round after one that came to d: what the level may bring in a stretch of d ticks.
 fn next_reach(loads: &[u64; 16], gaps: &[u32; 16], n: usize, d: u64, ends: &mut [u64; 16]) -> u64
     requires { ⌜ LevelOn 0 (now loads) (now gaps) n × (d ≤ 1000000000) ⌝ }
-    ensures { λ r. ⌜ ((start p : ℕ) → p ≤ d → Counted (now (loads .entry)) (now (gaps .entry)) n p (now (ends .entry)) → d ≡ roundIn start (now (loads .entry)) (now (gaps .entry)) n p → (r ≡ roundIn start (now (loads .entry)) (now (gaps .entry)) n d) × Counted (now (loads .entry)) (now (gaps .entry)) n d (now (ends .exit))) ⌝ }
+    ensures { λ r. ⌜ NextRound (now (loads .entry)) (now (gaps .entry)) n d (now (ends .entry)) (now (ends .exit)) r ⌝ }
 {
     let mut sum = d;
     let mut u: usize = 0;

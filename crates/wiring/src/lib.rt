@@ -1,6 +1,7 @@
 // The links of a description as tables of sets: for each node the links out of it, the links into it and the tasks that it wakes.
 
 use model::Description;
+use numbers::index;
 ghost use mathlib.Core.Path.{_≡_};
 ghost use Prim.Native.Nat.{_<_};
 ghost use lib.ListN.{length};
@@ -16,13 +17,6 @@ pub struct Wiring {
     pub tasks: usize,
     pub runs: [u32; 32],
     pub sources: usize,
-}
-
-// The number of a node as a place in a table.
-fn slot(x: u8) -> usize
-    ensures { λ r. ⌜ r ≡ x ⌝ }
-{
-    x as usize
 }
 
 // Bit k of word w of node x is set.
@@ -56,7 +50,7 @@ pub fn wiring_of(d: Description) -> Wiring
     let mut l: usize = 0;
     while l < d.link_count {
         let link = d.links[l];
-        wire(&mut rows, l, slot(link.from), slot(link.to));
+        wire(&mut rows, l, index(link.from), index(link.to));
         to[l] = link.to;
         l += 1;
     }

@@ -23,7 +23,7 @@ returns : tie.Need-returns
 returns c =
     let a = c .before .before .before .before .before .before .before .before .before .args in
     let y = run-refused (a .file .now) (c .before .before .before .before .read .result) (c .before .before .before .before .read .ensures) (a .tempo) (a .calls .now) (a .outcomes .now) (a .state .now) (readFile (a .file .now) .description) (c .before .before .judged .given .0 .0) (c .before .before .judged .given .0 .1 .0) (run-unread (a .file .now) (c .before .before .before .before .read .result) (c .before .before .before .before .read .ensures) (a .tempo) (a .calls .now) (a .outcomes .now) (a .state .now) (c .before .before .judged .given .0 .0) (c .before .before .judged .given .0 .1 .0) (c .before .before .judged .given .1)) in
-    (toZ-ofZ w64 (c .refusal-code .result) (record { sfits = c .refusal-code .ok }) ∙ c .refusal-code .ensures ∙ y .0, (y .1, y .2))
+    record { answer = toZ-ofZ w64 (c .refusal-code .result) (record { sfits = c .refusal-code .ok }) ∙ c .refusal-code .ensures ∙ y .0; codes = y .1; bytes = y .2 }
 
 enum-told : tie.Need-enum-told
 enum-told c = search needs
@@ -38,7 +38,7 @@ returns-2 : tie.Need-returns-2
 returns-2 c =
     let a = c .before .before .before .before .before .before .before .before .before .before .before .args in
     let y = run-refused (a .file .now) (c .before .before .before .before .before .before .read .result) (c .before .before .before .before .before .before .read .ensures) (a .tempo) (a .calls .now) (a .outcomes .now) (a .state .now) (readFile (a .file .now) .description) OffKnob 0 (run-off (a .file .now) (c .before .before .before .before .before .before .read .result) (c .before .before .before .before .before .before .read .ensures) (a .tempo) (a .calls .now) (a .outcomes .now) (a .state .now) (c .before .before .before .before .enum-told .given .1) (sym (c .before .before .on-knob .ensures) ∙ not-true _ (c .before .if1 .taken))) in
-    (toZ-ofZ w64 (c .refusal-code2 .result) (record { sfits = c .refusal-code2 .ok }) ∙ c .refusal-code2 .ensures ∙ y .0, (y .1, y .2))
+    record { answer = toZ-ofZ w64 (c .refusal-code2 .result) (record { sfits = c .refusal-code2 .ok }) ∙ c .refusal-code2 .ensures ∙ y .0; codes = y .1; bytes = y .2 }
 
 refusal-code-requires-3 : tie.Need-refusal-code-requires-3
 refusal-code-requires-3 c κs = search needs
@@ -47,7 +47,7 @@ returns-3 : tie.Need-returns-3
 returns-3 c =
     let a = c .before .before .before .before .before .before .before .before .before .before .before .before .args in
     let y = run-refused (a .file .now) (c .before .before .before .before .before .before .before .read .result) (c .before .before .before .before .before .before .before .read .ensures) (a .tempo) (a .calls .now) (a .outcomes .now) (a .state .now) (readFile (a .file .now) .description) ShortPage 0 (run-short-record (a .file .now) (c .before .before .before .before .before .before .before .read .result) (c .before .before .before .before .before .before .before .read .ensures) (a .tempo) (a .calls .now) (a .outcomes .now) (a .state .now) (c .before .before .before .before .before .enum-told .given .1) (sym (c .before .before .before .on-knob .ensures) ∙ not-false _ (c .before .before .if1 .left)) (c .before .if2 .taken)) in
-    (toZ-ofZ w64 (c .refusal-code3 .result) (record { sfits = c .refusal-code3 .ok }) ∙ c .refusal-code3 .ensures ∙ y .0, (y .1, y .2))
+    record { answer = toZ-ofZ w64 (c .refusal-code3 .result) (record { sfits = c .refusal-code3 .ok }) ∙ c .refusal-code3 .ensures ∙ y .0; codes = y .1; bytes = y .2 }
 
 refusal-code-requires-4 : tie.Need-refusal-code-requires-4
 refusal-code-requires-4 c κs = search needs
@@ -56,7 +56,7 @@ returns-4 : tie.Need-returns-4
 returns-4 c =
     let a = c .before .before .before .before .before .before .before .before .before .before .before .before .before .args in
     let y = run-refused (a .file .now) (c .before .before .before .before .before .before .before .before .read .result) (c .before .before .before .before .before .before .before .before .read .ensures) (a .tempo) (a .calls .now) (a .outcomes .now) (a .state .now) (readFile (a .file .now) .description) ShortPage 0 (run-short-codes (a .file .now) (c .before .before .before .before .before .before .before .before .read .result) (c .before .before .before .before .before .before .before .before .read .ensures) (a .tempo) (a .calls .now) (a .outcomes .now) (a .state .now) (c .before .before .before .before .before .before .enum-told .given .1) (sym (c .before .before .before .before .on-knob .ensures) ∙ not-false _ (c .before .before .before .if1 .left)) (c .before .before .if2 .left) (c .before .if3 .taken)) in
-    (toZ-ofZ w64 (c .refusal-code4 .result) (record { sfits = c .refusal-code4 .ok }) ∙ c .refusal-code4 .ensures ∙ y .0, (y .1, y .2))
+    record { answer = toZ-ofZ w64 (c .refusal-code4 .result) (record { sfits = c .refusal-code4 .ok }) ∙ c .refusal-code4 .ensures ∙ y .0; codes = y .1; bytes = y .2 }
 
 run-accepted-requires : tie.Need-run-accepted-requires
 run-accepted-requires c κs = let a = c .before .before .before .before .before .before .before .before .before .before .before .before .before .args in read-done (a .file .now) (c .before .before .before .before .before .before .before .before .read .result) (c .before .before .before .before .before .before .before .before .read .ensures) (λ i. c .before .before .before .before .before .before .before .before .before .before .before .before .shared-slice-known .given i .fits) (c .before .before .before .before .before .before .enum-told .given .1) (a .tempo) (sym (c .before .before .before .before .on-knob .ensures) ∙ not-false _ (c .before .before .before .if1 .left))
@@ -76,7 +76,7 @@ returns-5 c =
     let done = run-whole (a .file .now) (c .before .before .before .before .before .before .before .before .before .before .before .before .before .before .before .read .result) (c .before .before .before .before .before .before .before .before .before .before .before .before .before .before .before .read .ensures) (a .tempo) (a .calls .now) (a .outcomes .now) (a .state .now) (c .before .before .before .before .before .before .before .before .before .before .before .before .before .enum-told .given .1) (sym (c .before .before .before .before .before .before .before .before .before .before .before .on-knob .ensures) ∙ not-false _ (c .before .before .before .before .before .before .before .before .before .before .if1 .left)) (c .before .before .before .before .before .before .before .before .before .if2 .left) (c .before .before .before .before .before .before .before .before .if3 .left) in
     let ran = run-machine (a .file .now) (c .before .before .before .before .before .before .before .before .before .before .before .before .before .before .before .read .result) (c .before .before .before .before .before .before .before .before .before .before .before .before .before .before .before .read .ensures) (a .tempo) (a .calls .now) (a .outcomes .now) (a .state .now) (c .before .before .before .before .before .before .run-accepted .result) (c .before .before .before .before .before .before .before .before .if3 .left) (c .before .before .before .before .before .before .run-accepted .ensures .answered) in
     let y = run-does (a .file .now) (c .before .before .before .before .before .before .before .before .before .before .before .before .before .before .before .read .result) (c .before .before .before .before .before .before .before .before .before .before .before .before .before .before .before .read .ensures) (a .tempo) (a .calls .now) (a .outcomes .now) (a .state .now) (c .before .before .before .before .before .before .run-accepted .result .machine) _ _ done ran (c .before .before .before .before .before .before .run-accepted .ensures .filled) (c .before .before .put-record .ensures) in
-    (y .0, (y .1, y .2))
+    record { answer = y .0; codes = y .1; bytes = y .2 }
 
 pub bench-run-spec : {M : Type 1} → statement M
 bench-run-spec =

@@ -26,18 +26,18 @@ mul-link c = omega (arith, c .before .before .pre .fields .few-links)
 element-copy-out-link : tie.Need-element-copy-out-link Inv-loop μ-loop
 element-copy-out-link c = omega (arith, c .before .before .pre .fields .few-links)
 
-slot-requires : tie.Need-slot-requires Inv-loop μ-loop
-slot-requires c κs = search needs
+index-requires : tie.Need-index-requires Inv-loop μ-loop
+index-requires c κs = search needs
 
-slot-requires-2 : tie.Need-slot-requires-2 Inv-loop μ-loop
-slot-requires-2 c κs = search needs
+index-requires-2 : tie.Need-index-requires-2 Inv-loop μ-loop
+index-requires-2 c κs = search needs
 
 wire-requires : tie.Need-wire-requires Inv-loop μ-loop
 wire-requires c κs =
     let S = c .before .before .before .before .before .before in
     let L = c .before .before .before .before .before .loop in
     let T = c .before .before .before .before .loop-test .taken in
-    (omega (arith, T, S .pre .fields .few-links), omega (arith, c .before .slot .ensures, from-low (S .args .t1) (S .pre) (L .l) T), omega (arith, c .slot2 .ensures, to-low (S .args .t1) (S .pre) (L .l) T), L .inv .2 .long)
+    (omega (arith, T, S .pre .fields .few-links), omega (arith, c .before .index .ensures, from-low (S .args .t1) (S .pre) (L .l) T), omega (arith, c .index2 .ensures, to-low (S .args .t1) (S .pre) (L .l) T), L .inv .2 .long)
 
 array-write-to : tie.Need-array-write-to Inv-loop μ-loop
 array-write-to c = omega (arith, c .before .before .before .before .before .before .before .pre .fields .few-links, c .before .before .before .before .before .loop-test .taken)
@@ -54,7 +54,7 @@ loop-again c =
     let L = c .before .before .before .before .before .before .loop in
     let T = c .before .before .before .before .before .loop-test .taken in
     let d = S .args .t1 in
-    (omega (arith, T), length-set (L .to) (L .l) (linkAt d (L .l) .to) ∙ L .inv .1, c .wire .ensures .wired d (sym (c .before .before .slot .ensures)) (sym (c .before .slot2 .ensures)) (L .inv .2), stored (λ k x. x ≡ linkAt d k .to) 0 (L .to) (L .l) (linkAt d (L .l) .to) (omega (arith, T, L .inv .1, S .pre .fields .few-links)) (L .inv .3) refl)
+    (omega (arith, T), length-set (L .to) (L .l) (linkAt d (L .l) .to) ∙ L .inv .1, c .wire .ensures .wired d (sym (c .before .before .index .ensures)) (sym (c .before .index2 .ensures)) (L .inv .2), stored (λ k x. x ≡ linkAt d k .to) 0 (L .to) (L .l) (linkAt d (L .l) .to) (omega (arith, T, L .inv .1, S .pre .fields .few-links)) (L .inv .3) refl)
 
 returns : tie.Need-returns Inv-loop μ-loop
 returns c =
@@ -81,8 +81,8 @@ wiring-of-spec =
     loop-holds
     mul-link
     element-copy-out-link
-    slot-requires
-    slot-requires-2
+    index-requires
+    index-requires-2
     wire-requires
     array-write-to
     add-l

@@ -13,9 +13,10 @@ use Rattle.model.specs.Basics.{anyN, upTo}
 use Rattle.model.specs.Graph.{linkAt, linked}
 use Rattle.model.specs.Machine.{awakeAt, waitingAt, droppedAt, ageAt, setAge, fire, arriveOne, arrive}
 use Rattle.lemmas.proofs.Tests.{Cmp, less, same, more, cmp, same-test, and-left, and-right, and-false-left, and-false-right, both, or-left, or-right, or-cases}
-use Rattle.lemmas.proofs.Bools.{or-idle, or-idle-right, or-assoc, and-on, any-suc}
+use Rattle.lemmas.proofs.Bools.{or-idle, or-idle-right, or-assoc, and-on, any-suc, less-more}
 use Rattle.theory.proofs.WellFormed.{WellFormed}
-use Rattle.assurance.proofs.Firing.{Sized, Fired, fired, fired-past, getD-set, less-more, drop-more}
+use Rattle.assurance.proofs.Firing.{Sized, Fired, fired, fired-past, drop-more}
+use Rattle.lemmas.proofs.Table.{getD-set}
 
 -- node x is one of the first n sources and its mark is set
 unfoldable pub comes : List Bool → ℕ → ℕ → Bool

@@ -14,9 +14,10 @@ use Rattle.model.specs.Graph.{linkAt}
 use Rattle.model.specs.Delays.{spacingOf}
 use Rattle.model.specs.Machine.{waitingAt, ageAt, highestIn, clearLink, clearInto, ageOne, ageAll}
 use Rattle.lemmas.proofs.Tests.{Cmp, less, same, more, cmp, and-false-right}
-use Rattle.lemmas.proofs.Bools.{and-on, and-not-or, set-false}
+use Rattle.lemmas.proofs.Bools.{and-on, and-not-or, set-false, less-more}
 use Rattle.theory.proofs.WellFormed.{WellFormed}
-use Rattle.assurance.proofs.Firing.{Sized, getD-set, less-more}
+use Rattle.assurance.proofs.Firing.{Sized}
+use Rattle.lemmas.proofs.Table.{getD-set}
 
 -- the highest awake task
 pub highest-le : (aw : List Bool) (n : ℕ) → highestIn aw n ≤ n

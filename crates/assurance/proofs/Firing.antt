@@ -13,9 +13,11 @@ use Rattle.model.specs.declared.Machine.{Machine}
 use Rattle.model.specs.Basics.{anyN, upTo}
 use Rattle.model.specs.Graph.{linkAt, system}
 use Rattle.model.specs.Machine.{awakeAt, waitingAt, droppedAt, setAwake, setWaiting, setDropped, markDropped, fireLink, fire}
-use Rattle.lemmas.proofs.Tests.{Cmp, less, same, more, cmp, same-test, and-left, and-false-right}
-use Rattle.lemmas.proofs.Bools.{or-off, or-on, or-idle, or-idle-right, or-assoc, and-on, set-true, any-next}
+use Rattle.lemmas.proofs.Tests.{Cmp, less, same, more, cmp, same-test, and-left, and-false-right, eqb-sym}
+use Rattle.lemmas.proofs.Bools.{or-off, or-on, or-idle, or-idle-right, or-assoc, and-on, set-true, any-next, less-more}
 use Rattle.theory.proofs.WellFormed.{WellFormed}
+use Rattle.lemmas.proofs.Table.{getD-set}
+use Rattle.theory.proofs.Links.{to-most}
 
 -- the record's lists have their lengths
 pub record Sized (m : Machine) : Type 0 where
@@ -25,28 +27,11 @@ pub record Sized (m : Machine) : Type 0 where
   pub droppeds : length (m .dropped) ≡ 256
   pub ages : length (m .ages) ≡ 16
 
--- an entry after a store
-pub getD-set : {A : Type 0} (l : List A) (i : ℕ) (v d : A) (k : ℕ) → i < length l → getD (set l i v) k d ≡ cond (eqb k i) v (getD l k d)
-getD-set l i v d k h = go (eqb k i) refl
-  where
-    go : (b : Bool) → eqb k i ≡ b → getD (set l i v) k d ≡ cond (eqb k i) v (getD l k d)
-    go true e = let q : k ≡ i = eqb-true k i e in rw e (rw q (getD-set-same l i v d h))
-    go false e = rw e (getD-set-other l i k v d (eqb-false k i e))
-
--- the same by task numbers, which begin at 1
+-- an entry after a store, by task numbers, which begin at 1
 pub getD-task : {A : Type 0} (l : List A) (h : ℕ) (v d : A) (k : ℕ) → 1 ≤ k → 1 ≤ h → h ≤ length l → getD (set l (h - 1) v) (k - 1) d ≡ cond (eqb k h) v (getD l (k - 1) d)
 getD-task l h v d k o p q =
     let e : eqb (k - 1) (h - 1) ≡ eqb k h = same-test (eqb (k - 1) (h - 1)) (eqb k h) (λ x. let y : k - 1 ≡ h - 1 = eqb-true (k - 1) (h - 1) x in eq-eqb k h (omega arith)) (λ x. let y : k ≡ h = eqb-true k h x in eq-eqb (k - 1) (h - 1) (omega arith)) in
     rw (← e) (getD-set l (h - 1) v d (k - 1) (omega arith))
-
--- one more number that a test is tried at
-pub less-more : (f : ℕ → Bool) (k n : ℕ) → (ltb k (suc n) && f k) ≡ ((ltb k n && f k) || (eqb k n && f n))
-less-more f k n = go (cmp k n)
-  where
-    go : Cmp k n → (ltb k (suc n) && f k) ≡ ((ltb k n && f k) || (eqb k n && f n))
-    go (less r) = rw (lt-ltb k n r, lt-ltb k (suc n) (omega arith), ne-eqb k n (λ e. omega arith)) (sym (or-off (f k)))
-    go (same r) = rw (le-ltb k n (omega arith), lt-ltb k (suc n) (omega arith), eq-eqb k n r) (ap f r)
-    go (more r) = rw (le-ltb k n (omega arith), le-ltb k (suc n) (omega arith), ne-eqb k n (λ e. omega arith)) refl
 
 pub less-apart : (f : ℕ → Bool) (k n : ℕ) → (ltb k n && f k) ≡ true → (eqb k n && f n) ≡ true → ⊥
 less-apart f k n p q =
@@ -113,18 +98,7 @@ mark-dropped l m p k = go (waitingAt m l) refl (eqb k l) refl
     go true e false f = rw (e, f) (getD-set (m .dropped) l true false k p ∙ rw f (or-idle-right (droppedAt m k) (waitingAt m k) false refl))
     go false e false f = rw (e, f) (or-idle-right (droppedAt m k) (waitingAt m k) false refl)
 
-pub eqb-sym : (a b : ℕ) → eqb a b ≡ eqb b a
-eqb-sym a b =
-    same-test (eqb a b) (eqb b a) (λ e. eq-eqb b a (sym (eqb-true a b e))) (λ e. eq-eqb a b (sym (eqb-true b a e)))
-
 module _ (d : Description) (wf : WellFormed d) where
-  pub to-some : (l : ℕ) → l < d .«link_count» → 1 ≤ linkAt d l .to
-  to-some l p = wf .fields .link-to l p .0
-
-  pub to-most : (l : ℕ) → l < d .«link_count» → linkAt d l .to ≤ 32
-  unfolding system
-  to-most l p = let h : linkAt d l .to ≤ d .«task_count» = wf .fields .link-to l p .1 in omega (arith, wf .fields .few-tasks)
-
   fire-off : (x l : ℕ) (m : Machine) → eqb (linkAt d l .from) x ≡ false → fireLink d x l m ≡ m
   unfolding fireLink
   fire-off x l m e = rw e refl
@@ -146,7 +120,7 @@ module _ (d : Description) (wf : WellFormed d) where
         };
         used = mark-used w l m;
         ages = mark-ages w l m;
-        awake = λ k o. rw (mark-awake w l m, e, eqb-sym (linkAt d l .to) k) (getD-task (m .awake) (linkAt d l .to) true false k o (to-some l p) (omega (arith, z .awakes, to-most l p)) ∙ set-true (eqb k (linkAt d l .to)) (awakeAt m k));
+        awake = λ k o. rw (mark-awake w l m, e, eqb-sym (linkAt d l .to) k) (getD-task (m .awake) (linkAt d l .to) true false k o (to-most d (wf .fields) l p .0) (omega (arith, z .awakes, to-most d (wf .fields) l p .1)) ∙ set-true (eqb k (linkAt d l .to)) (awakeAt m k));
         waiting = λ k. rw (mark-waiting w l m, e, and-on (eqb k l) true refl) (getD-set (m .waiting) l true false k (omega (arith, z .waitings, wf .fields .few-links)) ∙ set-true (eqb k l) (waitingAt m k));
         dropped = λ k. rw (e, and-on (eqb k l) true refl) (mark-dropped l m (omega (arith, z .droppeds, wf .fields .few-links)) k);
       }

@@ -12,10 +12,9 @@ use Rattle.model.specs.declared.Description.{Description}
 use Rattle.model.specs.Graph.{system, linkAt, linked}
 use Rattle.model.specs.Machine.{waitingAt, droppedAt, idle}
 use Rattle.model.specs.History.{Call}
-use Rattle.lemmas.proofs.Tests.{Cmp, less, same, more, cmp, not-both, and-left, and-right, both, or-left, or-right, or-new, or-else}
+use Rattle.lemmas.proofs.Tests.{Cmp, less, same, more, cmp, not-both, and-left, and-right, both, or-left, or-right, or-new, or-else, eqb-sym}
 use Rattle.lemmas.proofs.Range.{any-at}
 use Rattle.theory.proofs.WellFormed.{WellFormed, Loaded, IsTask, IsSource}
-use Rattle.assurance.proofs.Firing.{eqb-sym}
 use Rattle.assurance.proofs.Arriving.{comes}
 use Rattle.assurance.proofs.Machine.{at, marksAt, highAt, endAt, at-step, high-low}
 use Rattle.assurance.proofs.Replay.{stateAt}

@@ -4,7 +4,10 @@ use mathlib.Core.Path.{_≡_, refl, sym, ap, _∙_}
 use mathlib.Core.Bool.{Bool, true, false, _||_, _&&_, not, cond}
 use native.Mathlib.Nat.{zero-add}
 use Rattle.model.specs.Basics.{anyN}
-use Rattle.lemmas.proofs.Tests.{and-false-left, and-false-right}
+use Rattle.lemmas.proofs.Tests.{and-false-left, and-false-right, Cmp, less, same, more, cmp}
+use lib.Dec.{ltb, eqb}
+use borrow.Author.Tests.{eq-eqb, ne-eqb, lt-ltb, le-ltb}
+use native.Mathlib.Omega.{arith}
 
 pub or-off : (a : Bool) → (a || false) ≡ a
 or-off true = refl
@@ -59,3 +62,12 @@ any-suc p a n = refl
 
 pub any-next : (p : ℕ → Bool) (n : ℕ) → anyN p 0 (suc n) ≡ (anyN p 0 n || p n)
 any-next p n = any-suc p 0 n ∙ ap (λ (k : ℕ). anyN p 0 n || p k) (zero-add n)
+
+-- one more number that a test is tried at
+pub less-more : (f : ℕ → Bool) (k n : ℕ) → (ltb k (suc n) && f k) ≡ ((ltb k n && f k) || (eqb k n && f n))
+less-more f k n = go (cmp k n)
+  where
+    go : Cmp k n → (ltb k (suc n) && f k) ≡ ((ltb k n && f k) || (eqb k n && f n))
+    go (less r) = rw (lt-ltb k n r, lt-ltb k (suc n) (omega arith), ne-eqb k n (λ e. omega arith)) (sym (or-off (f k)))
+    go (same r) = rw (le-ltb k n (omega arith), lt-ltb k (suc n) (omega arith), eq-eqb k n r) (ap f r)
+    go (more r) = rw (le-ltb k n (omega arith), le-ltb k (suc n) (omega arith), ne-eqb k n (λ e. omega arith)) refl

@@ -9,6 +9,9 @@ use lib.ListN.{length, getD, set, take, drop, replicate, length-append, length-r
 use lib.Seq.{ext-getD, getD-at, getD-set-same, getD-set-other}
 use Rattle.model.specs.Basics.{tab, joined}
 use Rattle.lemmas.proofs.Tests.{Cmp, less, same, more, cmp}
+use mathlib.Core.Bool.{Bool, true, false, cond}
+use lib.Dec.{eqb}
+use borrow.Author.Tests.{eqb-true, eqb-false}
 
 pub length-tab : {A : Type 0} (n : ℕ) (f : ℕ → A) → length (tab n f) ≡ n
 unfolding tab
@@ -84,3 +87,11 @@ store-more out text i a b = rw add-one (go out text i a b)
     go (y ∷ out) (x ∷ text) zero a b = refl
     go (y ∷ out) (x ∷ text) (suc i) a b =
         ap (λ (l : List ℕ). x ∷ l) (go out text i (le-of-suc-le-suc a) (le-of-suc-le-suc b))
+
+-- an entry after a store
+pub getD-set : {A : Type 0} (l : List A) (i : ℕ) (v d : A) (k : ℕ) → i < length l → getD (set l i v) k d ≡ cond (eqb k i) v (getD l k d)
+getD-set l i v d k h = go (eqb k i) refl
+  where
+    go : (b : Bool) → eqb k i ≡ b → getD (set l i v) k d ≡ cond (eqb k i) v (getD l k d)
+    go true e = let q : k ≡ i = eqb-true k i e in rw e (rw q (getD-set-same l i v d h))
+    go false e = rw e (getD-set-other l i k v d (eqb-false k i e))

@@ -5,6 +5,8 @@ use mathlib.Core.Bool.{Bool, true, false, _||_, _&&_}
 use mathlib.Core.Logic.{_⊎_, ⊎-elim}
 use native.Mathlib.Omega.{arith}
 use native.Mathlib.Decide.{decLt}
+use lib.Dec.{eqb}
+use borrow.Author.Tests.{eq-eqb, eqb-true}
 
 -- three ways that two numbers can stand
 pub data Cmp (a b : ℕ) : Type 0 where
@@ -104,3 +106,7 @@ and-false-right false b e = refl
 -- by cases, the sum first
 pub cases : {A B C : Type 0} → A ⊎ B → (A → C) → (B → C) → C
 cases s f g = ⊎-elim f g s
+
+pub eqb-sym : (a b : ℕ) → eqb a b ≡ eqb b a
+eqb-sym a b =
+    same-test (eqb a b) (eqb b a) (λ e. eq-eqb b a (sym (eqb-true a b e))) (λ e. eq-eqb a b (sym (eqb-true b a e)))

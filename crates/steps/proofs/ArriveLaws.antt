@@ -18,7 +18,6 @@ use Rattle.lemmas.proofs.Tests.{same-test, not-both, and-left, and-right, and-f
 use Rattle.lemmas.proofs.Bools.{or-none, or-idle-right}
 use Rattle.lemmas.proofs.Range.{any-at, any-found, any-none}
 use Rattle.theory.proofs.WellFormed.{WellFormed}
-use Rattle.assurance.proofs.Firing.{getD-set}
 use Rattle.assurance.proofs.Arriving.{Arrived, arrived, comes, comes-of}
 use Rattle.sets.specs.declared.wide.Wide.{Wide}
 use Rattle.sets.specs.Sets.{member}
@@ -31,6 +30,7 @@ use Rattle.steps.specs.Parts.{heard, marksIn, Known}
 use Rattle.steps.specs.Words.{wideAt, Sent, Ages, Holds}
 use Rattle.steps.proofs.MaskLaws.{Turn, mark-in, heard-under, passed, any-turn}
 use Rattle.steps.proofs.MarkLaws.{row-out, woken, marks-sent}
+use Rattle.lemmas.proofs.Table.{getD-set}
 
 -- the links out of the sources of a mask below r, the tasks that they wake, and the ticks at which each may come next
 pub record Joined (rows gaps : List ℕ) (mask r tick : ℕ) (ready₀ ready : List ℕ) (out : Wide) (wakes : ℕ) : Type 0 where

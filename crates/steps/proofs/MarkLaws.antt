@@ -15,7 +15,7 @@ use Rattle.model.specs.Machine.{awakeAt, waitingAt, droppedAt, setAwake, setUse
 use Rattle.lemmas.proofs.Tests.{Cmp, less, same, more, cmp, not-both, false-of, and-left, and-right, or-cases, or-false}
 use Rattle.lemmas.proofs.Range.{any-found}
 use Rattle.theory.proofs.WellFormed.{WellFormed}
-use Rattle.assurance.proofs.Firing.{Sized, Fired, fired, getD-task, to-some}
+use Rattle.assurance.proofs.Firing.{Sized, Fired, fired, getD-task}
 use Rattle.assurance.proofs.Ending.{highest-above, highest-awake, Cleared, cleared}
 use Rattle.sets.specs.declared.wide.Wide.{Wide}
 use Rattle.sets.specs.Sets.{member, LastIn}
@@ -24,6 +24,7 @@ use Rattle.sets.proofs.SetLaws.{member-none}
 use Rattle.wiring.specs.Rows.{RowsOf}
 use Rattle.steps.specs.declared.words.Words.{Words}
 use Rattle.steps.specs.Words.{wideAt, Sent, Marks}
+use Rattle.theory.proofs.Links.{to-most}
 
 -- a node's words as a set: the links out of it, and those into it
 row-word : (rows : List ℕ) (i v : ℕ) → v < 4 → wordIn (wideAt rows i) v ≡ getD rows (i + v) 0
@@ -68,7 +69,7 @@ woken d rows g r x k e =
     let y : linkAt d (z .at) .to ≡ k = eqb-true (linkAt d (z .at) .to) k (and-right (eqb (linkAt d (z .at) .from) x) _ (z .passes)) in
     let i : z .at < d .«link_count» = omega (arith, z .within) in
     let t : linkAt d (z .at) .to ≤ d .«task_count» = g .fields .link-to (z .at) i .1 in
-    (omega (arith, to-some d g (z .at) i), omega arith)
+    (omega (arith, to-most d (g .fields) (z .at) i .0), omega arith)
 
 -- links have fired together, and so they have in the record
 module _ (d : Description) (w w′ : Words) (out : Wide) (wakes : ℕ) (s : Sent w out wakes w′) (m m′ : Machine) (tasks : (k : ℕ) → member wakes k ≡ true → (1 ≤ k) × (k ≤ d .«task_count»)) (z : Sized m′) (a : (k : ℕ) → 1 ≤ k → awakeAt m′ k ≡ (awakeAt m k || member wakes k)) (b : (l : ℕ) → waitingAt m′ l ≡ (waitingAt m l || inside out l)) (c : (l : ℕ) → droppedAt m′ l ≡ (droppedAt m l || (waitingAt m l && inside out l))) where

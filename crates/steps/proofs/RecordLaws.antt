@@ -19,7 +19,7 @@ use Rattle.lemmas.proofs.Table.{getD-tab, length-tab, getD-same}
 use Rattle.lemmas.proofs.Range.{all-at}
 use Rattle.theory.proofs.WellFormed.{WellFormed}
 use Rattle.theory.proofs.Spacing.{gap-some}
-use Rattle.assurance.proofs.Firing.{Sized, less-more}
+use Rattle.assurance.proofs.Firing.{Sized}
 use Rattle.sets.specs.declared.wide.Wide.{Wide}
 use Rattle.sets.specs.Sets.{member}
 use Rattle.sets.specs.Wide.{wordIn, inside}
@@ -28,7 +28,7 @@ use Rattle.steps.specs.declared.words.Words.{Words}
 use Rattle.spacings.specs.Gaps.{GapsOf}
 use Rattle.steps.specs.Words.{Holds}
 use Rattle.steps.specs.Record.{AwakeOf, AwakeIn, LinksOf, AgesOf, ReadyOf, Begins}
-use Rattle.lemmas.proofs.Bools.{and-off, and-swap}
+use Rattle.lemmas.proofs.Bools.{and-off, and-swap, less-more}
 
 -- a number that is marked
 pub on : (a b c : Bool) → b ≡ true → (a || c) ≡ (a || (b && c))

@@ -12,15 +12,15 @@ use borrow.Author.Tests.{eq-eqb, ne-eqb, eqb-true, le-ltb}
 use Rattle.model.specs.declared.Description.{Description}
 use Rattle.model.specs.Basics.{anyN}
 use Rattle.model.specs.Graph.{linkAt, system}
-use Rattle.lemmas.proofs.Tests.{same-test, and-left, and-right, both}
+use Rattle.lemmas.proofs.Tests.{same-test, and-left, and-right, both, eqb-sym}
 use Rattle.lemmas.proofs.Range.{any-more}
 use Rattle.theory.proofs.WellFormed.{WellFormed, IsTask, IsSource}
-use Rattle.assurance.proofs.Firing.{getD-set, less-more, eqb-sym, to-most}
 use Rattle.sets.specs.Sets.{member}
 use Rattle.sets.proofs.SetLaws.{member-none}
 use Rattle.wiring.specs.Rows.{bitAt, Marked, RowsOf, Wired}
-use Rattle.lemmas.proofs.Table.{getD-same}
-use Rattle.lemmas.proofs.Bools.{and-swap}
+use Rattle.lemmas.proofs.Table.{getD-same, getD-set}
+use Rattle.lemmas.proofs.Bools.{and-swap, less-more}
+use Rattle.theory.proofs.Links.{to-most}
 
 -- a store at a node's word
 pub stored : (rows : List ℕ) (x w k i v : ℕ) → length rows ≡ 576 → x < 64 → w < 9 → i ≡ 9 * x + w → ((j : ℕ) → member v j ≡ (member (getD rows i 0) j || eqb j k)) → Marked rows x w k (set rows i v)
@@ -101,4 +101,4 @@ from-low d g l h = go (g .fields .link-from l h)
     go (inr s) = let e : linkAt d l .from < 33 + d .«source_count» = s .1 in omega (arith, g .fields .few-sources)
 
 pub to-low : (d : Description) → WellFormed d → (l : ℕ) → l < d .«link_count» → linkAt d l .to < 64
-to-low d g l h = omega (arith, to-most d g l h)
+to-low d g l h = omega (arith, to-most d (g .fields) l h .1)

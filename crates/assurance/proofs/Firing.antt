@@ -5,15 +5,14 @@ use mathlib.Core.Bool.{Bool, true, false, _||_, _&&_, cond}
 use mathlib.Core.List.{List}
 use native.Mathlib.Omega.{arith}
 use lib.ListN.{length, getD, set, length-set}
-use lib.Seq.{getD-set-same, getD-set-other}
 use lib.Dec.{ltb, eqb}
-use borrow.Author.Tests.{eqb-true, eqb-false, eq-eqb, ne-eqb, lt-ltb, le-ltb, ltb-true}
+use borrow.Author.Tests.{eqb-true, eq-eqb, le-ltb, ltb-true}
 use Rattle.model.specs.declared.Description.{Description}
 use Rattle.model.specs.declared.Machine.{Machine}
 use Rattle.model.specs.Basics.{anyN, upTo}
-use Rattle.model.specs.Graph.{linkAt, system}
+use Rattle.model.specs.Graph.{linkAt}
 use Rattle.model.specs.Machine.{awakeAt, waitingAt, droppedAt, setAwake, setWaiting, setDropped, markDropped, fireLink, fire}
-use Rattle.lemmas.proofs.Tests.{Cmp, less, same, more, cmp, same-test, and-left, and-false-right, eqb-sym}
+use Rattle.lemmas.proofs.Tests.{same-test, and-left, and-false-right, eqb-sym}
 use Rattle.lemmas.proofs.Bools.{or-off, or-on, or-idle, or-idle-right, or-assoc, and-on, set-true, any-next, less-more}
 use Rattle.theory.proofs.WellFormed.{WellFormed}
 use Rattle.lemmas.proofs.Table.{getD-set}

@@ -132,9 +132,15 @@ impl Machine {
         if members(arrivals.into()).any(|source| self.may_fire[source] > self.now) {
             return Err(Refusal::of(Word::TooSoon));
         }
-        for source in members(arrivals.into()) {
-            self.fire(TASKS + source);
-            self.may_fire[source] = self.now + u64::from(self.spacings[source]);
+        if arrivals != 0 {
+            let mut fired = LinkSet::default();
+            let mut wakes = 0;
+            for source in members(arrivals.into()) {
+                fired.map(&self.out_of[TASKS + source], |fired, out| fired | out);
+                wakes |= self.wakes[TASKS + source];
+                self.may_fire[source] = self.now + u64::from(self.spacings[source]);
+            }
+            self.send(&fired, wakes);
         }
         if self.awake != 0 {
             self.run_highest(finish);
@@ -143,15 +149,16 @@ impl Machine {
         Ok(())
     }
 
+    /// Sends an event over each of a set of links, and wakes the tasks they lead to. Nodes share no link, so those that fire
+    /// together can be joined first.
     #[inline]
-    fn fire(&mut self, node: usize) {
-        let fired = &self.out_of[node];
+    fn send(&mut self, fired: &LinkSet, wakes: u32) {
         let waiting = self.waiting;
         self.waiting.map(fired, |waiting, fired| waiting | fired);
         for (place, dropped) in self.dropped.0.iter_mut().enumerate() {
             *dropped |= waiting.0[place] & fired.0[place];
         }
-        self.awake |= self.wakes[node];
+        self.awake |= wakes;
     }
 
     /// Runs the highest awake task for this tick and, if that ends its run, lets it fire.
@@ -163,7 +170,8 @@ impl Machine {
             self.awake &= !(1 << task);
             self.used[task] = 0;
             self.waiting.map(&self.into[task], |waiting, into| waiting & !into);
-            self.fire(task);
+            let fired = self.out_of[task];
+            self.send(&fired, self.wakes[task]);
         }
     }
 

@@ -15,7 +15,7 @@ use Rattle.model.specs.Delays.{spacingOf}
 use Rattle.model.specs.Machine.{taskRule, linkRule, sourceRule}
 use Rattle.lemmas.proofs.Tests.{same-test, false-of, not-both, both}
 use Rattle.lemmas.proofs.Range.{all-at}
-use Rattle.assurance.proofs.Firing.{to-some, to-most}
+use Rattle.theory.proofs.Links.{to-most}
 use Rattle.wiring.specs.declared.Wiring.{Wiring}
 use Rattle.wiring.specs.Rows.{WiringOf}
 use Rattle.spacings.specs.Gaps.{GapsOf}
@@ -70,8 +70,8 @@ entered d w r = record {
   few = omega (arith, r .many, r .formed .fields .few-links);
   some = λ l h.
       let k : l < d .«link_count» = omega (arith, r .many) in
-      omega (arith, r .enters l h, to-some d (r .formed) l k);
+      omega (arith, r .enters l h, to-most d (r .formed .fields) l k .0);
   most = λ l h.
       let k : l < d .«link_count» = omega (arith, r .many) in
-      omega (arith, r .enters l h, to-most d (r .formed) l k);
+      omega (arith, r .enters l h, to-most d (r .formed .fields) l k .1);
 }

@@ -1,10 +1,11 @@
 -- Signed replies, the bytes of a record, and the place of a refusal. Assumes nothing.
-use Prim.Native.Nat.{ℕ, zero, suc, _+_, _-_, _/_, _%_, _^_, _≤_, _<_}
+use Prim.Native.Nat.{ℕ, zero, suc, _+_, _-_, _*_, _/_, _%_, _^_, _≤_, _<_}
 use mathlib.Core.Path.{_≡_, refl, sym, ap, subst, _∙_}
 use mathlib.Core.Bool.{Bool, true, false}
 use mathlib.Core.List.{List, _++_}
 use native.Mathlib.Omega.{arith}
-use lib.ListN.{length, getD, set, take, drop}
+use native.Mathlib.Nat.{zero-add}
+use lib.ListN.{length, getD, set, take, drop, length-set}
 use lib.Seq.{take-all}
 use lib.Dec.{ltb}
 use lib.IntN.{ℤ, pos, negℤ, _-ℤ_, +ℤ-idl}
@@ -30,7 +31,7 @@ use Rattle.theory.proofs.NumberBytes.{Bytes as AllBytes}
 use Rattle.theory.proofs.FileLength.{read-place}
 use Rattle.theory.proofs.ReadBack.{read-judged}
 use Rattle.machine.proofs.RunLaws.{store-turn}
-use Rattle.library.specs.Replies.{bit, byteIn, recordByte, recordBytes}
+use Rattle.library.specs.Replies.{bit, byteIn, recordByte, recordBytes, Puts}
 
 -- a number below 2 ^ 32 and its negative, as 64 bits with a sign
 pub pos-fits : (x : ℕ) → x < 2 ^ 32 → SFits w64 (pos x)
@@ -95,15 +96,47 @@ record-length : (m : Machine) → length (recordBytes m) ≡ 736
 unfolding recordBytes
 record-length m = length-tab 736 (recordByte m)
 
--- a record is stored byte by byte
-pub record-turn : (m : Machine) (out out₁ : List ℕ) (i b : ℕ) → 736 ≤ length out → i < 736 → out₁ ≡ take i (recordBytes m) ++ drop i out → b ≡ recordByte m i → set out₁ i b ≡ take (i + 1) (recordBytes m) ++ drop (i + 1) out
-unfolding recordBytes
-record-turn m out out₁ i b h k e f =
-    store-turn out out₁ (recordBytes m) i b (omega arith) (omega (arith, record-length m)) e (f ∙ sym (getD-tab 736 (recordByte m) 0 i k))
+-- bytes put one by one
+pub puts-none : (byte : ℕ → ℕ) (at : ℕ) (out : List ℕ) → Puts 0 byte at out out
+puts-none byte at out = record { sized = refl; bytes = λ text out₀ a b f e. let q : at ≡ at + 0 = omega arith in e ∙ ap (λ i. take i text ++ drop i out₀) q }
 
-pub record-whole : (m : Machine) (out out₁ : List ℕ) (i : ℕ) → i ≡ 736 → out₁ ≡ take i (recordBytes m) ++ drop i out → out₁ ≡ recordBytes m ++ drop 736 out
-record-whole m out out₁ i q e =
-    e ∙ ap (λ k. take k (recordBytes m) ++ drop k out) q ∙ ap (λ (l : List ℕ). l ++ drop 736 out) (take-all 736 (recordBytes m) (omega (arith, record-length m)))
+pub puts-more : (byte : ℕ → ℕ) (at : ℕ) (out out₁ : List ℕ) (k b : ℕ) → Puts k byte at out out₁ → b ≡ byte k → Puts (k + 1) byte at out (set out₁ (at + k) b)
+puts-more byte at out out₁ k b p e =
+    record {
+      sized = length-set out₁ (at + k) b ∙ p .sized;
+      bytes = λ text out₀ h₁ h₂ f g.
+          let q : at + k + 1 ≡ at + (k + 1) = omega arith in
+          store-turn out₀ out₁ text (at + k) b (omega arith) (omega arith) (p .bytes text out₀ (omega arith) (omega arith) (λ j h. f j (omega arith)) g) (e ∙ sym (f k (omega arith)))
+          ∙ ap (λ i. take i text ++ drop i out₀) q;
+    }
+
+-- a record is put part by part
+module _ (m : Machine) where
+  at-byte : (i : ℕ) → i < 736 → getD (recordBytes m) i 0 ≡ recordByte m i
+  unfolding recordBytes
+  at-byte i h = getD-tab 736 (recordByte m) 0 i h
+
+  marks : (at k : ℕ) → at + k - at ≡ k
+  marks at k = omega arith
+
+  module _ (out a₁ a₂ a₃ a₄ a₅ : List ℕ) (h : 736 ≤ length out) (n₁ n₂ n₃ n₄ n₅ : ℕ) (e₁ : n₁ ≡ 32) (e₂ : n₂ ≡ 32) (e₃ : n₃ ≡ 256) (e₄ : n₄ ≡ 256) (e₅ : n₅ ≡ 16) where
+    pub record-put : Puts n₁ (λ k. bit (getD (m .awake) k false)) 0 out a₁ → Puts (4 * n₂) (λ k. byteIn (getD (m .used) (k / 4) 0) (k % 4)) 32 a₁ a₂ → Puts n₃ (λ k. bit (getD (m .waiting) k false)) 160 a₂ a₃ → Puts n₄ (λ k. bit (getD (m .dropped) k false)) 416 a₃ a₄ → Puts (4 * n₅) (λ k. byteIn (getD (m .ages) (k / 4) 0) (k % 4)) 672 a₄ a₅ → a₅ ≡ recordBytes m ++ drop 736 out
+    record-put p₁ p₂ p₃ p₄ p₅ =
+        let l = record-length m in
+        let q₁ : 0 + n₁ ≡ 32 = omega arith in
+        let q₂ : 32 + 4 * n₂ ≡ 160 = omega arith in
+        let q₃ : 160 + n₃ ≡ 416 = omega arith in
+        let q₄ : 416 + n₄ ≡ 672 = omega arith in
+        let q₅ : 672 + 4 * n₅ ≡ 736 = omega arith in
+        let b₁ : a₁ ≡ take 32 (recordBytes m) ++ drop 32 out = p₁ .bytes (recordBytes m) out (omega arith) (omega arith) (λ k j. at-byte (0 + k) (omega arith) ∙ sym (byte-awake m (0 + k) (omega arith)) ∙ ap (λ i. bit (getD (m .awake) i false)) (zero-add k)) refl ∙ ap up q₁ in
+        let b₂ : a₂ ≡ take 160 (recordBytes m) ++ drop 160 out = p₂ .bytes (recordBytes m) out (omega arith) (omega arith) (λ k j. at-byte (32 + k) (omega arith) ∙ sym (byte-used m (32 + k) (omega arith) (omega arith)) ∙ ap (λ i. byteIn (getD (m .used) (i / 4) 0) (i % 4)) (marks 32 k)) b₁ ∙ ap up q₂ in
+        let b₃ : a₃ ≡ take 416 (recordBytes m) ++ drop 416 out = p₃ .bytes (recordBytes m) out (omega arith) (omega arith) (λ k j. at-byte (160 + k) (omega arith) ∙ sym (byte-waiting m (160 + k) (omega arith) (omega arith)) ∙ ap (λ i. bit (getD (m .waiting) i false)) (marks 160 k)) b₂ ∙ ap up q₃ in
+        let b₄ : a₄ ≡ take 672 (recordBytes m) ++ drop 672 out = p₄ .bytes (recordBytes m) out (omega arith) (omega arith) (λ k j. at-byte (416 + k) (omega arith) ∙ sym (byte-dropped m (416 + k) (omega arith) (omega arith)) ∙ ap (λ i. bit (getD (m .dropped) i false)) (marks 416 k)) b₃ ∙ ap up q₄ in
+        let b₅ : a₅ ≡ take 736 (recordBytes m) ++ drop 736 out = p₅ .bytes (recordBytes m) out (omega arith) (omega arith) (λ k j. at-byte (672 + k) (omega arith) ∙ sym (byte-ages m (672 + k) (omega arith)) ∙ ap (λ i. byteIn (getD (m .ages) (i / 4) 0) (i % 4)) (marks 672 k)) b₄ ∙ ap up q₅ in
+        b₅ ∙ ap (λ (x : List ℕ). x ++ drop 736 out) (take-all 736 (recordBytes m) (omega arith))
+      where
+        up : ℕ → List ℕ
+        up i = take i (recordBytes m) ++ drop i out
 
 -- the place of a file's refusal
 abbrev quotePlace : Quote → ℕ

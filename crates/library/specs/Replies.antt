@@ -1,9 +1,9 @@
 -- What the calls for C and Rust answer: one number, and the lent bytes as they leave them.
-use Prim.Native.Nat.{ℕ, _+_, _-_, _*_, _/_, _%_}
+use Prim.Native.Nat.{ℕ, _+_, _-_, _*_, _/_, _%_, _≤_, _<_}
 use mathlib.Core.Path.{_≡_}
 use mathlib.Core.Bool.{Bool, false, cond, _||_}
 use mathlib.Core.List.{List, _++_}
-use lib.ListN.{length, getD, drop}
+use lib.ListN.{length, getD, take, drop}
 use lib.Dec.{ltb, eqb}
 use lib.IntN.{ℤ, pos, negℤ}
 use Rattle.model.specs.declared.Description.{Description}
@@ -56,6 +56,11 @@ recordByte m i =
 
 unfoldable pub recordBytes : Machine → List ℕ
 recordBytes m = tab 736 (recordByte m)
+
+-- n bytes are put from a place on: a buffer that has a text's bytes up to there has them up to the end of the n
+pub record Puts (n : ℕ) (byte : ℕ → ℕ) (at : ℕ) (out out′ : List ℕ) : Type 0 where
+  pub sized : length out′ ≡ length out
+  pub bytes : (text out₀ : List ℕ) → at + n ≤ length text → at + n ≤ length out₀ → ((k : ℕ) → k < n → getD text (at + k) 0 ≡ byte k) → out ≡ take at text ++ drop at out₀ → out′ ≡ take (at + n) text ++ drop (at + n) out₀
 
 -- a run: refused as its file is, then 11, then 13 where a buffer is short; the buffers change only if it is done
 unfoldable pub runOutcome : List ℕ → ℕ → List ℕ → List ℕ → List ℕ → Outcome

@@ -9,15 +9,15 @@ use refusals::number_of;
 use spacings::on_knob;
 use ticks::run_accepted;
 ghost use mathlib.Core.Path.{_≡_};
-ghost use Prim.Native.Nat.{_<_, _≤_};
+ghost use mathlib.Core.Bool.{false};
+ghost use Prim.Native.Nat.{_+_, _*_, _/_, _%_, _<_, _≤_};
 ghost use mathlib.Core.List.{_++_};
-ghost use lib.ListN.{length, drop};
+ghost use lib.ListN.{length, getD, drop};
 ghost use lib.IntN.{pos, negℤ};
 ghost use Rattle.model.specs.File.{readFile};
 ghost use Rattle.model.specs.Verdicts.{quotedFile};
 ghost use Rattle.model.specs.Report.{reported, pageReported};
-ghost use Rattle.steps.specs.Parts.{parts};
-ghost use Rattle.library.specs.Replies.{refusalCode, reportReply, quoteReply, byteIn, recordByte, recordBytes, RunReplied};
+ghost use Rattle.library.specs.Replies.{refusalCode, reportReply, quoteReply, bit, byteIn, recordBytes, Puts, RunReplied};
 
 // x itself.
 fn positive(x: u32) -> i64
@@ -58,31 +58,28 @@ fn byte_of(n: u32, k: usize) -> u8
     (n % 256) as u8
 }
 
-// Byte i of a machine's record.
-fn record_byte(
-    awake: &[bool; 32],
-    used: &[u32; 32],
-    waiting: &[bool; 256],
-    dropped: &[bool; 256],
-    ages: &[u32; 16],
-    i: usize,
-) -> u8
-    requires { ⌜ i < 736 ⌝ }
-    ensures { λ r. ⌜ r ≡ recordByte (parts (now (awake .entry)) (now (used .entry)) (now (waiting .entry)) (now (dropped .entry)) (now (ages .entry))) i ⌝ }
+// A byte for each mark, from a place of the buffer on.
+fn put_marks(marks: &[bool], out: &mut [u8], at: usize)
+    requires { ⌜ at + length (now marks) ≤ length (now out) ⌝ }
+    ensures { λ _. ⌜ Puts (length (now (marks .entry))) (λ k. bit (getD (now (marks .entry)) k false)) at (now (out .entry)) (now (out .exit)) ⌝ }
 {
-    if i < 32 {
-        return awake[i] as u8;
+    let mut k: usize = 0;
+    while k < marks.len() {
+        out[at + k] = marks[k] as u8;
+        k += 1;
     }
-    if i < 160 {
-        return byte_of(used[(i - 32) / 4], (i - 32) % 4);
+}
+
+// Four bytes for each number, from a place of the buffer on.
+fn put_numbers(numbers: &[u32], out: &mut [u8], at: usize)
+    requires { ⌜ (length (now numbers) ≤ 32) × (at + 4 * length (now numbers) ≤ length (now out)) ⌝ }
+    ensures { λ _. ⌜ Puts (4 * length (now (numbers .entry))) (λ k. byteIn (getD (now (numbers .entry)) (k / 4) 0) (k % 4)) at (now (out .entry)) (now (out .exit)) ⌝ }
+{
+    let mut k: usize = 0;
+    while k < 4 * numbers.len() {
+        out[at + k] = byte_of(numbers[k / 4], k % 4);
+        k += 1;
     }
-    if i < 416 {
-        return waiting[i - 160] as u8;
-    }
-    if i < 672 {
-        return dropped[i - 416] as u8;
-    }
-    byte_of(ages[(i - 672) / 4], (i - 672) % 4)
 }
 
 // A machine's record into a buffer that takes it.
@@ -90,16 +87,11 @@ fn put_record(m: Machine, out: &mut [u8])
     requires { ⌜ 736 ≤ length (now out) ⌝ }
     ensures { λ _. ⌜ now (out .exit) ≡ recordBytes m ++ drop 736 (now (out .entry)) ⌝ }
 {
-    let awake = m.awake;
-    let used = m.used;
-    let waiting = m.waiting;
-    let dropped = m.dropped;
-    let ages = m.ages;
-    let mut i: usize = 0;
-    while i < 736 {
-        out[i] = record_byte(&awake, &used, &waiting, &dropped, &ages, i);
-        i += 1;
-    }
+    put_marks(&m.awake, &mut *out, 0);
+    put_numbers(&m.used, &mut *out, 32);
+    put_marks(&m.waiting, &mut *out, 160);
+    put_marks(&m.dropped, &mut *out, 416);
+    put_numbers(&m.ages, out, 672);
 }
 
 // The report of a file into a buffer: its length, or -13 and no byte changed.

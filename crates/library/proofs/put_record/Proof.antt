@@ -1,56 +1,48 @@
--- `put_record` meets its contract: after i turns the first i bytes are the record's. Assumes nothing.
-use Rattle.library.proofs.Laws.{record-turn, record-whole}
-use Prim.Native.Nat.{_-_, _≤_}
-use mathlib.Core.Path.{_≡_, refl, _∙_}
-use mathlib.Core.List.{_++_}
-use native.Mathlib.Omega.{arith}
-use lib.ListN.{length, take, drop, length-set}
-use Rattle.steps.specs.Parts.{parts}
-use Rattle.library.specs.Replies.{recordBytes}
+-- `put_record` meets its contract: the parts are put one after the other. Assumes nothing.
+use mathlib.Core.Path.{_≡_}
+use lib.ListN.{length}
+use Rattle.library.proofs.Laws.{record-put}
+use borrow.Author.Needs.{needs}
 use Rattle.library.proofs.put_record.Statement.{statement}
 use Rattle.library.proofs.put_record.Tie as tie
 
-abbrev Inv-loop : tie.InvT-loop
-Inv-loop out₀ awake used waiting dropped ages i₀ out i = (i ≤ 736) × (length out ≡ length out₀) × (out ≡ take i (recordBytes (parts awake used waiting dropped ages)) ++ drop i out₀)
+put-marks-requires : tie.Need-put-marks-requires
+put-marks-requires c κs = search needs
 
-abbrev μ-loop : tie.MeasureT-loop
-μ-loop out₀ awake used waiting dropped ages i₀ out i = 736 - i
+put-numbers-requires : tie.Need-put-numbers-requires
+put-numbers-requires c κs = search needs
 
-loop-holds : tie.Need-loop-holds Inv-loop μ-loop
-loop-holds c = (omega arith, refl, refl)
+put-marks-requires-2 : tie.Need-put-marks-requires-2
+put-marks-requires-2 c κs = search needs
 
-record-byte-requires : tie.Need-record-byte-requires Inv-loop μ-loop
-record-byte-requires c κs = omega (arith, c .before .before .before .before .before .loop-test .taken)
+put-marks-requires-3 : tie.Need-put-marks-requires-3
+put-marks-requires-3 c κs = search needs
 
-slice-write-out : tie.Need-slice-write-out Inv-loop μ-loop
-slice-write-out c = omega (arith, c .before .before .before .before .before .before .loop-test .taken, c .before .before .before .before .before .before .before .loop .inv .1, c .before .before .before .before .before .before .before .before .before .before .before .before .before .before .pre)
+put-numbers-requires-2 : tie.Need-put-numbers-requires-2
+put-numbers-requires-2 c κs = search needs
 
-add-i : tie.Need-add-i Inv-loop μ-loop
-add-i c = omega (arith, c .before .before .before .before .before .before .loop-test .taken)
+same-length : tie.Need-same-length
+same-length c = search needs
 
-loop-less : tie.Need-loop-less Inv-loop μ-loop
-loop-less c = omega (arith, c .before .before .before .before .before .before .loop-test .taken)
-
-loop-again : tie.Need-loop-again Inv-loop μ-loop
-loop-again c = (omega (arith, c .before .before .before .before .before .before .loop-test .taken), length-set (c .before .before .before .before .before .before .before .loop .out) (c .before .before .before .before .before .before .before .loop .i) (c .record-byte .result) ∙ c .before .before .before .before .before .before .before .loop .inv .1, record-turn (c .before .before .before .before .before .before .before .before .before .before .before .before .before .before .args .m) (c .before .before .before .before .before .before .before .before .before .before .before .before .before .before .args .out .now) (c .before .before .before .before .before .before .before .loop .out) (c .before .before .before .before .before .before .before .loop .i) (c .record-byte .result) (c .before .before .before .before .before .before .before .before .before .before .before .before .before .before .pre) (c .before .before .before .before .before .before .loop-test .taken) (c .before .before .before .before .before .before .before .loop .inv .2) (c .record-byte .ensures))
-
-same-length : tie.Need-same-length Inv-loop μ-loop
-same-length c = c .before .loop .inv .1
-
-returns : tie.Need-returns Inv-loop μ-loop
-returns c = record-whole (c .before .before .before .before .before .before .before .before .args .m) (c .before .before .before .before .before .before .before .before .args .out .now) (c .before .loop .out) (c .before .loop .i) (omega (arith, c .loop-test .left, c .before .loop .inv .0)) (c .before .loop .inv .2)
+returns : tie.Need-returns
+returns c =
+    let S = c .before .before .before .before .before .before .before .before .before .before .before .before .before .before .before .before .before .before .before .before .before .before .before .before .before .before .before .before .before .before .before .before .before .before .before .before in
+    let m = S .args .t1 in
+    let e₁ : length (m .awake) ≡ 32 = search needs in
+    let e₂ : length (m .used) ≡ 32 = search needs in
+    let e₃ : length (m .waiting) ≡ 256 = search needs in
+    let e₄ : length (m .dropped) ≡ 256 = search needs in
+    let e₅ : length (m .ages) ≡ 16 = search needs in
+    record-put m (S .args .out .now) _ _ _ _ _ (S .pre) _ _ _ _ _ e₁ e₂ e₃ e₄ e₅ (c .before .before .before .before .before .before .before .before .before .before .before .before .before .before .before .before .before .before .before .before .before .before .before .before .before .before .before .before .before .before .put-marks .ensures) (c .before .before .before .before .before .before .before .before .before .before .before .before .before .before .before .before .before .before .before .before .before .before .before .put-numbers .ensures) (c .before .before .before .before .before .before .before .before .before .before .before .before .before .before .before .before .put-marks2 .ensures) (c .before .before .before .before .before .before .before .before .before .put-marks3 .ensures) (c .before .before .put-numbers2 .ensures)
 
 pub put-record-spec : {M : Type 1} → statement M
 put-record-spec =
     tie.close
     (tie.spec
-    Inv-loop
-    μ-loop
-    loop-holds
-    record-byte-requires
-    slice-write-out
-    add-i
-    loop-less
-    loop-again
+    put-marks-requires
+    put-numbers-requires
+    put-marks-requires-2
+    put-marks-requires-3
+    put-numbers-requires-2
     same-length
     returns)

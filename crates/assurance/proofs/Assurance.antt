@@ -11,13 +11,14 @@ use borrow.Author.Tests.{eqb-true, lt-ltb, le-ltb}
 use Rattle.model.specs.declared.Description.{Description}
 use Rattle.model.specs.declared.Machine.{Machine}
 use Rattle.model.specs.declared.Ticked.{Ticked}
+use Rattle.model.specs.declared.Outcome.{Outcome}
 use Rattle.model.specs.declared.Verdict.{Verdict}
 use Rattle.model.specs.declared.Verdict.the-variants.{DoubtOrder}
 use Rattle.model.specs.Graph.{system, linkAt, linked}
 use Rattle.model.specs.Delays.{Settled, unchanged, reached, delayOf, roundOf, spacingOf}
 use Rattle.model.specs.Order.{inOrder, InOrder}
 use Rattle.model.specs.Verdicts.{settledVerdict, sourceVerdict, orderVerdict, verdictOf, verdictAt, doubtful, delayIn, allHeld}
-use Rattle.model.specs.Machine.{idle, droppedAt, usedAt}
+use Rattle.model.specs.Machine.{plainTick, idle, droppedAt, usedAt}
 use Rattle.model.specs.History.{Call, Tick, answers, left, observe, ticks, fires, begins, ends, partDone, tickAt, Dropped, waitOf}
 use Rattle.model.specs.Promise.{Calls, none, call, Assured}
 use Rattle.lemmas.proofs.Tests.{not-both}
@@ -45,11 +46,18 @@ pub record Facts (d : Description) (q t : ℕ) : Type 0 where
   -- a walk that does not fail has found a neighbourhood
   pub ordered : (i j : ℕ) → IsTask (system d) i → linked d i j ≡ true → inOrder (system d) i j ≡ true → InOrder (system d) i j
 
+-- an answer is its outcome and its record
+ticked : (r s : Ticked) → r .outcome ≡ s .outcome → r .machine ≡ s .machine → r ≡ s
+ticked r s a b =
+    ap (λ (o : Outcome). let x : Ticked = record { outcome = o; machine = r .machine } in x) a
+    ∙ ap (λ (m : Machine). let x : Ticked = record { outcome = s .outcome; machine = m } in x) b
+
 -- calls that each meet what the tick call ensures are answered as the plain machine answers them
 pub calls-plain : (d : Description) (t : ℕ) {m : Machine} {cs : List Call} {rs : List Ticked} {m′ : Machine} → Calls d t m cs rs m′ → (rs ≡ answers d t m cs) × (m′ ≡ left d t m cs)
 unfolding answers left
 calls-plain d t none = (refl, refl)
-calls-plain d t (call {m = m} {c = c} {r = r} {cs = cs} {rs = rs} {m′ = m′} e k) =
+calls-plain d t (call {m = m} {c = c} {r = r} {cs = cs} {rs = rs} {m′ = m′} met k) =
+    let e : r ≡ plainTick d t m (c .arrivals) (c .finish) = ticked r (plainTick d t m (c .arrivals) (c .finish)) (met .0) (met .1) in
     let ih : (rs ≡ answers d t (r .machine) cs) × (m′ ≡ left d t (r .machine) cs) = calls-plain d t k in
     (ap (λ (l : List Ticked). r ∷ l) (ih .0) ∙ ap (λ (s : Ticked). s ∷ answers d t (s .machine) cs) e, ih .1 ∙ ap (λ (s : Ticked). left d t (s .machine) cs) e)
 

@@ -20,11 +20,13 @@ use Rattle.theory.proofs.ReadBack.{read-judged, read-whence}
 use Rattle.theory.proofs.WellFormed.{WellFormed}
 use Rattle.refusals.specs.Beside.{refusedSheet}
 use Rattle.lemmas.proofs.Outcomes.{refused-not}
-use Rattle.reading.specs.Steps.{recordChecks, parseAt}
+use Rattle.model.specs.File.{parseAt}
+use Rattle.reading.specs.Steps.{recordChecks}
 use Rattle.loads.specs.declared.Worked.{Worked}
 use Rattle.loads.specs.Tables.{WorkedOf, checkedLoads}
 use Rattle.files.specs.declared.Judged.{Judged}
-use Rattle.files.specs.Answers.{readFrom, ReadAs}
+use Rattle.model.specs.File.{readFrom}
+use Rattle.files.specs.Answers.{ReadAs}
 use Rattle.files.proofs.Places.{parsed-fielded-at}
 
 judge-is : (d : Description) → Widths d → judge d ≡ onDone (recordChecks d) (lastChecks d) Refused

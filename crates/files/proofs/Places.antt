@@ -29,7 +29,7 @@ use Rattle.theory.proofs.WellFormed.{Fielded}
 use Rattle.theory.proofs.RecordLaws.{parse-fine, parse-unfit, parse-broken, parse-end}
 use Rattle.theory.proofs.ReadBack.{parsed-fielded}
 use Rattle.lemmas.proofs.Outcomes.{refused-not}
-use Rattle.reading.specs.Steps.{parseAt}
+use Rattle.model.specs.File.{parseAt}
 
 number-left : (s : List ℕ) (a b n : ℕ) → numberIn s (a + b) n ≡ numberIn (drop a s) b n
 unfolding numberIn

@@ -9,14 +9,10 @@ use Rattle.model.specs.declared.Reading.{Reading}
 use Rattle.model.specs.Refusals.{onDone}
 use Rattle.model.specs.File.{finished, refusedReading, judge}
 use Rattle.theory.proofs.WellFormed.{WellFormed}
-use Rattle.reading.specs.Steps.{parseAt}
+use Rattle.model.specs.File.{parseAt}
 use Rattle.loads.specs.declared.Worked.{Worked}
 use Rattle.loads.specs.Tables.{LoadsOf}
 use Rattle.files.specs.declared.Judged.{Judged}
-
--- the reading of the file that begins at a place of the bytes; the place of a refused field is counted from the start of the bytes
-unfoldable pub readFrom : List ℕ → ℕ → Reading
-readFrom s at = let r = parseAt s at in onDone (r .outcome) (finished (r .description)) refusedReading
 
 -- an answer to how a description is judged: its outcome, the description, and sets and works that give its loads if it passes
 pub record JudgedAs (end : Outcome) (d : Description) (outcome : Outcome) (d′ : Description) (adds works : List ℕ) : Type 0 where

@@ -13,7 +13,8 @@ ghost use mathlib.Core.Path.{_≡_};
 ghost use Rattle.model.specs.declared.Outcome.the-variants.{Refused};
 ghost use Rattle.model.specs.Refusals.{blank};
 ghost use Rattle.model.specs.File.{readFile, judge, loadSheet, written, pageAfter};
-ghost use Rattle.files.specs.Answers.{readFrom, JudgedOf, RecordAs, ReadAs};
+ghost use Rattle.model.specs.File.{readFrom};
+ghost use Rattle.files.specs.Answers.{JudgedOf, RecordAs, ReadAs};
 
 pub mod reader;
 

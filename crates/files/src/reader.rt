@@ -5,7 +5,7 @@ use model::Reading;
 use model::Taken;
 ghost use mathlib.Core.Path.{_≡_};
 ghost use Rattle.model.specs.Field.{takeField};
-ghost use Rattle.files.specs.Answers.{readFrom};
+ghost use Rattle.model.specs.File.{readFrom};
 
 // The bytes of a file, and the offset of the field that is read next.
 pub struct Reader<'a> {

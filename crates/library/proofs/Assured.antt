@@ -13,7 +13,7 @@ use Rattle.model.specs.Verdicts.{quotedFile}
 use Rattle.theory.proofs.NumberBytes.{Bytes as AllBytes}
 use Rattle.theory.proofs.ReadBack.{read-whence}
 use Rattle.assurance.proofs.PlainCalls.{AssuredOf, plain-assured}
-use Rattle.machine.specs.Run.{callsIn}
+use Rattle.model.specs.Run.{callsIn}
 
 pub run-assured : (s calls : List ℕ) (q t : ℕ) → AllBytes s → quotedFile s ≡ Tempo q → 200 ≤ t → t ≤ q → AssuredOf (readFile s .description) q t (callsIn calls)
 unfolding quotedFile

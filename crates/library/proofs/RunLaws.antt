@@ -22,7 +22,7 @@ use Rattle.model.specs.History.{left}
 use Rattle.theory.proofs.NumberBytes.{Bytes as AllBytes}
 use Rattle.theory.proofs.FileLength.{placeIn, read-place}
 use Rattle.theory.proofs.ReadBack.{read-judged}
-use Rattle.machine.specs.Run.{callsIn, page, ran}
+use Rattle.model.specs.Run.{callsIn, page, ran}
 use Rattle.machine.proofs.RunLaws.{calls-length}
 use Rattle.ticks.proofs.Laws.{at-done}
 use Rattle.library.specs.Replies.{refusalCode, recordBytes, runOutcome, runReply, codesAfter, recordAfter}

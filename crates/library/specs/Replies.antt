@@ -22,7 +22,7 @@ use Rattle.model.specs.File.{readFile, filledBy}
 use Rattle.model.specs.Verdicts.{onKnob}
 use Rattle.model.specs.Machine.{idle}
 use Rattle.model.specs.History.{left}
-use Rattle.machine.specs.Run.{callsIn, page}
+use Rattle.model.specs.Run.{callsIn, page}
 
 -- a refusal's number and place in one number below 0
 abbrev pub refusalCode : Refusal → ℕ → ℤ

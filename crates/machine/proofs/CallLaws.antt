@@ -26,7 +26,8 @@ use Rattle.lemmas.proofs.Range.{all-at, any-at, any-none, none-any}
 use Rattle.theory.proofs.WellFormed.{WellFormed}
 use Rattle.sets.specs.Sets.{member}
 use Rattle.steps.specs.declared.words.Words.{Words}
-use Rattle.steps.specs.Parts.{heard, marksIn, Known, Sourced}
+use Rattle.model.specs.Run.{heard, marksIn}
+use Rattle.steps.specs.Parts.{Known, Sourced}
 use Rattle.steps.specs.Words.{Ages, Holds, Workable, worked}
 use Rattle.steps.proofs.MaskLaws.{none-above, mark-in, heard-under}
 use Rattle.steps.proofs.StepLaws.{arrive-none}

@@ -17,7 +17,7 @@ use Rattle.model.specs.declared.Machine.{Machine}
 use Rattle.model.specs.declared.Refusal.the-variants.{ShortPage}
 use Rattle.model.specs.declared.Outcome.{Outcome}
 use Rattle.model.specs.declared.Outcome.the-variants.{Done, Refused}
-use Rattle.model.specs.Refusals.{noSource}
+use Rattle.model.specs.Refusals.{noSource, ofOutcome}
 use Rattle.model.specs.Field.{onScale}
 use Rattle.model.specs.Graph.{sourceAt}
 use Rattle.model.specs.File.{SourceFits, Widths, judge, filledBy}
@@ -30,7 +30,7 @@ use Rattle.theory.proofs.WellFormed.{WellFormed}
 use Rattle.assurance.proofs.Replay.{callAt, quietCall}
 use Rattle.assurance.proofs.Lawful.{rules-kept}
 use Rattle.machine.specs.Calls.{plainCall}
-use Rattle.machine.specs.Run.{callOf, callIn, callsIn, codeOf, codes, page, ran}
+use Rattle.model.specs.Run.{callOf, callIn, callsIn, codes, page, ranFrom}
 use Rattle.lemmas.proofs.Outcomes.{refused-not}
 
 -- as many calls as whole fours, the i-th being that of the i-th four
@@ -50,7 +50,7 @@ left-more d t cs m i h = rw add-one (go cs m i h)
     go (c ∷ cs) m zero h = refl
     go (c ∷ cs) m (suc i) h = go cs (plainTick d t m (c .arrivals) (c .finish) .machine) i (omega arith)
 
-pub code-at : (d : Description) (t : ℕ) (cs : List Call) (m : Machine) (i : ℕ) → i < length cs → getD (codes (answers d t m cs)) i 0 ≡ codeOf (plainTick d t (left d t m (take i cs)) (callAt cs i .arrivals) (callAt cs i .finish) .outcome)
+pub code-at : (d : Description) (t : ℕ) (cs : List Call) (m : Machine) (i : ℕ) → i < length cs → getD (codes (answers d t m cs)) i 0 ≡ ofOutcome (plainTick d t (left d t m (take i cs)) (callAt cs i .arrivals) (callAt cs i .finish) .outcome) .number
 unfolding codes answers left
 code-at d t [] m i h = absurd (omega arith)
 code-at d t (c ∷ cs) m zero h = refl
@@ -65,17 +65,17 @@ codes-length d t (c ∷ cs) m = ap suc (codes-length d t cs (plainTick d t m (c 
 pub run-left : (d : Description) (t : ℕ) (cs : List Call) (m : Machine) (i mask : ℕ) (finish : Bool) → i < length cs → callAt cs i ≡ callOf mask finish → plainCall d t (left d t m (take i cs)) mask finish .machine ≡ left d t m (take (i + 1) cs)
 run-left d t cs m i mask finish h q = sym (rw q at (left-more d t cs m i h))
 
-pub run-code : (d : Description) (t : ℕ) (cs : List Call) (m : Machine) (i mask : ℕ) (finish : Bool) → i < length cs → callAt cs i ≡ callOf mask finish → codeOf (plainCall d t (left d t m (take i cs)) mask finish .outcome) ≡ getD (codes (answers d t m cs)) i 0
+pub run-code : (d : Description) (t : ℕ) (cs : List Call) (m : Machine) (i mask : ℕ) (finish : Bool) → i < length cs → callAt cs i ≡ callOf mask finish → ofOutcome (plainCall d t (left d t m (take i cs)) mask finish .outcome) .number ≡ getD (codes (answers d t m cs)) i 0
 run-code d t cs m i mask finish h q = sym (rw q at (code-at d t cs m i h))
 
 pub store-turn : (out out₁ text : List ℕ) (i code : ℕ) → i < length out → i < length text → out₁ ≡ take i text ++ drop i out → code ≡ getD text i 0 → set out₁ i code ≡ take (i + 1) text ++ drop (i + 1) out
 store-turn out out₁ text i code a b e f = rw (e, f) (store-more out text i a b)
 
 -- the run's answer and its buffer, where the buffer is too short and where it is not
-pub ran-short : (d : Description) (t : ℕ) (cs : List Call) (buffer : List ℕ) → length buffer < length cs → record { outcome = Refused ShortPage 0; machine = blankMachine } ≡ ran d t cs buffer
+pub ran-short : (d : Description) (t : ℕ) (cs : List Call) (buffer : List ℕ) → length buffer < length cs → record { outcome = Refused ShortPage 0; machine = blankMachine } ≡ ranFrom d t cs buffer
 ran-short d t cs buffer h = rw (lt-ltb (length buffer) (length cs) h) refl
 
-pub ran-whole : (d : Description) (t : ℕ) (cs : List Call) (buffer : List ℕ) (m : Machine) → length cs ≤ length buffer → m ≡ left d t (idle d t) cs → record { outcome = Done; machine = m } ≡ ran d t cs buffer
+pub ran-whole : (d : Description) (t : ℕ) (cs : List Call) (buffer : List ℕ) (m : Machine) → length cs ≤ length buffer → m ≡ left d t (idle d t) cs → record { outcome = Done; machine = m } ≡ ranFrom d t cs buffer
 ran-whole d t cs buffer m h e = rw (le-ltb (length buffer) (length cs) h, e) refl
 
 pub filled-short : (d : Description) (t : ℕ) (cs : List Call) (buffer : List ℕ) → length buffer < length cs → buffer ≡ filledBy (page d t cs) buffer
@@ -104,16 +104,3 @@ pub kept : (d : Description) (t : ℕ) (cs : List Call) (m : Machine) → WellFo
 kept d t cs m g j e =
     let k : (200 ≤ t) × (t ≤ 3000) = on-knob d t j in
     ap (lawful d t) e ∙ rules-kept d g t (k .0) (k .1) cs
-
--- the numbers of an accepted description fit their types
-scale-fits : (s : Source) → onScale (OfSource s) ≡ true → SourceFits s
-scale-fits (Fixed m) e = omega (arith, leb-true m 1000000000 (and-right (leb 1 m) (leb m 1000000000) e))
-scale-fits (Paced p) e = omega (arith, leb-true p 960 (and-right (leb 1 p) (leb p 960) e))
-
-pub widths : (d : Description) → WellFormed d → Widths d
-widths d g = record {
-  run-width = λ k h. let s : 1 + k - 1 ≡ k = omega arith in let low : getD (d .runs) k 0 ≤ 10000000 = rw s at (g .fields .run-most (1 + k) (omega arith) (omega arith)) in omega arith;
-  source-width = λ k h.
-      let s : 33 + k - 33 ≡ k = omega arith in
-      subst (λ x. SourceFits (getD (d .sources) x noSource .source)) s (scale-fits (sourceAt d (33 + k)) (g .fields .source-scale (33 + k) (omega arith) (omega arith)));
-}

@@ -17,7 +17,8 @@ use Rattle.sets.specs.Sets.{member}
 use Rattle.wiring.specs.declared.Wiring.{Wiring}
 use Rattle.wiring.specs.Rows.{WiringOf}
 use Rattle.spacings.specs.Gaps.{GapsOf}
-use Rattle.steps.specs.Parts.{heard, marksIn, Sourced}
+use Rattle.model.specs.Run.{heard, marksIn}
+use Rattle.steps.specs.Parts.{Sourced}
 use Rattle.machine.specs.Calls.{TablesOf}
 
 -- the tables of a wiring

@@ -15,7 +15,8 @@ use Rattle.wiring.specs.declared.Wiring.{Wiring}
 use Rattle.wiring.specs.Rows.{RowsOf, WiringOf}
 use Rattle.steps.specs.declared.words.Words.{Words}
 use Rattle.spacings.specs.Gaps.{GapsOf}
-use Rattle.steps.specs.Parts.{marksIn, Known, Sourced}
+use Rattle.model.specs.Run.{marksIn}
+use Rattle.steps.specs.Parts.{Known, Sourced}
 use Rattle.steps.specs.Words.{Ages, Holds, worked}
 use Rattle.machine.specs.declared.call.Call.{Call}
 use Rattle.machine.specs.declared.call.Advanced.{Advanced}

@@ -21,11 +21,13 @@ ghost use Rattle.model.specs.Verdicts.{judgeAt};
 ghost use Rattle.theory.proofs.WellFormed.{WellFormed};
 ghost use Rattle.spacings.specs.Gaps.{GapsOf};
 ghost use Rattle.machine.specs.Calls.{Accepted};
-ghost use Rattle.machine.specs.Run.{callsIn, codeOf, RunIs, RunOf};
+ghost use Rattle.model.specs.Refusals.{ofOutcome};
+ghost use Rattle.model.specs.Run.{callsIn};
+ghost use Rattle.machine.specs.Run.{RunIs, RunOf};
 
 // A call's end as a byte: the refusal's number, or 0.
 fn code(end: Outcome) -> u8
-    ensures { λ r. ⌜ r ≡ codeOf end ⌝ }
+    ensures { λ r. ⌜ r ≡ ofOutcome end .number ⌝ }
 {
     match end {
         Outcome::Done => 0,

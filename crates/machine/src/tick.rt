@@ -14,7 +14,8 @@ use steps::record::word_in;
 use wiring::Wiring;
 ghost use mathlib.Core.Path.{_≡_};
 ghost use Rattle.model.specs.declared.Outcome.the-variants.{Refused};
-ghost use Rattle.steps.specs.Parts.{marksIn, Sourced};
+ghost use Rattle.model.specs.Run.{marksIn};
+ghost use Rattle.steps.specs.Parts.{Sourced};
 ghost use Rattle.machine.specs.Calls.{Accepted, TickIs};
 
 // The mask of some arrivals.

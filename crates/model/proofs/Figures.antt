@@ -11,12 +11,13 @@ use Rattle.model.specs.Delays.{spacing, spacingOf, spacings, startOf, ro
 use Rattle.model.specs.Order.{visit, walk, inOrder}
 use Rattle.model.specs.Verdicts.{sourceVerdict, orderVerdict, verdictOf, verdictAt, allHeld, judgeAt, largestBelow, quoteOf}
 use Rattle.model.specs.Machine.{idle, lawful, fireLink, fire, arriveOne, arrive, highestIn, runTask, clearLink, clearInto, endRun, ageOne, ageAll, stepped, strangers, tooSoon, judgeTick, plainTick}
-use Rattle.model.specs.History.{answers, left}
+use Rattle.model.specs.History.{answers, left, observe, ticks, endsWithin, ticksUntil, servedBefore, waitOf}
+use Rattle.model.specs.Run.{codes}
 use Rattle.model.specs.Report.{digits, decimal, tempoText, tempoLine, verdictText, linkLine, linkLines, refusedLine, reportFor, reportOf}
 
 -- to unfold this is to unfold every definition that a row computes with
 computing : ℕ
-unfolding sumN topN anyN allN upTo tab joined bytesOf numberIn bodyOf fieldBytes fieldIn takeField checkField fieldOf linked system walks cyclic workF work added load tooHeavy fileOf lastChecks parseFrom parseFile readFile overfull judge spacing spacingOf spacings startOf roundOf settle delayOf visit walk inOrder sourceVerdict orderVerdict verdictOf verdictAt allHeld judgeAt largestBelow quoteOf idle lawful fireLink fire arriveOne arrive highestIn runTask clearLink clearInto endRun ageOne ageAll stepped strangers tooSoon judgeTick plainTick answers left digits decimal tempoText tempoLine verdictText linkLine linkLines refusedLine reportFor reportOf
+unfolding sumN topN anyN allN upTo tab joined bytesOf numberIn bodyOf fieldBytes fieldIn takeField checkField fieldOf linked system walks cyclic workF work added load tooHeavy fileOf lastChecks parseFrom parseFile readFile overfull judge spacing spacingOf spacings startOf roundOf settle delayOf visit walk inOrder sourceVerdict orderVerdict verdictOf verdictAt allHeld judgeAt largestBelow quoteOf idle lawful fireLink fire arriveOne arrive highestIn runTask clearLink clearInto endRun ageOne ageAll stepped strangers tooSoon judgeTick plainTick answers left observe ticks endsWithin ticksUntil servedBefore waitOf codes digits decimal tempoText tempoLine verdictText linkLine linkLines refusedLine reportFor reportOf
 computing = 0
 
 pub figures : Figures
@@ -50,4 +51,14 @@ figures = record {
   p9-refused = refl;
   p9-pass = refl;
   p10-twice = refl;
+  numbers = refl;
+  waits-second = refl;
+  waits-first = refl;
+  served = refl;
+  not-yet-served = refl;
+  waits-to-last = refl;
+  not-served-in-list = refl;
+  waits-part-done = refl;
+  waits-next-run = refl;
+  waits-last-tick = refl;
 }

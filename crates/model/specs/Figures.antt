@@ -10,14 +10,13 @@ use Rattle.model.specs.declared.Source.the-variants.{Fixed, Paced}
 use Rattle.model.specs.declared.SourceSlot.{SourceSlot}
 use Rattle.model.specs.declared.Link.{Link}
 use Rattle.model.specs.declared.Description.{Description}
-use Rattle.model.specs.declared.Refusal.the-variants.{NoTask, OutOfTurn, TooSoon}
+use Rattle.model.specs.declared.Refusal.the-variants.{CutShort, StrangeTag, WrongLength, OutOfTurn, TooMany, OffScale, NoSuchEnd, NoTask, Loop, TooHeavy, OffKnob, NoTempo, ShortPage, TooSoon, Stranger, ForeignState}
 use Rattle.model.specs.declared.Outcome.{Outcome}
-use Rattle.model.specs.declared.Outcome.the-variants.{Done, Refused}
+use Rattle.model.specs.declared.Outcome.the-variants.{Done}
 use Rattle.model.specs.declared.Verdict.the-variants.{HeldOrder, DoubtOrder, Held, Doubt}
-use Rattle.model.specs.declared.Quote.the-variants.{Tempo}
 use Rattle.model.specs.declared.Ticked.{Ticked}
 use Rattle.model.specs.Basics.{tab}
-use Rattle.model.specs.Refusals.{noSource, noLink}
+use Rattle.model.specs.Refusals.{numberOf, ofReading, ofQuote, noSource, noLink}
 use Rattle.model.specs.Graph.{system}
 use Rattle.model.specs.Loads.{load}
 use Rattle.model.specs.File.{fileOf, readFile}
@@ -25,7 +24,8 @@ use Rattle.model.specs.Delays.{spacing, spacingOf, roundOf, startOf}
 use Rattle.model.specs.Order.{walk}
 use Rattle.model.specs.Verdicts.{verdictAt, quoteOf}
 use Rattle.model.specs.Machine.{idle, droppedAt}
-use Rattle.model.specs.History.{Call, answers}
+use Rattle.model.specs.History.{Call, Tick, answers, ticks, servedBefore, waitOf}
+use Rattle.model.specs.Run.{page}
 
 -- a list filled up to n places
 abbrev pub upToLength : {A : Type 0} → ℕ → A → List A → List A
@@ -84,6 +84,10 @@ metTwice = describe (1 ∷ 1 ∷ 1 ∷ 1 ∷ []) [] (free 1 3 ∷ free 1 4 ∷ f
 abbrev pub pulse : Description
 pulse = describe (1 ∷ []) (Fixed 5 ∷ []) (free 33 1 ∷ [])
 
+-- a source that comes twice in a run of its task
+abbrev pub quick : Description
+quick = describe (4 ∷ []) (Fixed 2 ∷ []) (free 33 1 ∷ [])
+
 abbrev pub sameTwice : Description
 sameTwice = describe (1 ∷ []) (Fixed 5 ∷ []) (free 33 1 ∷ free 33 1 ∷ [])
 
@@ -91,13 +95,9 @@ sameTwice = describe (1 ∷ []) (Fixed 5 ∷ []) (free 33 1 ∷ free 33 1 ∷ []
 abbrev pub callsWhere : ℕ → (ℕ → Bool) → List Call
 callsWhere n test = tab n (λ x. record { arrivals = record { marks = upToLength 16 false (test x ∷ []) }; finish = false })
 
--- the outcomes of a list of calls from the start
-abbrev pub outcomesOf : List Ticked → List Outcome
-outcomesOf [] = []
-outcomesOf (r ∷ rs) = r .outcome ∷ outcomesOf rs
-
-abbrev pub outcomes : Description → ℕ → List Call → List Outcome
-outcomes d t cs = outcomesOf (answers d t (idle d t) cs)
+-- the ticks of a list of calls from the start
+abbrev pub history : Description → List Call → List Tick
+history d cs = ticks d 200 (idle d 200) cs
 
 abbrev pub sevenths : ℕ → Bool
 sevenths x = eqb (x % 7) 0
@@ -108,8 +108,8 @@ marksOf l [] = []
 marksOf l (r ∷ rs) = (r .outcome, droppedAt (r .machine) l) ∷ marksOf l rs
 
 pub record Figures : Type 0 where
-  pub p1-empty : readFile [] .outcome ≡ Refused NoTask 0
-  pub p1-alone : quoteOf alone ≡ Tempo 3000
+  pub p1-empty : ofReading (readFile []) ≡ record { number = 8; value = 0 }
+  pub p1-alone : ofQuote (quoteOf alone) ≡ record { number = 0; value = 3000 }
   pub p2-load-33-1 : load (system box) 33 1 ≡ 900
   pub p2-load-2-3 : load (system box) 2 3 ≡ 200
   pub p2-read : readFile boxFile ≡ record { outcome = Done; description = box }
@@ -133,6 +133,22 @@ pub record Figures : Type 0 where
   pub p7-met-twice : walk (system metTwice) 4 2 .failed ≡ 1
   pub p8-480 : spacing (Paced 480) 1200 ≡ 1041
   pub p8-24 : spacing (Paced 24) 1200 ≡ 20833
-  pub p9-refused : outcomes pulse 200 (callsWhere 5 (λ x. eqb x 0 || eqb x 4)) ≡ Done ∷ Done ∷ Done ∷ Done ∷ Refused TooSoon 0 ∷ []
-  pub p9-pass : outcomes pulse 200 (callsWhere 6 (λ x. eqb x 0 || eqb x 5)) ≡ replicate 6 Done
-  pub p10-twice : readFile (fileOf sameTwice) .outcome ≡ Refused OutOfTurn 20
+  pub p9-refused : page pulse 200 (callsWhere 5 (λ x. eqb x 0 || eqb x 4)) ≡ 0 ∷ 0 ∷ 0 ∷ 0 ∷ 14 ∷ []
+  pub p9-pass : page pulse 200 (callsWhere 6 (λ x. eqb x 0 || eqb x 5)) ≡ replicate 6 0
+  pub p10-twice : ofReading (readFile (fileOf sameTwice)) ≡ record { number = 4; value = 20 }
+  -- document 01's numbers, in its order
+  pub numbers : numberOf CutShort ∷ numberOf StrangeTag ∷ numberOf WrongLength ∷ numberOf OutOfTurn ∷ numberOf TooMany ∷ numberOf OffScale ∷ numberOf NoSuchEnd ∷ numberOf NoTask ∷ numberOf Loop ∷ numberOf TooHeavy ∷ numberOf OffKnob ∷ numberOf NoTempo ∷ numberOf ShortPage ∷ numberOf TooSoon ∷ numberOf Stranger ∷ numberOf ForeignState ∷ []
+      ≡ 1 ∷ 2 ∷ 3 ∷ 4 ∷ 5 ∷ 6 ∷ 7 ∷ 8 ∷ 9 ∷ 10 ∷ 11 ∷ 12 ∷ 13 ∷ 14 ∷ 15 ∷ 16 ∷ []
+  -- Twin with the spacing 9 and one arrival, at tick 0: task 2 runs in ticks 0 and 1, task 3 in 2 and 3, task 1 in 4 and 5
+  pub waits-second : waitOf (history (twin 9) (callsWhere 9 (λ x. eqb x 0))) 2 0 ≡ 2
+  pub waits-first : waitOf (history (twin 9) (callsWhere 9 (λ x. eqb x 0))) 1 0 ≡ 6
+  pub served : servedBefore (history (twin 9) (callsWhere 9 (λ x. eqb x 0))) 1 0 6 ≡ true
+  pub not-yet-served : servedBefore (history (twin 9) (callsWhere 9 (λ x. eqb x 0))) 1 0 5 ≡ false
+  -- a list that ends before the event is served: "or else to the last of the list"
+  pub waits-to-last : waitOf (history (twin 9) (callsWhere 4 (λ x. eqb x 0))) 1 0 ≡ 4
+  pub not-served-in-list : servedBefore (history (twin 9) (callsWhere 4 (λ x. eqb x 0))) 1 0 4 ≡ false
+  -- an event of tick 2 finds its task part done, and the run of ticks 0 to 3 takes it; one of tick 4 is taken by the run begun then
+  pub waits-part-done : waitOf (history quick (callsWhere 9 (λ x. eqb (x % 2) 0))) 1 2 ≡ 2
+  pub waits-next-run : waitOf (history quick (callsWhere 9 (λ x. eqb (x % 2) 0))) 1 4 ≡ 4
+  -- an event of the last tick waits one
+  pub waits-last-tick : waitOf (history quick (callsWhere 9 (λ x. eqb (x % 2) 0))) 1 8 ≡ 1

@@ -65,6 +65,10 @@ parseFrom (suc n) s at p d =
 unfoldable pub parseFile : List ℕ → Reading
 parseFile s = parseFrom (suc (length s)) s 0 noProgress blank
 
+-- the same from a place of the bytes on; the place of a refused field is counted from the start of the bytes
+abbrev pub parseAt : List ℕ → ℕ → Reading
+parseAt s at = parseFrom (suc (length s - at)) s at noProgress blank
+
 -- "after the last field come 8, 9, 10"
 unfoldable pub lastChecks : Description → Outcome
 lastChecks d =
@@ -78,6 +82,10 @@ finished d = onDone (lastChecks d) (record { outcome = Done; description = d }) 
 
 unfoldable pub readFile : List ℕ → Reading
 readFile s = let r = parseFile s in onDone (r .outcome) (finished (r .description)) refusedReading
+
+-- the reading of the file that begins at a place of the bytes
+unfoldable pub readFrom : List ℕ → ℕ → Reading
+readFrom s at = let r = parseAt s at in onDone (r .outcome) (finished (r .description)) refusedReading
 
 abbrev pub Accepted : List ℕ → Type 0
 Accepted s = readFile s .outcome ≡ Done

@@ -10,6 +10,7 @@ use Rattle.model.specs.declared.Arrivals.{Arrivals}
 use Rattle.model.specs.declared.Ticked.{Ticked}
 use Rattle.model.specs.declared.Outcome.{Outcome}
 use Rattle.model.specs.declared.Outcome.the-variants.{Done, Refused}
+use Rattle.model.specs.declared.Refusal.{Refusal}
 use Rattle.model.specs.declared.Refusal.the-variants.{TooSoon, Stranger, ForeignState}
 use Rattle.model.specs.Basics.{upTo, tab, allN, anyN}
 use Rattle.model.specs.Refusals.{onDone}
@@ -63,10 +64,11 @@ idle d t = record {
 }
 
 -- the start call: 1 to 11, with zeros beside a refusal
+abbrev pub unstarted : Refusal → ℕ → Ticked
+unstarted r place = record { outcome = Refused r place; machine = blankMachine }
+
 unfoldable pub started : Description → ℕ → Ticked
-started d t = onDone (judgeAt d t)
-    (record { outcome = Done; machine = idle d t })
-    (λ r place. record { outcome = Refused r place; machine = blankMachine })
+started d t = onDone (judgeAt d t) (record { outcome = Done; machine = idle d t }) unstarted
 
 -- the rules: "used is below e; a sleeping task has used 0; a waiting link's task is awake; ages do not exceed spacings;
 -- nothing is set for absent nodes or links"

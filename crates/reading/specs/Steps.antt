@@ -38,10 +38,6 @@ abbrev pub unfitAt : Check → ℕ → Outcome
 unfitAt Fine at = Done
 unfitAt (Unfit r) at = Refused r at
 
--- all fields from a place on: "taken field by field from a reading place in the caller's bytes"
-abbrev pub parseAt : List ℕ → ℕ → Reading
-parseAt s at = parseFrom (suc (length s - at)) s at noProgress blank
-
 -- a record's counts and fields: "judged as its file would be, counts above the limits giving 5 first at place 0"
 unfoldable pub recordChecks : Description → Outcome
 recordChecks d = cond (overfull d) (Refused TooMany 0) (parseFile (fileOf d) .outcome)

@@ -19,7 +19,8 @@ ghost use mathlib.Core.Path.{_≡_};
 ghost use mathlib.Core.Bool.{_||_};
 ghost use lib.Dec.{ltb};
 ghost use Rattle.model.specs.Field.{takeField};
-ghost use Rattle.reading.specs.Steps.{checkedTaken, stoppedAt, unfitAt, parseAt, recordChecks};
+ghost use Rattle.model.specs.File.{parseAt};
+ghost use Rattle.reading.specs.Steps.{checkedTaken, stoppedAt, unfitAt, recordChecks};
 
 // The field at a reading place, if it may stand there.
 fn checked_at(s: &[u8], at: usize, p: Progress) -> Taken

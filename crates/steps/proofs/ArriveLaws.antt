@@ -26,7 +26,8 @@ use Rattle.sets.proofs.SetLaws.{member-none}
 use Rattle.wiring.specs.Rows.{RowsOf}
 use Rattle.spacings.specs.Gaps.{GapsOf}
 use Rattle.steps.specs.declared.words.Words.{Words}
-use Rattle.steps.specs.Parts.{heard, marksIn, Known}
+use Rattle.model.specs.Run.{heard, marksIn}
+use Rattle.steps.specs.Parts.{Known}
 use Rattle.steps.specs.Words.{wideAt, Sent, Ages, Holds}
 use Rattle.steps.proofs.MaskLaws.{Turn, mark-in, heard-under, passed, any-turn}
 use Rattle.steps.proofs.MarkLaws.{row-out, woken, marks-sent}

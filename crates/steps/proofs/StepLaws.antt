@@ -20,7 +20,7 @@ use Rattle.assurance.proofs.Ending.{Cleared, cleared, Aged, aged}
 use Rattle.sets.specs.Sets.{member, LastIn}
 use Rattle.sets.specs.Wide.{inside}
 use Rattle.steps.specs.declared.words.Words.{Words}
-use Rattle.steps.specs.Parts.{heard, marksIn}
+use Rattle.model.specs.Run.{heard, marksIn}
 use Rattle.steps.specs.Words.{Marks, Ages, Holds, worked}
 use Rattle.steps.proofs.MaskLaws.{mark-in}
 use Rattle.steps.proofs.MarkLaws.{marks-used, highest-is, highest-none}

@@ -12,13 +12,6 @@ use Rattle.model.specs.Basics.{tab}
 abbrev pub parts : List Bool → List ℕ → List Bool → List Bool → List ℕ → Machine
 parts awake used waiting dropped ages = record { awake = awake; used = used; waiting = waiting; dropped = dropped; ages = ages }
 
--- the arrivals of a mask, whose bit u is source 33 + u
-abbrev pub heard : ℕ → ℕ → Bool
-heard mask u = eqb (mask / 2 ^ u % 2) 1
-
-unfoldable pub marksIn : ℕ → List Bool
-marksIn mask = tab 16 (heard mask)
-
 -- a mask of nothing but sources, and one of sources that exist
 abbrev pub Sourced : ℕ → Type 0
 Sourced mask = (u : ℕ) → heard mask u ≡ true → u < 16

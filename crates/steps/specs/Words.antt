@@ -17,7 +17,8 @@ use Rattle.sets.specs.Wide.{inside}
 use Rattle.wiring.specs.Rows.{RowsOf}
 use Rattle.steps.specs.declared.words.Words.{Words}
 use Rattle.spacings.specs.Gaps.{GapsOf}
-use Rattle.steps.specs.Parts.{marksIn, Known}
+use Rattle.model.specs.Run.{marksIn}
+use Rattle.steps.specs.Parts.{Known}
 
 -- four words of a table as a set
 abbrev pub wideAt : List ℕ → ℕ → Wide

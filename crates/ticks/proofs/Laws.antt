@@ -21,8 +21,11 @@ use Rattle.model.specs.History.{Call}
 use Rattle.lemmas.proofs.Tests.{and-left, and-right}
 use Rattle.theory.proofs.WellFormed.{WellFormed}
 use Rattle.theory.proofs.FileLaws.{judge-well-formed}
+use Rattle.model.specs.Run.{ran, pageRan, RunMeets}
 use Rattle.machine.specs.Run.{RunOf}
-use Rattle.ticks.specs.Calls.{unstarted, untouched, RunCall}
+use Rattle.model.specs.Machine.{unstarted}
+use Rattle.ticks.specs.Calls.{untouched}
+use Rattle.ticks.proofs.Assured.{run-assured}
 use Rattle.lemmas.proofs.Outcomes.{refused-not}
 
 module _ (d : Description) (t : ℕ) where
@@ -60,19 +63,18 @@ module _ (d : Description) (t : ℕ) where
   unfolding plainTick judgeTick
   tick-refused m a f r p e = rw e
 
-  pub run-refused : (cs : List Call) (b : List ℕ) (r : Refusal) (p : ℕ) (x : Ticked) → judgeAt d t ≡ Refused r p → x ≡ unstarted r p → RunCall d t cs b b x
-  run-refused cs b r p x e q =
-      record {
-        refused = λ r′ p′ e′. (q ∙ same r p r′ p′ (sym e ∙ e′), refl);
-        done = λ e′. refused-not (sym e ∙ e′);
-      }
-    where
-      same : (a : Refusal) (i : ℕ) (b : Refusal) (j : ℕ) → Refused a i ≡ Refused b j → unstarted a i ≡ unstarted b j
-      same a i b j h = ap (λ (o : Outcome). let y : Ticked = record { outcome = o; machine = unstarted a i .machine } in y) h
+  pub run-refused : (cs : List Call) (b : List ℕ) (r : Refusal) (p : ℕ) (x : Ticked) → judgeAt d t ≡ Refused r p → x ≡ unstarted r p → RunMeets d t cs b b x
+  unfolding ran pageRan
+  run-refused cs b r p x e q = record {
+    answer = q ∙ rw e;
+    filled = rw e;
+    assured = λ _ _ _ h. refused-not (sym (ap (λ (y : Ticked). y .outcome) q) ∙ h);
+  }
 
-  pub run-done : (cs : List Call) (b b′ : List ℕ) (x : Ticked) → judgeAt d t ≡ Done → RunOf d t cs b b′ x → RunCall d t cs b b′ x
-  run-done cs b b′ x e g =
-      record {
-        refused = λ r p e′. refused-not (sym e′ ∙ e);
-        done = λ e′. g;
-      }
+  pub run-done : (cs : List Call) (b b′ : List ℕ) (x : Ticked) → Widths d → judgeAt d t ≡ Done → RunOf d t cs b b′ x → RunMeets d t cs b b′ x
+  unfolding ran pageRan
+  run-done cs b b′ x w e g = record {
+    answer = g .0 ∙ rw e;
+    filled = g .1 ∙ rw e;
+    assured = λ q f h o. run-assured d q t w f (at-known w e .1) h cs b b′ x g o;
+  }

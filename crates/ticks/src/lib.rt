@@ -15,11 +15,12 @@ use steps::record::begin;
 use steps::record::unpack;
 use wiring::wiring_of;
 ghost use mathlib.Core.Path.{_≡_};
-ghost use Rattle.model.specs.Machine.{started, plainTick};
-ghost use Rattle.model.specs.Verdicts.{judgeAt};
 ghost use Rattle.model.specs.declared.Outcome.the-variants.{Done};
-ghost use Rattle.machine.specs.Run.{callsIn, RunOf};
-ghost use Rattle.ticks.specs.Calls.{unstarted, untouched, RunCall};
+ghost use Rattle.model.specs.Verdicts.{judgeAt};
+ghost use Rattle.model.specs.Machine.{unstarted, plainTick};
+ghost use Rattle.model.specs.Promise.{StartMeets, TickMeets};
+ghost use Rattle.model.specs.Run.{callsIn, RunMeets};
+ghost use Rattle.ticks.specs.Calls.{untouched};
 
 // Refusals 1 to 10 as judged, then 11.
 fn judge_at(d: Description, t: u32) -> Outcome
@@ -58,7 +59,7 @@ fn refused_tick(why: Refusal, place: usize, m: Machine) -> Ticked
 
 // The idle record of a description at tempo t.
 pub fn start(d: Description, t: u32) -> Ticked
-    ensures { λ r. ⌜ r ≡ started d t ⌝ }
+    ensures { λ r. ⌜ StartMeets d t r ⌝ }
 {
     let judged = judge_at(d, t);
     if let Outcome::Refused(why, place) = judged {
@@ -74,8 +75,8 @@ pub fn start(d: Description, t: u32) -> Ticked
     }
 }
 
-// One tick of a record by value.
-pub fn tick_value(d: Description, t: u32, m: Machine, a: Arrivals, finish: bool) -> Ticked
+// One tick of a record by value, which comes back as it was beside a refusal.
+fn tick_value(d: Description, t: u32, m: Machine, a: Arrivals, finish: bool) -> Ticked
     ensures { λ r. ⌜ r ≡ plainTick d t m a finish ⌝ }
 {
     let judged = judge_at(d, t);
@@ -89,7 +90,7 @@ pub fn tick_value(d: Description, t: u32, m: Machine, a: Arrivals, finish: bool)
 // The calls of a run, for a description that is judged as done at tempo t already.
 pub fn run_accepted(d: Description, t: u32, calls: &[u8], outcomes: &mut [u8]) -> Ticked
     requires { ⌜ judgeAt d t ≡ Done ⌝ }
-    ensures { λ r. ⌜ RunOf d t (callsIn (now (calls .entry))) (now (outcomes .entry)) (now (outcomes .exit)) r ⌝ }
+    ensures { λ r. ⌜ RunMeets d t (callsIn (now (calls .entry))) (now (outcomes .entry)) (now (outcomes .exit)) r ⌝ }
 {
     let gaps = gaps_of(d, t);
     run_judged(d, t, gaps, calls, outcomes)
@@ -99,7 +100,7 @@ pub fn run_accepted(d: Description, t: u32, calls: &[u8], outcomes: &mut [u8]) -
 // first, whose lowest bit is source 33; finish, unless it is 0; and one that is not looked at. Its refusal's number, or 0, goes to
 // its byte of the buffer.
 pub fn run(d: Description, t: u32, calls: &[u8], outcomes: &mut [u8]) -> Ticked
-    ensures { λ r. ⌜ RunCall d t (callsIn (now (calls .entry))) (now (outcomes .entry)) (now (outcomes .exit)) r ⌝ }
+    ensures { λ r. ⌜ RunMeets d t (callsIn (now (calls .entry))) (now (outcomes .entry)) (now (outcomes .exit)) r ⌝ }
 {
     let judged = judge_at(d, t);
     if let Outcome::Refused(why, place) = judged {
@@ -110,7 +111,7 @@ pub fn run(d: Description, t: u32, calls: &[u8], outcomes: &mut [u8]) -> Ticked
 
 // The caller's own record is advanced by one tick; a refusal leaves it as it was.
 pub fn tick(d: Description, t: u32, m: &mut Machine, a: Arrivals, finish: bool) -> Outcome
-    ensures { λ r. ⌜ (r ≡ plainTick d t (now (m .entry)) a finish .outcome) × (now (m .exit) ≡ plainTick d t (now (m .entry)) a finish .machine) ⌝ }
+    ensures { λ r. ⌜ TickMeets d t (now (m .entry)) a finish r (now (m .exit)) ⌝ }
 {
     let r = tick_value(d, t, *m, a, finish);
     *m = r.machine;

@@ -37,7 +37,7 @@ use denote.Triple.Walked.{says, Stays, stay-none-slice, walkOf, goes-none-slice,
 use denote.Exit.{yes}
 use denote.Triple.Clauses.{ensured, lasts}
 use Rattle.model.specs.File.{readFile}
-use Rattle.files.specs.Answers.{readFrom}
+use Rattle.model.specs.File.{readFrom}
 use Rattle.files.proofs.Laws.{read-start}
 use Rattle.files.specs.declared.reader.Reader.{Reader}
 use Rattle.model.specs.declared.Reading.{Reading}

@@ -12,7 +12,7 @@ use Rattle.model.specs.declared.Taken.the-variants.{Whole}
 use Rattle.model.specs.declared.Check.the-variants.{Fine}
 use Rattle.model.specs.Field.{takeField, checkField, withField}
 use Rattle.theory.proofs.JudgeLaws.{Passes, fine-passes}
-use Rattle.reading.specs.Steps.{parseAt}
+use Rattle.model.specs.File.{parseAt}
 use Rattle.reading.proofs.Laws.{fine-taken, ReadsAs, reads-more, reads-stop}
 use Rattle.reading.proofs.parse.Statement.{statement}
 use Rattle.reading.proofs.parse.Tie as tie

@@ -1,6 +1,6 @@
 -- `run` meets its contract: refused, or the calls of an accepted description. Assumes nothing.
 use mathlib.Core.Path.{sym, _∙_}
-use Rattle.machine.specs.Run.{callsIn}
+use Rattle.model.specs.Run.{callsIn}
 use Rattle.ticks.proofs.Laws.{run-refused, run-done}
 use borrow.Author.Needs.{needs}
 use Rattle.ticks.proofs.run.Statement.{statement}

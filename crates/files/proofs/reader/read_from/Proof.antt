@@ -42,7 +42,7 @@ use denote.Triple.Table.{entered, cited}
 use denote.Triple.Walked.{says, Stays, stay-none, walkOf, goes-none, Walks, ends-at, walked, walk-meets}
 use denote.Exit.{yes}
 use denote.Triple.Clauses.{ensured, lasts}
-use Rattle.files.specs.Answers.{readFrom}
+use Rattle.model.specs.File.{readFrom}
 use Rattle.files.specs.declared.reader.Reader.{Reader}
 use Rattle.model.specs.declared.Reading.{Reading}
 use Rattle.files.proofs.reader.Reader as T

@@ -7,7 +7,7 @@ use Rattle.model.specs.declared.Ticked.{Ticked}
 use Rattle.model.specs.declared.Outcome.the-variants.{Refused}
 use Rattle.model.specs.declared.Refusal.the-variants.{TooSoon, Stranger}
 use Rattle.model.specs.Machine.{arrive, ageAll}
-use Rattle.steps.specs.Parts.{marksIn}
+use Rattle.model.specs.Run.{marksIn}
 use Rattle.steps.specs.Words.{Holds, worked}
 use Rattle.machine.proofs.CallLaws.{known, strangers-none, strangers-some, workable, silent-known, silent-soon, silent-arrive, tick-stranger, tick-soon, tick-done, answer-ends, answer-holds, answer-tick}
 use borrow.Author.Needs.{needs}

@@ -4,7 +4,7 @@ use mathlib.Core.Path.{_≡_}
 use mathlib.Core.Bool.{true}
 use native.Mathlib.Omega.{arith}
 use lib.ListN.{getD}
-use Rattle.steps.specs.Parts.{heard}
+use Rattle.model.specs.Run.{heard}
 use Rattle.steps.proofs.MaskLaws.{Rest, rest-all, rest-under, here, least, turn, passed}
 use Rattle.machine.proofs.CallLaws.{soon-one, soon-none}
 use borrow.Author.Needs.{needs}

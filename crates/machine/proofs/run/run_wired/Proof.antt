@@ -19,7 +19,9 @@ use Rattle.spacings.specs.Gaps.{GapsOf}
 use Rattle.steps.specs.Words.{Holds}
 use Rattle.steps.proofs.MaskLaws.{sourced}
 use Rattle.steps.proofs.RecordLaws.{begun}
-use Rattle.machine.specs.Run.{callOf, callsIn, codeOf, page}
+use Rattle.model.specs.declared.Outcome.{Outcome}
+use Rattle.model.specs.Refusals.{ofOutcome}
+use Rattle.model.specs.Run.{callOf, callsIn, page}
 use Rattle.machine.proofs.RunLaws.{calls-length, calls-at, codes-length, run-left, run-code, store-turn, ran-short, ran-whole, filled-short, filled-whole, on-knob, kept}
 use Rattle.machine.proofs.TickLaws.{tables-of}
 use borrow.Author.Needs.{needs}
@@ -123,7 +125,7 @@ loop-again c =
           let m = left d t (idle d t) (take i cs) in
           let tables = tables-of d t (S .args .t1) (S .args .t2) r g in
           let l = kept d t (take i cs) m (r .formed) j refl in
-          (subst (λ (k : Machine). Holds d t (v .result .words) (v .last .1 .1 .1 .1 .1 .1 .0) (v .last .1 .1 .1 .1 .1 .1 .1 .0) k) (run-left d t cs (idle d t) i mask finish T q) (v .ensures .leaves d t m tables j l (I .0)), store-turn (S .args .outcomes .now) (L .outcomes) (page d t cs) i (c .before .code .result) (omega (arith, c .before .before .before .before .before .before .before .before .before .before .before .before .before .before .before .if1 .left, J)) (omega (arith, codes-length d t cs (idle d t))) (I .1) (c .before .code .ensures ∙ ap codeOf (v .ensures .ends d t m tables j l (I .0)) ∙ run-code d t cs (idle d t) i mask finish T q)),
+          (subst (λ (k : Machine). Holds d t (v .result .words) (v .last .1 .1 .1 .1 .1 .1 .0) (v .last .1 .1 .1 .1 .1 .1 .1 .0) k) (run-left d t cs (idle d t) i mask finish T q) (v .ensures .leaves d t m tables j l (I .0)), store-turn (S .args .outcomes .now) (L .outcomes) (page d t cs) i (c .before .code .result) (omega (arith, c .before .before .before .before .before .before .before .before .before .before .before .before .before .before .before .if1 .left, J)) (omega (arith, codes-length d t cs (idle d t))) (I .1) (c .before .code .ensures ∙ ap (λ (o : Outcome). ofOutcome o .number) (v .ensures .ends d t m tables j l (I .0)) ∙ run-code d t cs (idle d t) i mask finish T q)),
     )
 
 unpack-requires : tie.Need-unpack-requires Inv-loop μ-loop

@@ -1,0 +1,75 @@
+-- A run of many tick calls: the list of calls that its bytes stand for, its answer, the buffer it leaves, and what is assured of both.
+use Prim.Native.Nat.{ℕ, _+_, _*_, _/_, _%_, _^_, _≤_}
+use mathlib.Core.Bool.{Bool, cond, not}
+use mathlib.Core.List.{List, [], _∷_}
+use mathlib.Core.Path.{_≡_}
+use lib.ListN.{length, getD, take}
+use lib.Dec.{eqb, ltb}
+use Rattle.model.specs.declared.Description.{Description}
+use Rattle.model.specs.declared.Ticked.{Ticked}
+use Rattle.model.specs.declared.Outcome.the-variants.{Done}
+use Rattle.model.specs.declared.Refusal.the-variants.{ShortPage}
+use Rattle.model.specs.declared.Quote.the-variants.{Tempo}
+use Rattle.model.specs.Basics.{tab}
+use Rattle.model.specs.Refusals.{ofOutcome, onDone}
+use Rattle.model.specs.Field.{numberIn}
+use Rattle.model.specs.File.{filledBy}
+use Rattle.model.specs.Verdicts.{judgeAt, quoteOf}
+use Rattle.model.specs.Machine.{idle, unstarted}
+use Rattle.model.specs.History.{Call, answers, left}
+use Rattle.model.specs.Promise.{Calls, Assured}
+
+-- the arrivals of a mask, whose bit u is source 33 + u
+abbrev pub heard : ℕ → ℕ → Bool
+heard mask u = eqb (mask / 2 ^ u % 2) 1
+
+unfoldable pub marksIn : ℕ → List Bool
+marksIn mask = tab 16 (heard mask)
+
+-- a call in four bytes: the mask of its arrivals, high byte first; finish, unless the byte is 0; and a byte that is not looked at
+abbrev pub callOf : ℕ → Bool → Call
+callOf mask finish = record { arrivals = record { marks = marksIn mask }; finish = finish }
+
+abbrev pub callIn : List ℕ → ℕ → Call
+callIn bytes i = callOf (numberIn bytes (4 * i) 2) (not (eqb (getD bytes (4 * i + 2) 0) 0))
+
+-- as many calls as the bytes have whole fours
+abbrev pub callsIn : List ℕ → List Call
+callsIn bytes = tab (length bytes / 4) (callIn bytes)
+
+-- a call's end as a byte: 0 for work done, or else the refusal's number
+unfoldable pub codes : List Ticked → List ℕ
+codes [] = []
+codes (r ∷ rs) = ofOutcome (r .outcome) .number ∷ codes rs
+
+-- the codes of the plain machine's answers
+abbrev pub page : Description → ℕ → List Call → List ℕ
+page d t cs = codes (answers d t (idle d t) cs)
+
+-- the run's answer: 1 to 11 as judged, 13 where the buffer does not hold a byte for each call, or else the record after the last call
+abbrev pub ranFrom : Description → ℕ → List Call → List ℕ → Ticked
+ranFrom d t cs buffer =
+    cond (ltb (length buffer) (length cs))
+    (unstarted ShortPage 0)
+    (record { outcome = Done; machine = left d t (idle d t) cs })
+
+unfoldable pub ran : Description → ℕ → List Call → List ℕ → Ticked
+ran d t cs buffer = onDone (judgeAt d t) (ranFrom d t cs buffer) unstarted
+
+-- the buffer after it: "a refusal changes no byte of a lent buffer"
+unfoldable pub pageRan : Description → ℕ → List Call → List ℕ → List ℕ
+pageRan d t cs buffer = onDone (judgeAt d t) (filledBy (page d t cs) buffer) (λ r place. buffer)
+
+-- demand 3 of a run's own answer and buffer: its record is the one that a list of tick calls from the start leaves, the first bytes
+-- of its buffer are the codes of those calls' answers, and of both all is assured
+pub record RunAssured (d : Description) (q t : ℕ) (cs : List Call) (buffer : List ℕ) (r : Ticked) : Type 0 where
+  pub answered : List Ticked
+  pub called : Calls d t (idle d t) cs answered (r .machine)
+  pub told : take (length cs) buffer ≡ codes answered
+  pub assured : Assured d q t cs answered (r .machine)
+
+-- what the run call ensures of its answer and of the caller's buffer
+pub record RunMeets (d : Description) (t : ℕ) (cs : List Call) (buffer buffer′ : List ℕ) (r : Ticked) : Type 0 where
+  pub answer : r ≡ ran d t cs buffer
+  pub filled : buffer′ ≡ pageRan d t cs buffer
+  pub assured : (q : ℕ) → quoteOf d ≡ Tempo q → t ≤ q → r .outcome ≡ Done → RunAssured d q t cs buffer′ r

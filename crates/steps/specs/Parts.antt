@@ -1,12 +1,11 @@
 -- A record from its parts, spacings as a table, and arrivals as a mask.
-use Prim.Native.Nat.{ℕ, _/_, _%_, _^_, _≤_, _<_}
+use Prim.Native.Nat.{ℕ, _/_, _^_, _≤_, _<_}
 use mathlib.Core.Bool.{Bool, true}
 use mathlib.Core.List.{List}
 use mathlib.Core.Path.{_≡_}
-use lib.Dec.{eqb}
 use Rattle.model.specs.declared.Description.{Description}
 use Rattle.model.specs.declared.Machine.{Machine}
-use Rattle.model.specs.Basics.{tab}
+use Rattle.model.specs.Run.{heard}
 
 -- a record from its parts
 abbrev pub parts : List Bool → List ℕ → List Bool → List Bool → List ℕ → Machine

@@ -3,6 +3,7 @@ pub mod WellFormed
 pub mod Spacing
 pub mod Rounds
 pub mod Quotes
+pub mod QuotedFile
 pub mod Walk
 pub mod Order
 pub mod Levels

@@ -1,1 +1,2 @@
+pub mod Assured
 pub mod Laws

@@ -20,6 +20,7 @@ ghost use Rattle.model.specs.Verdicts.{judgeAt};
 ghost use Rattle.model.specs.Machine.{unstarted, plainTick};
 ghost use Rattle.model.specs.Promise.{StartMeets, TickMeets};
 ghost use Rattle.model.specs.Run.{callsIn, RunMeets};
+ghost use Rattle.machine.specs.Run.{RunOf};
 ghost use Rattle.ticks.specs.Calls.{untouched};
 
 // Refusals 1 to 10 as judged, then 11.
@@ -90,7 +91,7 @@ fn tick_value(d: Description, t: u32, m: Machine, a: Arrivals, finish: bool) -> 
 // The calls of a run, for a description that is judged as done at tempo t already.
 pub fn run_accepted(d: Description, t: u32, calls: &[u8], outcomes: &mut [u8]) -> Ticked
     requires { ⌜ judgeAt d t ≡ Done ⌝ }
-    ensures { λ r. ⌜ RunMeets d t (callsIn (now (calls .entry))) (now (outcomes .entry)) (now (outcomes .exit)) r ⌝ }
+    ensures { λ r. ⌜ RunOf d t (callsIn (now (calls .entry))) (now (outcomes .entry)) (now (outcomes .exit)) r ⌝ }
 {
     let gaps = gaps_of(d, t);
     run_judged(d, t, gaps, calls, outcomes)

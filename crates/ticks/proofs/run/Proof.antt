@@ -1,6 +1,7 @@
 -- `run` meets its contract: refused, or the calls of an accepted description. Assumes nothing.
 use mathlib.Core.Path.{sym, _∙_}
 use Rattle.model.specs.Run.{callsIn}
+use Rattle.theory.proofs.Typed.{typed-widths}
 use Rattle.ticks.proofs.Laws.{run-refused, run-done}
 use borrow.Author.Needs.{needs}
 use Rattle.ticks.proofs.run.Statement.{statement}
@@ -28,7 +29,7 @@ same-length : tie.Need-same-length
 same-length c = search needs
 
 returns-2 : tie.Need-returns-2
-returns-2 c = let S = c .before .before .before .before .before .before .before .before .before in run-done (S .args .d) (S .args .t) (callsIn (S .args .calls .now)) (S .args .outcomes .now) _ (c .before .before .run-accepted .result) (sym (c .before .before .before .before .before .before .judge-at .ensures) ∙ c .before .before .before .before .enum-told .given .1) (c .before .before .run-accepted .ensures)
+returns-2 c = let S = c .before .before .before .before .before .before .before .before .before in run-done (S .args .d) (S .args .t) (callsIn (S .args .calls .now)) (S .args .outcomes .now) _ (c .before .before .run-accepted .result) (typed-widths (S .args .d) _ (S .good .0)) (sym (c .before .before .before .before .before .before .judge-at .ensures) ∙ c .before .before .before .before .enum-told .given .1) (c .before .before .run-accepted .ensures)
 
 pub run-spec : {M : Type 1} → statement M
 run-spec =

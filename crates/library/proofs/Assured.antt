@@ -1,27 +1,100 @@
--- What the header promises of a run: up to the number that `bench_quote` answers, every list of calls is assured. The codes and the
--- record that `bench_run` gives are those of these answers and this last record, by its contract. Assumes nothing.
-use Prim.Native.Nat.{ℕ, _≤_}
-use mathlib.Core.Path.{_≡_, refl}
-use mathlib.Core.List.{List}
+-- What the header promises of a run: of the bytes that `bench_run` leaves, up to the number that `bench_quote` answers. Assumes nothing.
+use Prim.Native.Nat.{ℕ, zero, suc, _+_, _*_, _/_, _≤_, _<_}
+use mathlib.Core.Path.{_≡_, refl, sym, ap, subst, _∙_}
+use mathlib.Core.Bool.{Bool, true, false, cond, _||_}
+use mathlib.Core.List.{List, _++_}
 use native.Mathlib.Omega.{arith}
+use lib.ListN.{length, take, drop}
+use lib.Seq.{take-at}
+use lib.Dec.{ltb, leb}
+use lib.IntN.{ℤ, pos, negsuc, negℤ}
+use borrow.Author.Tests.{leb-true, ltb-false}
+use Rattle.model.specs.declared.Machine.{Machine}
+use Rattle.model.specs.declared.Ticked.{Ticked}
+use Rattle.model.specs.declared.Quote.{Quote}
 use Rattle.model.specs.declared.Quote.the-variants.{Tempo, Unquoted}
 use Rattle.model.specs.declared.Refusal.{Refusal}
+use Rattle.model.specs.declared.Refusal.the-variants.{CutShort, StrangeTag, WrongLength, OutOfTurn, TooMany, OffScale, NoSuchEnd, NoTask, Loop, TooHeavy, OffKnob, NoTempo, ShortPage, TooSoon, Stranger, ForeignState}
 use Rattle.model.specs.declared.Outcome.{Outcome}
 use Rattle.model.specs.declared.Outcome.the-variants.{Done, Refused}
-use Rattle.model.specs.File.{readFile}
-use Rattle.model.specs.Verdicts.{quotedFile}
+use Rattle.model.specs.Refusals.{numberOf}
+use Rattle.model.specs.File.{readFile, filledBy}
+use Rattle.model.specs.Verdicts.{quotedFile, onKnob}
+use Rattle.model.specs.Machine.{idle}
+use Rattle.model.specs.History.{answers, left}
+use Rattle.model.specs.Run.{callsIn, page}
+use Rattle.lemmas.proofs.Tests.{and-left, not-both}
+use Rattle.lemmas.proofs.Outcomes.{refused-not}
+use Rattle.lemmas.proofs.Table.{length-tab}
 use Rattle.theory.proofs.NumberBytes.{Bytes as AllBytes}
-use Rattle.theory.proofs.ReadBack.{read-whence}
-use Rattle.assurance.proofs.PlainCalls.{AssuredOf, plain-assured}
-use Rattle.model.specs.Run.{callsIn}
+use Rattle.theory.proofs.QuotedFile.{QuotedFile, quoted-file}
+use Rattle.assurance.proofs.PlainCalls.{plain-calls, plain-assured}
+use Rattle.machine.proofs.RunLaws.{calls-length, codes-length}
+use Rattle.library.specs.Replies.{refusalCode, quoteReply, recordByte, recordBytes, runOutcome, runReply, RunReplied, RunAssured}
 
-pub run-assured : (s calls : List ℕ) (q t : ℕ) → AllBytes s → quotedFile s ≡ Tempo q → 200 ≤ t → t ≤ q → AssuredOf (readFile s .description) q t (callsIn calls)
-unfolding quotedFile
-run-assured s calls q t b e low high = go (readFile s .outcome) refl
+-- an answer of 0 or more is no refusal
+abbrev low : ℤ → Bool
+low (pos n) = false
+low (negsuc n) = true
+
+abbrev size : ℤ → ℕ
+size (pos n) = n
+size (negsuc n) = n
+
+neg-low : (k : ℕ) → 0 < k → low (negℤ (pos k)) ≡ true
+neg-low zero h = absurd (omega arith)
+neg-low (suc k) h = refl
+
+numbered : (r : Refusal) → 1 ≤ numberOf r
+numbered CutShort = omega arith
+numbered StrangeTag = omega arith
+numbered WrongLength = omega arith
+numbered OutOfTurn = omega arith
+numbered TooMany = omega arith
+numbered OffScale = omega arith
+numbered NoSuchEnd = omega arith
+numbered NoTask = omega arith
+numbered Loop = omega arith
+numbered TooHeavy = omega arith
+numbered OffKnob = omega arith
+numbered NoTempo = omega arith
+numbered ShortPage = omega arith
+numbered TooSoon = omega arith
+numbered Stranger = omega arith
+numbered ForeignState = omega arith
+
+refusal-low : (r : Refusal) (p : ℕ) (n : ℕ) → refusalCode r p ≡ pos n → ⊥
+refusal-low r p n e = not-both (neg-low (10000 * numberOf r + p) (omega (arith, numbered r))) (ap low e)
+
+-- a quote call that answers q of 0 or more has quoted q
+pub quote-told : (x : Quote) (q : ℕ) → quoteReply x ≡ pos q → x ≡ Tempo q
+quote-told (Tempo t) q e = ap Tempo (ap size e)
+quote-told (Unquoted r p) q e = absurd (refusal-low r p q e)
+
+-- a run call that answers 0 is done, and its tempo is on the knob
+run-done : (o : Outcome) → runReply o ≡ pos 0 → o ≡ Done
+run-done Done e = refl
+run-done (Refused r p) e = absurd (refusal-low r p 0 e)
+
+on-knob : (s : List ℕ) (t : ℕ) (calls outcomes out : List ℕ) → readFile s .outcome ≡ Done → runOutcome s t calls outcomes out ≡ Done → onKnob t ≡ true
+unfolding runOutcome
+on-knob s t calls outcomes out a e = go (onKnob t) refl
   where
-    not-tempo : (r : Refusal) (p : ℕ) → Unquoted r p ≡ Tempo q → ⊥
-    not-tempo r p f = let z : _≡_ {A = ℕ} 0 1 = cc in omega arith
+    go : (b : Bool) → onKnob t ≡ b → onKnob t ≡ true
+    go true k = k
+    go false k = refused-not (rw (a, k) at e)
 
-    go : (o : Outcome) → readFile s .outcome ≡ o → AssuredOf (readFile s .description) q t (callsIn calls)
-    go Done a = plain-assured (readFile s .description) q t (read-whence s b a .widths) (rw a at e) low high (callsIn calls)
-    go (Refused r p) a = absurd (not-tempo r p (rw a at e))
+short-not : (b : Bool) → cond b (Refused ShortPage 0) (let x : Outcome = Done in x) ≡ Done → b ≡ false
+short-not true e = refused-not e
+short-not false e = refl
+
+enough : (s : List ℕ) (t : ℕ) (calls outcomes out : List ℕ) → readFile s .outcome ≡ Done → runOutcome s t calls outcomes out ≡ Done → length calls / 4 ≤ length outcomes
+unfolding runOutcome
+enough s t calls outcomes out a e =
+    let k : onKnob t ≡ true = on-knob s t calls outcomes out a e in
+    let f : (ltb (length out) 736 || ltb (length outcomes) (length calls / 4)) ≡ false = short-not _ (rw (a, k) at e) in
+    ltb-false (length outcomes) (length calls / 4) ?
+
+pub bench-assured : (s calls outcomes out outcomes′ out′ : List ℕ) (q t : ℕ) (r r′ : ℤ) → AllBytes s
+    → r ≡ quoteReply (quotedFile s) → r ≡ pos q → t ≤ q → RunReplied s t calls outcomes out outcomes′ out′ r′ → r′ ≡ pos 0 → RunAssured s q t calls outcomes′ out′
+bench-assured s calls outcomes out outcomes′ out′ q t r r′ b told e high ran done = ?

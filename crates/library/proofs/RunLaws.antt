@@ -22,7 +22,7 @@ use Rattle.model.specs.History.{left}
 use Rattle.theory.proofs.NumberBytes.{Bytes as AllBytes}
 use Rattle.theory.proofs.FileLength.{placeIn, read-place}
 use Rattle.theory.proofs.ReadBack.{read-judged}
-use Rattle.model.specs.Run.{callsIn, page, ran}
+use Rattle.model.specs.Run.{callsIn, page, ranFrom}
 use Rattle.machine.proofs.RunLaws.{calls-length}
 use Rattle.ticks.proofs.Laws.{at-done}
 use Rattle.library.specs.Replies.{refusalCode, recordBytes, runOutcome, runReply, codesAfter, recordAfter}
@@ -70,7 +70,7 @@ module _ (s : List ℕ) (x : Reading) (whole : x ≡ readFile s) where
     pub run-refused : (d : Description) (r : Refusal) (p : ℕ) → runOutcome s t calls outcomes out ≡ Refused r p → (refusalCode r p ≡ runReply (runOutcome s t calls outcomes out)) × (outcomes ≡ codesAfter (runOutcome s t calls outcomes out) d t calls outcomes) × (out ≡ recordAfter (runOutcome s t calls outcomes out) d t calls out)
     run-refused d r p e = (rw e refl, rw e refl, rw e refl)
 
-    pub run-machine : (y : Ticked) → length calls / 4 ≤ length outcomes → y ≡ ran (x .description) t (callsIn calls) outcomes → y .machine ≡ left (x .description) t (idle (x .description) t) (callsIn calls)
+    pub run-machine : (y : Ticked) → length calls / 4 ≤ length outcomes → y ≡ ranFrom (x .description) t (callsIn calls) outcomes → y .machine ≡ left (x .description) t (idle (x .description) t) (callsIn calls)
     run-machine y h e =
         ap (λ (k : Ticked). k .machine) e
         ∙ rw (le-ltb (length outcomes) (length (callsIn calls)) (omega (arith, calls-length calls))) refl

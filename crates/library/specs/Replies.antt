@@ -8,6 +8,7 @@ use lib.Dec.{ltb, eqb}
 use lib.IntN.{ℤ, pos, negℤ}
 use Rattle.model.specs.declared.Description.{Description}
 use Rattle.model.specs.declared.Machine.{Machine}
+use Rattle.model.specs.declared.Ticked.{Ticked}
 use Rattle.model.specs.declared.Filled.{Filled}
 use Rattle.model.specs.declared.Filled.the-variants.{Bytes, Unfilled}
 use Rattle.model.specs.declared.Quote.{Quote}
@@ -17,16 +18,20 @@ use Rattle.model.specs.declared.Refusal.the-variants.{ShortPage, OffKnob}
 use Rattle.model.specs.declared.Outcome.{Outcome}
 use Rattle.model.specs.declared.Outcome.the-variants.{Done, Refused}
 use Rattle.model.specs.Basics.{tab}
-use Rattle.model.specs.Refusals.{numberOf, onDone}
+use Rattle.model.specs.Refusals.{Numbered, numberOf, refusal, onDone}
 use Rattle.model.specs.File.{readFile, filledBy}
 use Rattle.model.specs.Verdicts.{onKnob}
 use Rattle.model.specs.Machine.{idle}
 use Rattle.model.specs.History.{left}
-use Rattle.model.specs.Run.{callsIn, page}
+use Rattle.model.specs.Promise.{Calls, Assured}
+use Rattle.model.specs.Run.{callsIn, codes, page}
 
 -- a refusal's number and place in one number below 0
+abbrev pub below0 : Numbered → ℤ
+below0 n = negℤ (pos (10000 * n .number + n .value))
+
 abbrev pub refusalCode : Refusal → ℕ → ℤ
-refusalCode r place = negℤ (pos (10000 * numberOf r + place))
+refusalCode r place = below0 (refusal r place)
 
 -- the report: how many bytes it has, or -13
 abbrev pub reportReply : Filled → ℤ
@@ -86,3 +91,13 @@ pub record RunReplied (s : List ℕ) (t : ℕ) (calls outcomes out outcomes′ o
   pub answer : r ≡ runReply (runOutcome s t calls outcomes out)
   pub codes : outcomes′ ≡ codesAfter (runOutcome s t calls outcomes out) (readFile s .description) t calls outcomes
   pub bytes : out′ ≡ recordAfter (runOutcome s t calls outcomes out) (readFile s .description) t calls out
+
+-- demand 3 of what a caller has in hand: the codes in the buffer of outcomes and the record in the other are those of a list of tick calls
+-- from the start, of which all is assured up to the number that the quote call answered
+pub record RunAssured (s : List ℕ) (q t : ℕ) (calls outcomes out : List ℕ) : Type 0 where
+  pub answered : List Ticked
+  pub machine : Machine
+  pub called : Calls (readFile s .description) t (idle (readFile s .description) t) (callsIn calls) answered machine
+  pub told : take (length (callsIn calls)) outcomes ≡ codes answered
+  pub kept : take 736 out ≡ recordBytes machine
+  pub assured : Assured (readFile s .description) q t (callsIn calls) answered machine

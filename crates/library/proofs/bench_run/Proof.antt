@@ -74,8 +74,8 @@ returns-5 : tie.Need-returns-5
 returns-5 c =
     let a = c .before .before .before .before .before .before .before .before .before .before .before .before .before .before .before .before .before .before .before .before .args in
     let done = run-whole (a .file .now) (c .before .before .before .before .before .before .before .before .before .before .before .before .before .before .before .read .result) (c .before .before .before .before .before .before .before .before .before .before .before .before .before .before .before .read .ensures) (a .tempo) (a .calls .now) (a .outcomes .now) (a .state .now) (c .before .before .before .before .before .before .before .before .before .before .before .before .before .enum-told .given .1) (sym (c .before .before .before .before .before .before .before .before .before .before .before .on-knob .ensures) ∙ not-false _ (c .before .before .before .before .before .before .before .before .before .before .if1 .left)) (c .before .before .before .before .before .before .before .before .before .if2 .left) (c .before .before .before .before .before .before .before .before .if3 .left) in
-    let ran = run-machine (a .file .now) (c .before .before .before .before .before .before .before .before .before .before .before .before .before .before .before .read .result) (c .before .before .before .before .before .before .before .before .before .before .before .before .before .before .before .read .ensures) (a .tempo) (a .calls .now) (a .outcomes .now) (a .state .now) (c .before .before .before .before .before .before .run-accepted .result) (c .before .before .before .before .before .before .before .before .if3 .left) (c .before .before .before .before .before .before .run-accepted .ensures .answered) in
-    let y = run-does (a .file .now) (c .before .before .before .before .before .before .before .before .before .before .before .before .before .before .before .read .result) (c .before .before .before .before .before .before .before .before .before .before .before .before .before .before .before .read .ensures) (a .tempo) (a .calls .now) (a .outcomes .now) (a .state .now) (c .before .before .before .before .before .before .run-accepted .result .machine) _ _ done ran (c .before .before .before .before .before .before .run-accepted .ensures .filled) (c .before .before .put-record .ensures) in
+    let ran = run-machine (a .file .now) (c .before .before .before .before .before .before .before .before .before .before .before .before .before .before .before .read .result) (c .before .before .before .before .before .before .before .before .before .before .before .before .before .before .before .read .ensures) (a .tempo) (a .calls .now) (a .outcomes .now) (a .state .now) (c .before .before .before .before .before .before .run-accepted .result) (c .before .before .before .before .before .before .before .before .if3 .left) (c .before .before .before .before .before .before .run-accepted .ensures .0) in
+    let y = run-does (a .file .now) (c .before .before .before .before .before .before .before .before .before .before .before .before .before .before .before .read .result) (c .before .before .before .before .before .before .before .before .before .before .before .before .before .before .before .read .ensures) (a .tempo) (a .calls .now) (a .outcomes .now) (a .state .now) (c .before .before .before .before .before .before .run-accepted .result .machine) _ _ done ran (c .before .before .before .before .before .before .run-accepted .ensures .1) (c .before .before .put-record .ensures) in
     record { answer = y .0; codes = y .1; bytes = y .2 }
 
 pub bench-run-spec : {M : Type 1} → statement M

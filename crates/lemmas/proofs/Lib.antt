@@ -5,3 +5,4 @@ pub mod Range
 pub mod Table
 pub mod Pigeonhole
 pub mod Outcomes
+pub mod Decimal

@@ -12,4 +12,5 @@ pub mod Machine
 pub mod History
 pub mod Report
 pub mod Promise
+pub mod Page
 pub mod Figures

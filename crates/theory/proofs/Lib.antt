@@ -22,3 +22,4 @@ pub mod Links
 pub mod LoadBounds
 pub mod Alike
 pub mod Typed
+pub mod Pages

@@ -81,6 +81,8 @@ from-page file q b e = go (readFile file .outcome) refl
         record {
           accepted = a;
           quoted = rw a z;
+          low = quoted d q z .low;
+          high = quoted d q z .high;
           assured = λ t cs rs m low high c. demand3 d q t cs rs m w z low high c;
           held = λ l i j D M h.
               let n = page-held d (Tempo q) (fields d q w z) l i j D M (rw page at h) in

@@ -6,7 +6,7 @@ use mathlib.Core.List.{List, [], _∷_, _++_, head-eq-of-cons-eq, tail-eq-of-con
 use native.Mathlib.Nat.{pow-succ'}
 use native.Mathlib.Omega.{arith}
 use borrow.Author.Tests.{lt-ltb, le-ltb, le-leb, ltb-true, ltb-false}
-use lib.ListN.{length, take, drop, length-append}
+use lib.ListN.{length, getD, take, drop, length-append}
 use lib.Seq.{take-at, drop-at}
 use lib.Dec.{leb, ltb}
 use Rattle.model.specs.Report.{digits, decimal}
@@ -25,6 +25,11 @@ pub every-weaker : (p q : ℕ → Bool) → ((c : ℕ) → p c ≡ true → q c 
 every-weaker p q h [] e = refl
 every-weaker p q h (c ∷ s) e =
     both (q c) (every q s) (h c (and-left (p c) _ e)) (every-weaker p q h s (and-right (p c) _ e))
+
+pub every-at : (p : ℕ → Bool) (s : List ℕ) (z : ℕ) → every p s ≡ true → p z ≡ true → (i : ℕ) → p (getD s i z) ≡ true
+every-at p [] z e f i = f
+every-at p (c ∷ s) z e f zero = and-left (p c) (every p s) e
+every-at p (c ∷ s) z e f (suc i) = every-at p s z (and-right (p c) (every p s) e) f i
 
 -- a text is determined up to its first byte that fails a test
 pub cut-same : (p : ℕ → Bool) (s t : List ℕ) (c d : ℕ) (r u : List ℕ) → every p s ≡ true → every p t ≡ true → p c ≡ false → p d ≡ false → s ++ (c ∷ r) ≡ t ++ (d ∷ u) → (s ≡ t) × (c ≡ d) × (r ≡ u)

@@ -70,6 +70,8 @@ pub record HeldLine (d : Description) (q l i j D M : ℕ) : Type 0 where
 pub record FromPage (file page : List ℕ) (q : ℕ) : Type 0 where
   pub accepted : readFile file .outcome ≡ Done
   pub quoted : quotedFile file ≡ Tempo q
+  pub low : 200 ≤ q
+  pub high : q ≤ 3000
   -- demand 3 at every tempo up to q
   pub assured : (t : ℕ) (cs : List Call) (rs : List Ticked) (m : Machine) → 200 ≤ t → t ≤ q
       → Calls (readFile file .description) t (idle (readFile file .description) t) cs rs m → Assured (readFile file .description) q t cs rs m

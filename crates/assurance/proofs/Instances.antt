@@ -99,7 +99,7 @@ box-paper =
     bytes i = ltb-true (getD boxFile i 0) 256 (every-at (λ c. ltb c 256) boxFile 0 refl refl i)
 
 pub box-line : HeldLine box 1783 3 33 2 700 701
-box-line = rw (figures .p2-read) at (box-paper .held 3 33 2 700 701 (3, figures .page-box-link-3))
+box-line = rw (figures .p2-read) at (box-paper .held 3 33 2 700 701 (3, omega (arith, figures .page-box-lines), figures .page-box-link-3))
 
 -- Twin with spacing 9: quoted at 300.0
 twin-widths : Widths (twin 9)

@@ -1,24 +1,24 @@
 -- The printed page alone: a first line `tempo a.b` says that the file is accepted, what its quote is and that demand 3 holds up to it, and each line
 -- of a held source link says how long its events wait. Assumes nothing.
 use Prim.Native.Nat.{ℕ, suc, _-_, _≤_, _<_}
-use mathlib.Core.Path.{_≡_, refl, sym, ap, _∙_}
-use mathlib.Core.Bool.{true, false, not}
+use mathlib.Core.Path.{_≡_, refl, ap}
+use mathlib.Core.Bool.{not}
 use mathlib.Core.List.{List}
 use native.Mathlib.Omega.{arith}
 use borrow.Author.Tests.{not-true}
-use lib.ListN.{length}
+use lib.ListN.{take}
 use Rattle.model.specs.declared.Description.{Description}
 use Rattle.model.specs.declared.Outcome.{Outcome}
 use Rattle.model.specs.declared.Outcome.the-variants.{Done, Refused}
 use Rattle.model.specs.declared.Quote.{Quote}
-use Rattle.model.specs.declared.Quote.the-variants.{Tempo}
+use Rattle.model.specs.declared.Quote.the-variants.{Tempo, Unquoted}
+use Rattle.model.specs.declared.Refusal.{Refusal}
+use Rattle.model.specs.declared.Filled.{Filled}
 use Rattle.model.specs.Graph.{linkAt}
-use Rattle.model.specs.File.{Widths, readFile, Accepted}
+use Rattle.model.specs.File.{Widths, readFile, filledBy}
 use Rattle.model.specs.Delays.{spacingOf}
 use Rattle.model.specs.Verdicts.{verdictAt, doubtful, allHeld, largestBelow, quoteOf, quotedFile}
-use Rattle.model.specs.Machine.{idle}
-use Rattle.model.specs.History.{Call, ticks, fires, tickAt, waitOf}
-use Rattle.model.specs.Report.{reportFor, reportOf, printed}
+use Rattle.model.specs.Report.{reportFor, reportOf, reported, pageReported, printed}
 use Rattle.model.specs.Page.{FirstLine, HasLine, tempoWords, heldWords, HeldLine, FromPage, Paper}
 use Rattle.lemmas.proofs.Range.{all-at}
 use Rattle.theory.proofs.WellFormed.{Fielded}
@@ -26,7 +26,7 @@ use Rattle.theory.proofs.NumberBytes.{Bytes}
 use Rattle.theory.proofs.FileLaws.{judge-well-formed}
 use Rattle.theory.proofs.ReadBack.{read-whence, read-judged}
 use Rattle.theory.proofs.Quotes.{largest-found, quoted}
-use Rattle.theory.proofs.Pages.{Named, held-says, source-held, page-held, page-told, page-tempo, refused-no-tempo, printed-whole}
+use Rattle.theory.proofs.Pages.{Named, held-says, source-held, page-held, page-told, page-first, page-tempo, refused-no-tempo, printed-whole, filled-page}
 use Rattle.assurance.proofs.Demand3.{demand3}
 use Rattle.assurance.proofs.PlainCalls.{plain-assured}
 
@@ -90,6 +90,30 @@ from-page file q b e = go (readFile file .outcome) refl
           told = λ l h c s. rw page (line-there d q w z l h c s);
         }
 
--- and of the page that the program prints for its input
+-- the converse: the page of a file with a quote begins with that tempo
+pub quoted-page : (file : List ℕ) (q : ℕ) → Bytes file → quotedFile file ≡ Tempo q → FirstLine (reportOf file) (tempoWords q)
+unfolding reportOf quotedFile quoteOf
+quoted-page file q b e = go (readFile file .outcome) refl
+  where
+    d : Description
+    d = readFile file .description
+
+    not-tempo : (r : Refusal) (place : ℕ) → Unquoted r place ≡ Tempo q → ⊥
+    not-tempo r place f = let z : _≡_ {A = ℕ} 0 1 = cc in omega arith
+
+    go : (o : Outcome) → readFile file .outcome ≡ o → FirstLine (reportOf file) (tempoWords q)
+    go (Refused r place) a = absurd (not-tempo r place (rw a at e))
+    go Done a =
+        let k : largestBelow (allHeld d) 2801 ≡ Tempo q = rw (a, read-judged file b a) at e in
+        rw (a, k) (page-first d (Tempo q))
+
+-- what holds of the report holds of the page that the program prints for its input
 pub from-printed : (input : List ℕ) (q : ℕ) → Bytes input → FirstLine (printed input) (tempoWords q) → FromPage input (printed input) q
 from-printed input q b e = rw printed-whole (from-page input q b (rw printed-whole at e))
+
+-- and of the page that the report call leaves at the front of a lent buffer
+pub from-buffer : (file buffer : List ℕ) (n q : ℕ) → Bytes file → reported file buffer ≡ Filled.Bytes n → FirstLine (take n (pageReported file buffer)) (tempoWords q) → FromPage file (take n (pageReported file buffer)) q
+unfolding reported pageReported
+from-buffer file buffer n q b f e =
+    let p : take n (filledBy (reportOf file) buffer) ≡ reportOf file = filled-page (reportOf file) buffer n f in
+    rw p (from-page file q b (rw p at e))

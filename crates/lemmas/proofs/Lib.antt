@@ -1,4 +1,4 @@
--- General lemmas: tests, ranges, tables, counting and outcomes.
+-- General lemmas: tests, ranges, tables, counting, outcomes and decimal text.
 pub mod Tests
 pub mod Bools
 pub mod Range

@@ -52,6 +52,7 @@ figures = record {
   p9-pass = refl;
   p10-twice = refl;
   page-box = refl;
+  page-box-lines = refl;
   page-box-tempo = refl;
   page-box-link-3 = refl;
   page-box-link-4 = refl;

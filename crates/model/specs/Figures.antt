@@ -27,7 +27,7 @@ use Rattle.model.specs.Verdicts.{verdictAt, quoteOf}
 use Rattle.model.specs.Machine.{idle, droppedAt}
 use Rattle.model.specs.History.{Call, answers}
 use Rattle.model.specs.Report.{reportFor, reportOf}
-use Rattle.model.specs.Page.{lineAt, FirstLine, tempoWords, heldWords}
+use Rattle.model.specs.Page.{linesOf, lineAt, FirstLine, tempoWords, heldWords}
 
 -- a list filled up to n places
 abbrev pub upToLength : {A : Type 0} → ℕ → A → List A → List A
@@ -152,6 +152,7 @@ pub record Figures : Type 0 where
   pub p9-pass : outcomes pulse 200 (callsWhere 6 (λ x. eqb x 0 || eqb x 5)) ≡ replicate 6 Done
   pub p10-twice : readFile (fileOf sameTwice) .outcome ≡ Refused OutOfTurn 20
   pub page-box : reportFor box (Tempo 1783) ≡ boxPage
+  pub page-box-lines : length (linesOf boxPage) ≡ 5
   pub page-box-tempo : FirstLine boxPage (tempoWords 1783)
   pub page-box-link-3 : lineAt boxPage 3 ≡ heldWords 3 33 2 700 701
   pub page-box-link-4 : lineAt boxPage 4 ≡ heldWords 4 34 3 400 2000

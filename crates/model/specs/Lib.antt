@@ -1,4 +1,4 @@
--- Every definition of document 01, in its order. A reader starts at File and ends at Promise.
+-- Every definition of document 01, in its order. A reader starts at File and ends at Promise and Page.
 pub mod Basics
 pub mod Refusals
 pub mod Field

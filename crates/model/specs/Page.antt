@@ -20,7 +20,7 @@ use Rattle.model.specs.History.{Call, ticks, fires, tickAt, waitOf}
 use Rattle.model.specs.Promise.{Calls, Assured}
 use Rattle.model.specs.Report.{decimal, tempoText, wTempo, wLink, wHeld, wOf, reportOf}
 
--- a text cut into lines: "each line ends in one line feed"
+-- a text cut into lines, "each line ends in one line feed": what stands before each, and a rest if there is one
 abbrev pub longer : ℕ → List (List ℕ) → List (List ℕ)
 longer c [] = (c ∷ []) ∷ []
 longer c (line ∷ lines) = (c ∷ line) ∷ lines
@@ -33,11 +33,12 @@ linesOf (c ∷ text) = elim (eqb c 10) [ true ↦ [] ∷ linesOf text | false �
 abbrev pub lineAt : List ℕ → ℕ → List ℕ
 lineAt page k = getD (linesOf page) k []
 
+-- the first line of a page has these words; one of its lines has them
 abbrev pub FirstLine : List ℕ → List ℕ → Type 0
 FirstLine page words = lineAt page 0 ≡ words
 
 abbrev pub HasLine : List ℕ → List ℕ → Type 0
-HasLine page words = (k : ℕ) × (lineAt page k ≡ words)
+HasLine page words = (k : ℕ) × (k < length (linesOf page)) × (lineAt page k ≡ words)
 
 -- `tempo 178.3`
 unfoldable pub tempoWords : ℕ → List ℕ

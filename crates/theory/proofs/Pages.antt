@@ -1,34 +1,37 @@
 -- The report read as a page: its lines, and that each line determines its parts. Assumes nothing.
-use Prim.Native.Nat.{ℕ, zero, suc, _+_, _-_, _/_, _%_, _^_, _≤_, _<_}
+use Prim.Native.Nat.{ℕ, zero, suc, _+_, _/_, _%_, _^_, _≤_, _<_}
 use mathlib.Core.Path.{_≡_, refl, sym, ap, _∙_}
 use mathlib.Core.Bool.{Bool, true, false, cond, not}
-use mathlib.Core.List.{List, [], _∷_, _++_, append-assoc, append-nil, append-cancel-left, head-eq-of-cons-eq, tail-eq-of-cons-eq, nil≢cons}
+use mathlib.Core.List.{List, [], _∷_, _++_, append-assoc, append-nil, append-cancel-left, head-eq-of-cons-eq, tail-eq-of-cons-eq}
 use native.Mathlib.Omega.{arith}
 use lib.Dec.{eqb, leb, ltb}
-use lib.ListN.{length, getD, List·getD-eq-default}
+use lib.ListN.{length, getD, take, drop}
+use lib.Seq.{take-append-seam}
 use borrow.Author.Tests.{leb-true, ltb-false, le-ltb, eqb-false, ne-eqb, not-true}
 use Rattle.model.specs.declared.Link.{Link}
 use Rattle.model.specs.declared.Description.{Description}
 use Rattle.model.specs.declared.Refusal.{Refusal}
+use Rattle.model.specs.declared.Refusal.the-variants.{ShortPage}
+use Rattle.model.specs.declared.Filled.the-variants.{Bytes, Unfilled}
 use Rattle.model.specs.declared.Verdict.{Verdict}
 use Rattle.model.specs.declared.Verdict.the-variants.{Free, HeldOrder, DoubtOrder, Held, Doubt}
 use Rattle.model.specs.declared.Quote.{Quote}
 use Rattle.model.specs.declared.Quote.the-variants.{Tempo, Unquoted}
 use Rattle.model.specs.Basics.{tab, joined}
 use Rattle.model.specs.Refusals.{numberOf}
-use Rattle.model.specs.Graph.{system, linkAt, sourceAt}
+use Rattle.model.specs.Graph.{system, linkAt}
 use Rattle.model.specs.Delays.{Settled, unchanged, reached, delayOf, spacingOf}
 use Rattle.model.specs.Order.{inOrder}
+use Rattle.model.specs.File.{fillWith, filledBy}
 use Rattle.model.specs.Verdicts.{settledVerdict, sourceVerdict, orderVerdict, verdictOf, verdictAt, doubtful}
 use Rattle.model.specs.Report.{decimal, lineOf, wTempo, wNone, wRefused, wAt, wLink, wHeld, wOf, tempoText, tempoLine, verdictText, linkLine, linkLines, refusedLine, shownTempo, reportFor, reportOf, printed}
-use Rattle.model.specs.Page.{longer, linesOf, lineAt, FirstLine, HasLine, tempoWords, heldWords}
-use Rattle.lemmas.proofs.Tests.{Cmp, less, same, more, cmp, and-left, and-right, cases}
+use Rattle.model.specs.Page.{longer, linesOf, FirstLine, HasLine, tempoWords, heldWords}
+use Rattle.lemmas.proofs.Tests.{and-left, and-right}
 use Rattle.lemmas.proofs.Table.{length-tab, getD-tab}
 use Rattle.lemmas.proofs.Decimal.{every, every-append, every-weaker, cut-same, isDigit, decimal-every, decimal-same, number-same}
 use Rattle.theory.proofs.WellFormed.{Fielded}
-use Rattle.theory.proofs.Spacing.{spacing-most}
 use Rattle.theory.proofs.FileLength.{read-first}
-use Rattle.theory.proofs.Links.{from-most, to-most}
+use Rattle.theory.proofs.Links.{from-most, to-most, link-gap-most}
 use Rattle.theory.proofs.Rounds.{held-fixed}
 use Rattle.theory.proofs.Quotes.{settled-held}
 
@@ -165,14 +168,6 @@ link-read l e v place i j D M a b c h q =
       verdict-is = verdict-read v D M h (t .1 ∙ ap (λ (x : List ℕ). 32 ∷ x) (k .2));
     }
 
--- the spacing of a link's source is at most 1,000,000,000
-gap-most : (d : Description) → Fielded d → (t l : ℕ) → l < d .«link_count» → 33 ≤ linkAt d l .from → spacingOf d t (linkAt d l .from) ≤ 1000000000
-unfolding spacingOf system
-gap-most d g t l h b =
-    cases (g .link-from l h)
-    (λ w. absurd (omega (arith, w .1, g .few-tasks)))
-    (λ w. spacing-most (sourceAt d (linkAt d l .from)) t (g .source-scale (linkAt d l .from) (w .0) (w .1)))
-
 -- what a verdict `held D of M` says of its link
 pub record HeldSays (d : Description) (t l D M : ℕ) : Type 0 where
   pub critical : linkAt d l .critical ≡ 1
@@ -203,7 +198,7 @@ held-says d g t l D M h =
           source = ltb-false (linkAt d l .from) 33 q;
           spacing = z;
           below = omega arith;
-          most = rw z at (gap-most d g t l h (ltb-false (linkAt d l .from) 33 q));
+          most = rw z at (link-gap-most d g t l h (ltb-false (linkAt d l .from) 33 q));
         }
 
 -- a critical link from a source that is not doubtful is held with some delay
@@ -218,7 +213,7 @@ module _ (d : Description) (q : Quote) where
   -- a line of a held link is the line of one link of the description
   pub page-held : Fielded d → (place i j D M : ℕ) → HasLine (reportFor d q) (heldWords place i j D M) → (l : ℕ) × (l < d .«link_count») × Named l (linkAt d l) (verdictAt d (shownTempo q) l) place i j D M
   unfolding heldWords tempoWords
-  page-held g place i j D M (k, e) = go k (rw (report-lines d q) at e)
+  page-held g place i j D M (k, b, e) = go k (rw (report-lines d q) at b) (rw (report-lines d q) at e)
     where
       words : ℕ → List ℕ
       words l = linkWords l (linkAt d l) (verdictAt d (shownTempo q) l)
@@ -232,26 +227,26 @@ module _ (d : Description) (q : Quote) where
           let s = held-says d g (shownTempo q) l x y h f in
           (omega (arith, s .below, s .most), omega (arith, s .most))
 
-      past : (l : ℕ) → d .«link_count» ≤ l → getD (tab (d .«link_count») words) l [] ≡ heldWords place i j D M → ⊥
-      past l h f = nil≢cons (sym (List·getD-eq-default (tab (d .«link_count») words) [] {n = l} (omega (arith, length-tab (d .«link_count») words))) ∙ f)
-
-      link : (l : ℕ) → Cmp l (d .«link_count») → getD (tab (d .«link_count») words) l [] ≡ heldWords place i j D M → (l : ℕ) × (l < d .«link_count») × Named l (linkAt d l) (verdictAt d (shownTempo q) l) place i j D M
-      link l (less h) f =
+      go : (k : ℕ) → k < length (quoteWords q ∷ tab (d .«link_count») words) → getD (quoteWords q ∷ tab (d .«link_count») words) k [] ≡ heldWords place i j D M → (l : ℕ) × (l < d .«link_count») × Named l (linkAt d l) (verdictAt d (shownTempo q) l) place i j D M
+      go zero b f = absurd (not-first q f)
+      go (suc l) b f =
+          let h : l < d .«link_count» = omega (arith, length-tab (d .«link_count») words) in
           (l, h, link-read l (linkAt d l) (verdictAt d (shownTempo q) l) place i j D M (omega (arith, g .few-links)) (from-most d g l h) (omega (arith, to-most d g l h)) (small l h) (sym (getD-tab (d .«link_count») words [] l h) ∙ f))
-      link l (same h) f = absurd (past l (omega arith) f)
-      link l (more h) f = absurd (past l (omega arith) f)
-
-      go : (k : ℕ) → getD (quoteWords q ∷ tab (d .«link_count») words) k [] ≡ heldWords place i j D M → (l : ℕ) × (l < d .«link_count») × Named l (linkAt d l) (verdictAt d (shownTempo q) l) place i j D M
-      go zero f = absurd (not-first q f)
-      go (suc l) f = link l (cmp l (d .«link_count»)) f
 
   -- and each link has its line
   pub page-told : (l D M : ℕ) → l < d .«link_count» → verdictAt d (shownTempo q) l ≡ Held D M → HasLine (reportFor d q) (heldWords (suc l) (linkAt d l .from) (linkAt d l .to) D M)
   unfolding heldWords verdictText
   page-told l D M h e =
-      (suc l, rw (report-lines d q) (getD-tab (d .«link_count») (λ k. linkWords k (linkAt d k) (verdictAt d (shownTempo q) k)) [] l h ∙ ap (linkWords l (linkAt d l)) e))
+      let words : ℕ → List ℕ = λ k. linkWords k (linkAt d k) (verdictAt d (shownTempo q) k) in (
+        suc l,
+        rw (report-lines d q) (omega (arith, length-tab (d .«link_count») words)),
+        rw (report-lines d q) (getD-tab (d .«link_count») words [] l h ∙ ap (linkWords l (linkAt d l)) e),
+      )
 
-  -- a first line with a tempo is the quote's
+  -- the first line is the quote's, and one with a tempo determines it
+  pub page-first : FirstLine (reportFor d q) (quoteWords q)
+  page-first = rw (report-lines d q)
+
   pub page-tempo : (x : ℕ) → ((t : ℕ) → q ≡ Tempo t → t ≤ 3000) → FirstLine (reportFor d q) (tempoWords x) → q ≡ Tempo x
   page-tempo x h e = tempo-read q x h (rw (report-lines d q) at e)
 
@@ -268,3 +263,12 @@ refused-no-tempo r place x e =
 pub printed-whole : (input : List ℕ) → printed input ≡ reportOf input
 unfolding printed reportOf
 printed-whole input = rw (read-first input)
+
+-- and the page that the report call leaves at the front of a lent buffer
+pub filled-page : (text buffer : List ℕ) (n : ℕ) → fillWith text buffer ≡ Bytes n → take n (filledBy text buffer) ≡ text
+unfolding fillWith filledBy
+filled-page text buffer n = go (ltb (length buffer) (length text))
+  where
+    go : (b : Bool) → cond b (Unfilled ShortPage 0) (Bytes (length text)) ≡ Bytes n → take n (cond b buffer (text ++ drop (length text) buffer)) ≡ text
+    go true e = absurd (let z : _≡_ {A = ℕ} 0 1 = cc in omega arith)
+    go false e = let z : n ≡ length text = cc in rw z (take-append-seam text (drop (length text) buffer))

@@ -125,7 +125,7 @@ unfolding decimal
 decimal-same x y h e = digits-same 18 x y h e
 
 -- a number and what follows it: determined by a text in which no digit follows it
-pub number-same : (x y c d : ℕ) (r u : List ℕ) → x < 10 ^ 19 → isDigit c ≡ false → isDigit d ≡ false → decimal x ++ (c ∷ r) ≡ decimal y ++ (d ∷ u) → (x ≡ y) × (c ≡ d) × (r ≡ u)
-number-same x y c d r u h a b e =
+pub decimal-cut : (x y c d : ℕ) (r u : List ℕ) → x < 10 ^ 19 → isDigit c ≡ false → isDigit d ≡ false → decimal x ++ (c ∷ r) ≡ decimal y ++ (d ∷ u) → (x ≡ y) × (c ≡ d) × (r ≡ u)
+decimal-cut x y c d r u h a b e =
     let f = cut-same isDigit (decimal x) (decimal y) c d r u (decimal-every x) (decimal-every y) a b e in
     (decimal-same x y h (f .0), f .1, f .2)

@@ -28,7 +28,7 @@ use Rattle.model.specs.Report.{decimal, lineOf, wTempo, wNone, wRefused, wAt, w
 use Rattle.model.specs.Page.{longer, linesOf, FirstLine, HasLine, tempoWords, heldWords}
 use Rattle.lemmas.proofs.Tests.{and-left, and-right}
 use Rattle.lemmas.proofs.Table.{length-tab, getD-tab}
-use Rattle.lemmas.proofs.Decimal.{every, every-append, every-weaker, cut-same, isDigit, decimal-every, decimal-same, number-same}
+use Rattle.lemmas.proofs.Decimal.{every, every-append, every-weaker, cut-same, isDigit, decimal-every, decimal-same, decimal-cut}
 use Rattle.theory.proofs.WellFormed.{Fielded}
 use Rattle.theory.proofs.FileLength.{read-first}
 use Rattle.theory.proofs.Links.{from-most, to-most, link-gap-most}
@@ -118,7 +118,7 @@ tempo-read : (k : Quote) (q : ℕ) → ((t : ℕ) → k ≡ Tempo t → t ≤ 30
 unfolding tempoWords tempoText
 tempo-read (Tempo t) q h e =
     let b : t ≤ 3000 = h t refl in
-    let f = number-same (t / 10) (q / 10) 46 46 _ _ (omega arith) refl refl (append-cancel-left wTempo _ _ e) in
+    let f = decimal-cut (t / 10) (q / 10) 46 46 _ _ (omega arith) refl refl (append-cancel-left wTempo _ _ e) in
     let z : t ≡ q = omega (arith, f .0, head-eq-of-cons-eq (f .2)) in
     ap Tempo z
 tempo-read (Unquoted r place) q h e =
@@ -133,7 +133,7 @@ verdict-read HeldOrder D M h e =
 verdict-read DoubtOrder D M h e = absurd (omega (arith, head-eq-of-cons-eq (tail-eq-of-cons-eq e)))
 verdict-read (Held x y) D M h e =
     let b = h x y refl in
-    let f = number-same x D 32 32 _ _ (b .0) refl refl (append-cancel-left wHeld _ _ e) in
+    let f = decimal-cut x D 32 32 _ _ (b .0) refl refl (append-cancel-left wHeld _ _ e) in
     let g : y ≡ M = decimal-same y M (b .1) (append-cancel-left (111 ∷ 102 ∷ 32 ∷ []) _ _ (f .2)) in
     rw (f .0, g)
 verdict-read (Doubt y) D M h e = absurd (omega (arith, head-eq-of-cons-eq (tail-eq-of-cons-eq e)))
@@ -157,10 +157,10 @@ pub record Named (l : ℕ) (e : Link) (v : Verdict) (place i j D M : ℕ) : Type
 link-read : (l : ℕ) (e : Link) (v : Verdict) (place i j D M : ℕ) → l < 256 → e .from < 49 → e .to < 49 → ((x y : ℕ) → v ≡ Held x y → (x < 10 ^ 19) × (y < 10 ^ 19)) → linkWords l e v ≡ heldWords place i j D M → Named l e v place i j D M
 unfolding heldWords
 link-read l e v place i j D M a b c h q =
-    let f = number-same (suc l) place 32 32 _ _ (omega arith) refl refl (append-cancel-left wLink _ _ q) in
-    let g = number-same (e .from) i 62 62 _ _ (omega arith) refl refl (f .2) in
+    let f = decimal-cut (suc l) place 32 32 _ _ (omega arith) refl refl (append-cancel-left wLink _ _ q) in
+    let g = decimal-cut (e .from) i 62 62 _ _ (omega arith) refl refl (f .2) in
     let t = verdict-space v in
-    let k = number-same (e .to) j 32 32 _ _ (omega arith) refl refl (ap (λ (x : List ℕ). decimal (e .to) ++ x) (sym (t .1)) ∙ g .2) in
+    let k = decimal-cut (e .to) j 32 32 _ _ (omega arith) refl refl (ap (λ (x : List ℕ). decimal (e .to) ++ x) (sym (t .1)) ∙ g .2) in
     record {
       place-is = f .0;
       from-is = g .0;

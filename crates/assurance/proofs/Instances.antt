@@ -20,14 +20,19 @@ use Rattle.model.specs.Loads.{workF, work, added, load, tooHeavy}
 use Rattle.model.specs.File.{SourceFits, Widths, fileOf, lastChecks, parseFrom, parseFile, readFile, overfull, judge}
 use Rattle.model.specs.Delays.{spacing, spacingOf, spacings, startOf, roundOf, settle, delayOf}
 use Rattle.model.specs.Order.{visit, walk, inOrder}
-use Rattle.model.specs.Verdicts.{sourceVerdict, orderVerdict, verdictOf, verdictAt, allHeld, quoteOf}
+use Rattle.model.specs.Verdicts.{sourceVerdict, orderVerdict, verdictOf, verdictAt, allHeld, largestBelow, quoteOf}
 use Rattle.model.specs.Machine.{idle}
 use Rattle.model.specs.History.{Call, ticks, tickAt, fires, waitOf}
-use Rattle.model.specs.Figures.{box, twin}
+use Rattle.model.specs.Report.{reportOf}
+use Rattle.model.specs.Page.{HeldLine, FromPage}
+use Rattle.model.specs.Figures.{box, boxFile, boxPage, twin}
+use Rattle.model.proofs.Figures.{figures}
 use Rattle.lemmas.proofs.Range.{all-at}
+use Rattle.lemmas.proofs.Decimal.{every-at}
 use Rattle.theory.proofs.FileLaws.{judge-well-formed}
 use Rattle.theory.proofs.Quotes.{quote-at}
 use Rattle.assurance.proofs.PlainCalls.{AssuredOf, plain-assured}
+use Rattle.assurance.proofs.Paper.{from-page}
 
 -- to unfold this is to unfold every definition that judging and a verdict compute with
 computing : ℕ
@@ -78,6 +83,23 @@ box-quote = quote-by box 1783 box-widths box-judged (omega arith) (omega arith) 
 -- of every list of calls at every tempo up to it
 pub box-assured : (t : ℕ) → 200 ≤ t → t ≤ 1783 → (cs : List Call) → AssuredOf box 1783 t cs
 box-assured t low high cs = plain-assured box 1783 t box-widths box-quote low high cs
+
+-- from its 57 bytes: the page, what it assures, and its line `link 3 33>2 held 700 of 701`
+pub box-page : reportOf boxFile ≡ boxPage
+unfolding reportOf quoteOf
+box-page =
+    let q : largestBelow (allHeld box) 2801 ≡ Tempo 1783 = rw box-judged at box-quote in
+    rw (figures .p2-read, q) (figures .page-box)
+
+pub box-paper : FromPage boxFile boxPage 1783
+box-paper =
+    rw box-page at (from-page boxFile 1783 bytes (rw box-page (figures .page-box-tempo)))
+  where
+    bytes : (i : ℕ) → getD boxFile i 0 < 256
+    bytes i = ltb-true (getD boxFile i 0) 256 (every-at (λ c. ltb c 256) boxFile 0 refl refl i)
+
+pub box-line : HeldLine box 1783 3 33 2 700 701
+box-line = rw (figures .p2-read) at (box-paper .held 3 33 2 700 701 (3, omega (arith, figures .page-box-lines), figures .page-box-link-3))
 
 -- Twin with spacing 9: quoted at 300.0
 twin-widths : Widths (twin 9)

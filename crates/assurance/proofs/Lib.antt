@@ -24,4 +24,5 @@ pub mod Lawful
 pub mod Assurance
 pub mod Demand3
 pub mod PlainCalls
+pub mod Paper
 pub mod Instances

@@ -14,6 +14,7 @@ use Rattle.model.specs.declared.Refusal.the-variants.{CutShort, StrangeT
 use Rattle.model.specs.declared.Outcome.{Outcome}
 use Rattle.model.specs.declared.Outcome.the-variants.{Done}
 use Rattle.model.specs.declared.Verdict.the-variants.{HeldOrder, DoubtOrder, Held, Doubt}
+use Rattle.model.specs.declared.Quote.the-variants.{Tempo}
 use Rattle.model.specs.declared.Ticked.{Ticked}
 use Rattle.model.specs.Basics.{tab}
 use Rattle.model.specs.Refusals.{numberOf, ofReading, ofQuote, noSource, noLink}
@@ -26,6 +27,8 @@ use Rattle.model.specs.Verdicts.{verdictAt, quoteOf}
 use Rattle.model.specs.Machine.{idle, droppedAt}
 use Rattle.model.specs.History.{Call, Tick, answers, ticks, servedBefore, waitOf}
 use Rattle.model.specs.Run.{page}
+use Rattle.model.specs.Report.{reportFor, reportOf}
+use Rattle.model.specs.Page.{linesOf, lineAt, FirstLine, tempoWords, heldWords}
 
 -- a list filled up to n places
 abbrev pub upToLength : {A : Type 0} → ℕ → A → List A → List A
@@ -64,6 +67,15 @@ boxFile =
 abbrev pub box : Description
 box = describe (400 ∷ 300 ∷ 200 ∷ []) (Paced 480 ∷ Fixed 2000 ∷ []) (free 2 1 ∷ critical 2 3 ∷ critical 33 2 ∷ critical 34 3 ∷ [])
 
+-- what Box "prints", five lines
+abbrev pub boxPage : List ℕ
+boxPage =
+    116 ∷ 101 ∷ 109 ∷ 112 ∷ 111 ∷ 32 ∷ 49 ∷ 55 ∷ 56 ∷ 46 ∷ 51 ∷ 10 ∷
+    108 ∷ 105 ∷ 110 ∷ 107 ∷ 32 ∷ 49 ∷ 32 ∷ 50 ∷ 62 ∷ 49 ∷ 32 ∷ 102 ∷ 114 ∷ 101 ∷ 101 ∷ 10 ∷
+    108 ∷ 105 ∷ 110 ∷ 107 ∷ 32 ∷ 50 ∷ 32 ∷ 50 ∷ 62 ∷ 51 ∷ 32 ∷ 104 ∷ 101 ∷ 108 ∷ 100 ∷ 32 ∷ 111 ∷ 114 ∷ 100 ∷ 101 ∷ 114 ∷ 10 ∷
+    108 ∷ 105 ∷ 110 ∷ 107 ∷ 32 ∷ 51 ∷ 32 ∷ 51 ∷ 51 ∷ 62 ∷ 50 ∷ 32 ∷ 104 ∷ 101 ∷ 108 ∷ 100 ∷ 32 ∷ 55 ∷ 48 ∷ 48 ∷ 32 ∷ 111 ∷ 102 ∷ 32 ∷ 55 ∷ 48 ∷ 49 ∷ 10 ∷
+    108 ∷ 105 ∷ 110 ∷ 107 ∷ 32 ∷ 52 ∷ 32 ∷ 51 ∷ 52 ∷ 62 ∷ 51 ∷ 32 ∷ 104 ∷ 101 ∷ 108 ∷ 100 ∷ 32 ∷ 52 ∷ 48 ∷ 48 ∷ 32 ∷ 111 ∷ 102 ∷ 32 ∷ 50 ∷ 48 ∷ 48 ∷ 48 ∷ 10 ∷ []
+
 -- "Twin: runs 2, 2, 2; source 33 fixed; links 1>3, 2>3, 33>1, 33>2, all critical"
 abbrev pub twin : ℕ → Description
 twin m = describe (2 ∷ 2 ∷ 2 ∷ []) (Fixed m ∷ []) (critical 1 3 ∷ critical 2 3 ∷ critical 33 1 ∷ critical 33 2 ∷ [])
@@ -90,6 +102,10 @@ quick = describe (4 ∷ []) (Fixed 2 ∷ []) (free 33 1 ∷ [])
 
 abbrev pub sameTwice : Description
 sameTwice = describe (1 ∷ []) (Fixed 5 ∷ []) (free 33 1 ∷ free 33 1 ∷ [])
+
+-- the page of a link that stands twice: `refused 4 at 20`
+abbrev pub refusedPage : List ℕ
+refusedPage = 114 ∷ 101 ∷ 102 ∷ 117 ∷ 115 ∷ 101 ∷ 100 ∷ 32 ∷ 52 ∷ 32 ∷ 97 ∷ 116 ∷ 32 ∷ 50 ∷ 48 ∷ 10 ∷ []
 
 -- n calls, source 33 arriving in those that pass the test, with no "finish"
 abbrev pub callsWhere : ℕ → (ℕ → Bool) → List Call
@@ -152,3 +168,9 @@ pub record Figures : Type 0 where
   pub waits-next-run : waitOf (history quick (callsWhere 9 (λ x. eqb (x % 2) 0))) 1 4 ≡ 4
   -- an event of the last tick waits one
   pub waits-last-tick : waitOf (history quick (callsWhere 9 (λ x. eqb (x % 2) 0))) 1 8 ≡ 1
+  pub page-box : reportFor box (Tempo 1783) ≡ boxPage
+  pub page-box-lines : length (linesOf boxPage) ≡ 5
+  pub page-box-tempo : FirstLine boxPage (tempoWords 1783)
+  pub page-box-link-3 : lineAt boxPage 3 ≡ heldWords 3 33 2 700 701
+  pub page-box-link-4 : lineAt boxPage 4 ≡ heldWords 4 34 3 400 2000
+  pub page-refused : reportOf (fileOf sameTwice) ≡ refusedPage

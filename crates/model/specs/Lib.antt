@@ -1,4 +1,4 @@
--- Every definition of document 01, in its order. A reader starts at File and ends at Promise.
+-- Every definition of document 01, in its order. A reader starts at File and ends at Promise and Page.
 pub mod Basics
 pub mod Refusals
 pub mod Field
@@ -13,4 +13,5 @@ pub mod History
 pub mod Report
 pub mod Promise
 pub mod Run
+pub mod Page
 pub mod Figures

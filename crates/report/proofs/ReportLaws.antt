@@ -17,10 +17,9 @@ use Rattle.model.specs.Basics.{tab, joined}
 use Rattle.model.specs.Graph.{linkAt}
 use Rattle.model.specs.File.{readFile, fillWith, filledBy}
 use Rattle.model.specs.Verdicts.{allHeld, largestBelow, slotAt, freeSlot, verdictAt}
-use Rattle.model.specs.Report.{linkLine, linkLines, refusedLine, reportFor, reportOf, reported, pageReported, printed}
+use Rattle.model.specs.Report.{linkLine, linkLines, refusedLine, reportFor, reportOf, reported, pageReported}
 use Rattle.theory.proofs.NumberBytes.{Bytes}
 use Rattle.theory.proofs.RecordLaws.{joined-cut}
-use Rattle.theory.proofs.FileLength.{read-first}
 use Rattle.lemmas.proofs.Table.{getD-tab, joined-more}
 use Rattle.files.proofs.Laws.{read-good}
 use Rattle.report.specs.Listing.{lineAt, listing}
@@ -100,8 +99,3 @@ module _ (s out : List ℕ) (bytes : Bytes s) (room : 11168 ≤ length out) wher
 
   pub whole-front : take (length (reportOf s)) (pageReported s out) ≡ reportOf s
   whole-front = rw whole-page (take-append-seam (reportOf s) (drop (length (reportOf s)) out))
-
--- "ignores the rest, which alters no answer"
-pub printed-whole : (s : List ℕ) → printed s ≡ reportOf s
-unfolding printed reportOf
-printed-whole s = rw (read-first s)

@@ -4,7 +4,6 @@ use Prim.Native.Nat.{ℕ, zero, suc, _+_, _*_, _/_, _<_, _≤_, min}
 use mathlib.Core.Path.{_≡_, refl}
 use mathlib.Core.Bool.{Bool, true, false, cond}
 use mathlib.Core.List.{List}
-use mathlib.Core.Logic.{⊎-elim}
 use native.Mathlib.Omega.{arith}
 use borrow.Author.Tests.{ltb-false}
 use lib.Dec.{ltb, eqb}
@@ -14,17 +13,16 @@ use Rattle.model.specs.declared.Refusal.{Refusal}
 use Rattle.model.specs.declared.Verdict.the-variants.{Free, HeldOrder, DoubtOrder}
 use Rattle.model.specs.Basics.{joined}
 use Rattle.model.specs.Refusals.{numberOf}
-use Rattle.model.specs.Graph.{System, system, linkAt, sourceAt}
+use Rattle.model.specs.Graph.{System, system, linkAt}
 use Rattle.model.specs.Delays.{Settled, unchanged, reached, delayOf, spacingOf, roundOf, startOf}
 use Rattle.model.specs.Order.{inOrder}
 use Rattle.model.specs.Verdicts.{verdictAt, verdictOf, sourceVerdict, settledVerdict, orderVerdict, largestBelow}
 use Rattle.model.specs.Report.{decimal, verdictText, linkLine, linkLines, tempoLine, refusedLine, reportFor, shownTempo}
 use Rattle.lemmas.proofs.Tests.{Cmp, less, same, more, cmp}
-use Rattle.theory.proofs.WellFormed.{WellFormed, IsTask, IsSource}
-use Rattle.theory.proofs.Spacing.{spacing-most}
+use Rattle.theory.proofs.WellFormed.{WellFormed}
 use Rattle.theory.proofs.Rounds.{settle-fixed}
 use Rattle.theory.proofs.Quotes.{largest-hit, largest-miss}
-use Rattle.theory.proofs.Links.{from-most, to-most}
+use Rattle.theory.proofs.Links.{from-most, to-most, link-gap-most}
 use Rattle.text.proofs.Digits.{decimal-most, decimal-bound}
 use Rattle.lines.proofs.LineLaws.{held-length, doubt-length, link-length, tempo-length, refused-length}
 
@@ -44,14 +42,6 @@ unfolding delayOf
 delay-below s gap i j D e = settle-fixed (suc (gap i)) (roundOf s gap j) (gap i) (startOf s j) D e .1
 
 module _ (d : Description) (good : WellFormed d) (t : ℕ) where
-  gap-most : (l : ℕ) → l < d .«link_count» → 33 ≤ linkAt d l .from → spacingOf d t (linkAt d l .from) ≤ 1000000000
-  unfolding spacingOf system
-  gap-most l h b =
-      ⊎-elim
-      (λ (w : IsTask (system d) (linkAt d l .from)). absurd (omega (arith, w .1, good .fields .few-tasks)))
-      (λ (w : IsSource (system d) (linkAt d l .from)). spacing-most (sourceAt d (linkAt d l .from)) t (good .fields .source-scale (linkAt d l .from) (w .0) (w .1)))
-      (good .fields .link-from l h)
-
   verdict-length : (l : ℕ) → l < d .«link_count» → length (verdictText (verdictAt d t l)) ≤ 29
   unfolding verdictAt verdictOf sourceVerdict orderVerdict verdictText
   verdict-length l h = go (eqb (linkAt d l .critical) 0) (ltb (linkAt d l .from) 33) refl
@@ -59,7 +49,7 @@ module _ (d : Description) (good : WellFormed d) (t : ℕ) where
       go : (b c : Bool) → ltb (linkAt d l .from) 33 ≡ c → length (verdictText (cond b Free (cond c (orderVerdict (system d) (linkAt d l .from) (linkAt d l .to)) (sourceVerdict (system d) (spacingOf d t) (linkAt d l .from) (linkAt d l .to))))) ≤ 29
       go true c e = omega arith
       go false true e = order-length (inOrder (system d) (linkAt d l .from) (linkAt d l .to))
-      go false false e = settled-length (delayOf (system d) (spacingOf d t) (linkAt d l .from) (linkAt d l .to)) (spacingOf d t (linkAt d l .from)) (gap-most l h (ltb-false (linkAt d l .from) 33 e)) (λ D q. delay-below (system d) (spacingOf d t) (linkAt d l .from) (linkAt d l .to) D q)
+      go false false e = settled-length (delayOf (system d) (spacingOf d t) (linkAt d l .from) (linkAt d l .to)) (spacingOf d t (linkAt d l .from)) (link-gap-most d (good .fields) t l h (ltb-false (linkAt d l .from) 33 e)) (λ D q. delay-below (system d) (spacingOf d t) (linkAt d l .from) (linkAt d l .to) D q)
 
   line-length : (l : ℕ) → l < d .«link_count» → length (linkLine l (linkAt d l) (verdictAt d t l)) ≤ 41 + length (decimal (l + 1))
   line-length l h =

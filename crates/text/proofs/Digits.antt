@@ -5,19 +5,11 @@ use mathlib.Core.Bool.{Bool, true, false}
 use mathlib.Core.List.{List, [], _∷_, _++_}
 use native.Mathlib.Nat.{pow-succ'}
 use native.Mathlib.Omega.{arith}
-use borrow.Author.Tests.{lt-ltb, le-ltb, ltb-true, ltb-false}
+use borrow.Author.Tests.{ltb-true, ltb-false}
 use lib.ListN.{length, length-append}
 use lib.Dec.{ltb}
 use Rattle.model.specs.Report.{digits, decimal}
-
--- a digit of its own, and a last digit
-digits-one : (n x : ℕ) → x < 10 → digits (suc n) x ≡ (48 + x) ∷ []
-unfolding digits
-digits-one n x h = rw (digits, lt-ltb x 10 h) refl
-
-digits-more : (n x : ℕ) → 10 ≤ x → digits (suc n) x ≡ digits n (x / 10) ++ ((48 + x % 10) ∷ [])
-unfolding digits
-digits-more n x h = rw (digits, le-ltb x 10 h) refl
+use Rattle.lemmas.proofs.Decimal.{digits-one, digits-more}
 
 tenth : (n x : ℕ) → x < 10 ^ suc n → x / 10 < 10 ^ n
 tenth n x h = omega (arith, rw (pow-succ' 10 n) at h)

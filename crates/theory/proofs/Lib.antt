@@ -1,4 +1,4 @@
--- Theorems about files, loads, verdicts and quotes, a file for each subject.
+-- Theorems about files, loads, verdicts, quotes and pages, a file for each subject.
 pub mod WellFormed
 pub mod Spacing
 pub mod Rounds
@@ -23,3 +23,4 @@ pub mod Links
 pub mod LoadBounds
 pub mod Alike
 pub mod Typed
+pub mod Pages

@@ -6,9 +6,12 @@ use native.Mathlib.Omega.{arith}
 use lib.Dec.{eqb}
 use Rattle.model.specs.declared.Description.{Description}
 use Rattle.model.specs.Basics.{anyN}
-use Rattle.model.specs.Graph.{system, linkAt}
+use Rattle.model.specs.Graph.{system, linkAt, sourceAt}
+use Rattle.model.specs.Delays.{spacingOf}
+use Rattle.lemmas.proofs.Tests.{cases}
 use Rattle.theory.proofs.WellFormed.{IsTask, IsSource}
 use Rattle.theory.proofs.WellFormed.{Fielded}
+use Rattle.theory.proofs.Spacing.{spacing-most}
 
 -- a node and a task that tables by number have room for
 abbrev pub Linkable : ℕ → ℕ → Type 0
@@ -35,3 +38,11 @@ from-most d g l here = omega (arith, ends-inside d g l here .1)
 
 pub to-most : (d : Description) → Fielded d → (l : ℕ) → l < d .«link_count» → (1 ≤ linkAt d l .to) × (linkAt d l .to ≤ 32)
 to-most d g l here = let e = ends-inside d g l here in (e .2, e .3)
+
+-- the spacing of a link's source is at most 1,000,000,000
+pub link-gap-most : (d : Description) → Fielded d → (t l : ℕ) → l < d .«link_count» → 33 ≤ linkAt d l .from → spacingOf d t (linkAt d l .from) ≤ 1000000000
+unfolding spacingOf system
+link-gap-most d g t l here b =
+    cases (g .link-from l here)
+    (λ w. absurd (omega (arith, w .1, g .few-tasks)))
+    (λ w. spacing-most (sourceAt d (linkAt d l .from)) t (g .source-scale (linkAt d l .from) (w .0) (w .1)))

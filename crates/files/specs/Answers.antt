@@ -6,10 +6,8 @@ use Rattle.model.specs.declared.Description.{Description}
 use Rattle.model.specs.declared.Outcome.{Outcome}
 use Rattle.model.specs.declared.Outcome.the-variants.{Done}
 use Rattle.model.specs.declared.Reading.{Reading}
-use Rattle.model.specs.Refusals.{onDone}
-use Rattle.model.specs.File.{finished, refusedReading, judge}
+use Rattle.model.specs.File.{judge}
 use Rattle.theory.proofs.WellFormed.{WellFormed}
-use Rattle.model.specs.File.{parseAt}
 use Rattle.loads.specs.declared.Worked.{Worked}
 use Rattle.loads.specs.Tables.{LoadsOf}
 use Rattle.files.specs.declared.Judged.{Judged}

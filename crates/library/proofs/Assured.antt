@@ -1,6 +1,6 @@
 -- What the header promises of a run: of the bytes that `bench_run` leaves, up to the number that `bench_quote` answers. Assumes nothing.
 use Prim.Native.Nat.{ℕ, zero, suc, _+_, _*_, _/_, _≤_, _<_}
-use mathlib.Core.Path.{_≡_, refl, sym, ap, subst, _∙_}
+use mathlib.Core.Path.{_≡_, refl, sym, ap, _∙_}
 use mathlib.Core.Bool.{Bool, true, false, cond, _||_}
 use mathlib.Core.List.{List, _++_}
 use native.Mathlib.Omega.{arith}
@@ -8,9 +8,7 @@ use lib.ListN.{length, take, drop}
 use lib.Seq.{take-at}
 use lib.Dec.{ltb, leb}
 use lib.IntN.{ℤ, pos, negsuc, negℤ}
-use borrow.Author.Tests.{leb-true, ltb-false}
-use Rattle.model.specs.declared.Machine.{Machine}
-use Rattle.model.specs.declared.Ticked.{Ticked}
+use borrow.Author.Tests.{leb-true, le-ltb, ltb-false}
 use Rattle.model.specs.declared.Quote.{Quote}
 use Rattle.model.specs.declared.Quote.the-variants.{Tempo, Unquoted}
 use Rattle.model.specs.declared.Refusal.{Refusal}
@@ -23,7 +21,7 @@ use Rattle.model.specs.Verdicts.{quotedFile, onKnob}
 use Rattle.model.specs.Machine.{idle}
 use Rattle.model.specs.History.{answers, left}
 use Rattle.model.specs.Run.{callsIn, page}
-use Rattle.lemmas.proofs.Tests.{and-left, not-both}
+use Rattle.lemmas.proofs.Tests.{and-left, or-false-right, not-both}
 use Rattle.lemmas.proofs.Outcomes.{refused-not}
 use Rattle.lemmas.proofs.Table.{length-tab}
 use Rattle.theory.proofs.NumberBytes.{Bytes as AllBytes}
@@ -93,8 +91,27 @@ unfolding runOutcome
 enough s t calls outcomes out a e =
     let k : onKnob t ≡ true = on-knob s t calls outcomes out a e in
     let f : (ltb (length out) 736 || ltb (length outcomes) (length calls / 4)) ≡ false = short-not _ (rw (a, k) at e) in
-    ltb-false (length outcomes) (length calls / 4) ?
+    ltb-false (length outcomes) (length calls / 4) (or-false-right (ltb (length out) 736) _ f)
 
-pub bench-assured : (s calls outcomes out outcomes′ out′ : List ℕ) (q t : ℕ) (r r′ : ℤ) → AllBytes s
-    → r ≡ quoteReply (quotedFile s) → r ≡ pos q → t ≤ q → RunReplied s t calls outcomes out outcomes′ out′ r′ → r′ ≡ pos 0 → RunAssured s q t calls outcomes′ out′
-bench-assured s calls outcomes out outcomes′ out′ q t r r′ b told e high ran done = ?
+-- a run call that answered 0, at a tempo up to what the quote call answered
+pub bench-assured : (s calls outcomes out outcomes′ out′ : List ℕ) (q t : ℕ) (quoted ran : ℤ) → AllBytes s
+    → quoted ≡ quoteReply (quotedFile s) → quoted ≡ pos q → t ≤ q → RunReplied s t calls outcomes out outcomes′ out′ ran → ran ≡ pos 0 → RunAssured s q t calls outcomes′ out′
+unfolding filledBy recordBytes
+bench-assured s calls outcomes out outcomes′ out′ q t quoted ran b told e high R done =
+    let d = readFile s .description in
+    let cs = callsIn calls in
+    let k : QuotedFile s q = quoted-file s q b (quote-told (quotedFile s) q (sym told ∙ e)) in
+    let o : runOutcome s t calls outcomes out ≡ Done = run-done (runOutcome s t calls outcomes out) (sym (R .answer) ∙ done) in
+    let low : 200 ≤ t = leb-true 200 t (and-left (leb 200 t) (leb t 3000) (on-knob s t calls outcomes out (k .accepted) o)) in
+    let n : length (page d t cs) ≡ length cs = codes-length d t cs (idle d t) in
+    let w : ltb (length outcomes) (length cs) ≡ false = le-ltb (length outcomes) (length cs) (omega (arith, calls-length calls, enough s t calls outcomes out (k .accepted) o)) in
+    let f : outcomes′ ≡ page d t cs ++ drop (length cs) outcomes = rw (o, n, w) at (R .codes) in
+    let g : out′ ≡ recordBytes (left d t (idle d t) cs) ++ drop 736 out = rw o at (R .bytes) in
+    record {
+      answered = answers d t (idle d t) cs;
+      machine = left d t (idle d t) cs;
+      called = plain-calls d t cs (idle d t);
+      told = ap (take (length cs)) f ∙ take-at (page d t cs) (drop (length cs) outcomes) (length cs) n;
+      kept = ap (take 736) g ∙ take-at (recordBytes (left d t (idle d t) cs)) (drop 736 out) 736 (length-tab 736 (recordByte (left d t (idle d t) cs)));
+      assured = plain-assured d q t (k .widths) (k .quoted) low high cs;
+    }

@@ -1,6 +1,6 @@
 -- A list of calls as a run goes through it: the record before each call, the codes of the answers and the buffer. Assumes nothing.
 use Prim.Native.Nat.{ℕ, zero, suc, _+_, _-_, _/_, _≤_, _<_}
-use mathlib.Core.Path.{_≡_, refl, sym, ap, subst, _∙_}
+use mathlib.Core.Path.{_≡_, refl, sym, ap, _∙_}
 use mathlib.Core.Bool.{Bool, true, false}
 use mathlib.Core.List.{List, [], _∷_, _++_}
 use native.Mathlib.Omega.{arith}
@@ -9,18 +9,13 @@ use lib.ListN.{length, getD, set, take, drop}
 use lib.Seq.{take-all}
 use lib.Dec.{leb}
 use borrow.Author.Tests.{lt-ltb, le-ltb, leb-true}
-use Rattle.model.specs.declared.Source.{Source}
-use Rattle.model.specs.declared.Source.the-variants.{Fixed, Paced}
-use Rattle.model.specs.declared.Field.the-variants.{OfSource}
 use Rattle.model.specs.declared.Description.{Description}
 use Rattle.model.specs.declared.Machine.{Machine}
 use Rattle.model.specs.declared.Refusal.the-variants.{ShortPage}
 use Rattle.model.specs.declared.Outcome.{Outcome}
 use Rattle.model.specs.declared.Outcome.the-variants.{Done, Refused}
-use Rattle.model.specs.Refusals.{noSource, ofOutcome}
-use Rattle.model.specs.Field.{onScale}
-use Rattle.model.specs.Graph.{sourceAt}
-use Rattle.model.specs.File.{SourceFits, Widths, judge, filledBy}
+use Rattle.model.specs.Refusals.{ofOutcome}
+use Rattle.model.specs.File.{judge, filledBy}
 use Rattle.model.specs.Verdicts.{judgeAt, onKnob}
 use Rattle.model.specs.Machine.{idle, blankMachine, lawful, plainTick}
 use Rattle.model.specs.History.{Call, answers, left}

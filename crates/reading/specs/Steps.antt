@@ -1,8 +1,6 @@
 -- The steps of a reading and of the judging of a record that the code takes one by one.
-use Prim.Native.Nat.{ℕ, suc, _-_}
+use Prim.Native.Nat.{ℕ}
 use mathlib.Core.Bool.{cond}
-use mathlib.Core.List.{List}
-use lib.ListN.{length}
 use Rattle.model.specs.declared.Description.{Description}
 use Rattle.model.specs.declared.Field.{Field}
 use Rattle.model.specs.declared.Refusal.the-variants.{CutShort, TooMany}
@@ -14,9 +12,8 @@ use Rattle.model.specs.declared.Check.the-variants.{Fine, Unfit}
 use Rattle.model.specs.declared.Outcome.{Outcome}
 use Rattle.model.specs.declared.Outcome.the-variants.{Done, Refused}
 use Rattle.model.specs.declared.Reading.{Reading}
-use Rattle.model.specs.Field.{checkField, noProgress}
-use Rattle.model.specs.Refusals.{blank}
-use Rattle.model.specs.File.{refusedReading, fileOf, parseFrom, parseFile, overfull}
+use Rattle.model.specs.Field.{checkField}
+use Rattle.model.specs.File.{refusedReading, fileOf, parseFile, overfull}
 
 -- a field that was taken, if it may stand where it does
 abbrev pub ifFine : Check → Field → ℕ → Taken

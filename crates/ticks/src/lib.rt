@@ -118,3 +118,15 @@ pub fn tick(d: Description, t: u32, m: &mut Machine, a: Arrivals, finish: bool) 
     *m = r.machine;
     r.outcome
 }
+
+// The same with a record by value in and out: the record is lent to `tick` inside, so that a caller has no reference to make.
+pub fn advanced(d: Description, t: u32, m: Machine, a: Arrivals, finish: bool) -> Ticked
+    ensures { λ r. ⌜ TickMeets d t m a finish (r .outcome) (r .machine) ⌝ }
+{
+    let mut x = m;
+    let o = tick(d, t, &mut x, a, finish);
+    Ticked {
+        outcome: o,
+        machine: x,
+    }
+}

@@ -25,7 +25,7 @@ pub fn counted(t: Tally, agree: bool) -> Tally {
     }
 }
 
-fn is_outcome(outcome: Outcome, number: usize, place: usize) -> bool {
+pub fn is_outcome(outcome: Outcome, number: usize, place: usize) -> bool {
     match outcome {
         Outcome::Done => number == 0,
         Outcome::Refused(why, at) => {

@@ -2,8 +2,12 @@
 
 use cases::Tally;
 use libc::STDOUT_FILENO;
+use model::Description;
+use model::Link;
+use model::Machine;
 
 mod build;
+mod calls;
 mod cases;
 
 // Document 01's Box.
@@ -68,9 +72,12 @@ fn spacings() -> Tally {
 }
 
 // Eight tasks that each wake all above them: at runs of 7,812,500 the source's load at task 1 is 128 times that, 1,000,000,000.
+fn heaviest() -> [u8; 237] {
+    *b"\x01\x00\x04\x00\x77\x35\x94\x01\x00\x04\x00\x77\x35\x94\x01\x00\x04\x00\x77\x35\x94\x01\x00\x04\x00\x77\x35\x94\x01\x00\x04\x00\x77\x35\x94\x01\x00\x04\x00\x77\x35\x94\x01\x00\x04\x00\x77\x35\x94\x01\x00\x04\x00\x77\x35\x94\x02\x00\x04\x3b\x9a\xca\x00\x04\x00\x03\x01\x02\x00\x04\x00\x03\x01\x03\x00\x04\x00\x03\x01\x04\x00\x04\x00\x03\x01\x05\x00\x04\x00\x03\x01\x06\x00\x04\x00\x03\x01\x07\x00\x04\x00\x03\x01\x08\x00\x04\x00\x03\x02\x03\x00\x04\x00\x03\x02\x04\x00\x04\x00\x03\x02\x05\x00\x04\x00\x03\x02\x06\x00\x04\x00\x03\x02\x07\x00\x04\x00\x03\x02\x08\x00\x04\x00\x03\x03\x04\x00\x04\x00\x03\x03\x05\x00\x04\x00\x03\x03\x06\x00\x04\x00\x03\x03\x07\x00\x04\x00\x03\x03\x08\x00\x04\x00\x03\x04\x05\x00\x04\x00\x03\x04\x06\x00\x04\x00\x03\x04\x07\x00\x04\x00\x03\x04\x08\x00\x04\x00\x03\x05\x06\x00\x04\x00\x03\x05\x07\x00\x04\x00\x03\x05\x08\x00\x04\x00\x03\x06\x07\x00\x04\x00\x03\x06\x08\x00\x04\x00\x03\x07\x08\x00\x04\x00\x03\x21\x01\x01"
+}
+
 fn weights() -> Tally {
-    let mut file =
-        *b"\x01\x00\x04\x00\x77\x35\x94\x01\x00\x04\x00\x77\x35\x94\x01\x00\x04\x00\x77\x35\x94\x01\x00\x04\x00\x77\x35\x94\x01\x00\x04\x00\x77\x35\x94\x01\x00\x04\x00\x77\x35\x94\x01\x00\x04\x00\x77\x35\x94\x01\x00\x04\x00\x77\x35\x94\x02\x00\x04\x3b\x9a\xca\x00\x04\x00\x03\x01\x02\x00\x04\x00\x03\x01\x03\x00\x04\x00\x03\x01\x04\x00\x04\x00\x03\x01\x05\x00\x04\x00\x03\x01\x06\x00\x04\x00\x03\x01\x07\x00\x04\x00\x03\x01\x08\x00\x04\x00\x03\x02\x03\x00\x04\x00\x03\x02\x04\x00\x04\x00\x03\x02\x05\x00\x04\x00\x03\x02\x06\x00\x04\x00\x03\x02\x07\x00\x04\x00\x03\x02\x08\x00\x04\x00\x03\x03\x04\x00\x04\x00\x03\x03\x05\x00\x04\x00\x03\x03\x06\x00\x04\x00\x03\x03\x07\x00\x04\x00\x03\x03\x08\x00\x04\x00\x03\x04\x05\x00\x04\x00\x03\x04\x06\x00\x04\x00\x03\x04\x07\x00\x04\x00\x03\x04\x08\x00\x04\x00\x03\x05\x06\x00\x04\x00\x03\x05\x07\x00\x04\x00\x03\x05\x08\x00\x04\x00\x03\x06\x07\x00\x04\x00\x03\x06\x08\x00\x04\x00\x03\x07\x08\x00\x04\x00\x03\x21\x01\x01";
+    let mut file = heaviest();
     let t = cases::reads(cases::none(), &file, 0, 0);
     file[6] = 149;
     cases::reads(t, &file, 10, 0)
@@ -306,6 +313,174 @@ fn marked_ticks() -> Tally {
     )
 }
 
+// One task of run 3, a source of spacing 5, and the link between them.
+fn single() -> Description {
+    calls::described(
+        b"\x01\x00\x04\x00\x00\x00\x03\x02\x00\x04\x00\x00\x00\x05\x04\x00\x03\x21\x01\x00",
+    )
+}
+
+// A record is judged as its file would be: 8 for a blank one, 9 and 10 where its links or runs are changed, 5 at 0 for a count above its
+// limit, and 6, 7 and 4 at the changed field.
+fn judging() -> Tally {
+    let d = calls::described(&BOX);
+    let t = calls::judges(cases::none(), d, 0, 0);
+    let t = calls::judges(t, calls::described(b""), 8, 0);
+    let mut back = d;
+    back.links[0] = Link {
+        from: 2,
+        to: 2,
+        critical: 0,
+    };
+    let t = calls::judges(t, back, 9, 0);
+    let mut heavy = calls::described(&heaviest());
+    let t = calls::judges(t, heavy, 0, 0);
+    heavy.runs[0] = 7812501;
+    let t = calls::judges(t, heavy, 10, 0);
+    let mut many = d;
+    many.link_count = 257;
+    let t = calls::judges(t, many, 5, 0);
+    let mut still = d;
+    still.runs[1] = 0;
+    let t = calls::judges(t, still, 6, 7);
+    let mut astray = d;
+    astray.links[0] = Link {
+        from: 2,
+        to: 4,
+        critical: 0,
+    };
+    let t = calls::judges(t, astray, 7, 33);
+    let mut twice = d;
+    twice.links[1] = Link {
+        from: 2,
+        to: 1,
+        critical: 0,
+    };
+    calls::judges(t, twice, 4, 39)
+}
+
+// The quote of a record: a tempo, 12, or what the record is refused for.
+fn quoting() -> Tally {
+    let t = cases::none();
+    let t = calls::quotes(t, calls::described(&BOX), 0, 1783);
+    let t = calls::quotes(
+        t,
+        calls::described(b"\x01\x00\x04\x00\x00\x00\x01"),
+        0,
+        3000,
+    );
+    let t = calls::quotes(t, calls::described(&twin(9)), 0, 3000);
+    let t = calls::quotes(t, calls::described(&twin(8)), 12, 0);
+    let t = calls::quotes(t, calls::described(b""), 8, 0);
+    let mut still = calls::described(&BOX);
+    still.runs[1] = 0;
+    calls::quotes(t, still, 6, 7)
+}
+
+// A file into a buffer that it just fills, and one that is a byte shorter; outcomes of two calls likewise.
+fn buffers() -> Tally {
+    let d = calls::described(&BOX);
+    let mut whole = [0u8; 57];
+    let mut short = [0u8; 56];
+    let mut two = [0u8; 2];
+    let mut one = [0u8; 1];
+    let t = calls::writes(cases::none(), d, &mut whole, 0, 57);
+    let t = calls::writes(t, d, &mut short, 13, 0);
+    let t = calls::writes(t, calls::described(b""), &mut short, 8, 0);
+    let t = calls::runs(t, d, 200, b"\x00\x00\x00\x00\x00\x00\x00\x00", &mut two, 0);
+    calls::runs(t, d, 200, b"\x00\x00\x00\x00\x00\x00\x00\x00", &mut one, 13)
+}
+
+// 11 of a start, a tick and a run; ages equal the spacings at the start, and beside a refusal they are 0.
+fn knobs() -> Tally {
+    let d = calls::described(&BOX);
+    let m = calls::idle(d);
+    let still = calls::arriving(false, false);
+    let mut none = [0u8; 1];
+    let t = calls::starts(cases::none(), d, 199, 11, 0);
+    let t = calls::starts(t, d, 200, 0, 6250);
+    let t = calls::starts(t, d, 1200, 0, 1041);
+    let t = calls::starts(t, d, 3000, 0, 416);
+    let t = calls::starts(t, d, 3001, 11, 0);
+    let t = calls::starts(t, calls::described(b""), 200, 8, 0);
+    let t = calls::ticks_once(t, d, 199, m, still, 11);
+    let t = calls::ticks_once(t, d, 200, m, still, 0);
+    let t = calls::ticks_once(t, d, 3001, m, still, 11);
+    let t = calls::runs(t, d, 199, b"", &mut none, 11);
+    let t = calls::runs(t, d, 200, b"", &mut none, 0);
+    let t = calls::runs(t, d, 3000, b"", &mut none, 0);
+    calls::runs(t, d, 3001, b"", &mut none, 11)
+}
+
+// Three ticks of a run, one that ends early, and the refusals of an arrival, which leave the record as it was.
+fn ticking() -> Tally {
+    let d = single();
+    let idle = calls::idle(d);
+    let still = calls::arriving(false, false);
+    let first_source = calls::arriving(true, false);
+    let second_source = calls::arriving(false, true);
+    let both = calls::arriving(true, true);
+    let t = calls::shows(cases::none(), idle, 0, 5, false);
+    let first = calls::later(d, idle, first_source, false);
+    let t = calls::shows(t, first, 1, 1, true);
+    let second = calls::later(d, first, still, false);
+    let t = calls::shows(t, second, 2, 2, true);
+    let third = calls::later(d, second, still, false);
+    let t = calls::shows(t, third, 0, 3, false);
+    let early = calls::later(d, first, still, true);
+    let t = calls::shows(t, early, 0, 2, false);
+    let t = calls::ticks_once(t, d, 200, first, first_source, 14);
+    let refused = calls::later(d, first, first_source, false);
+    let t = calls::shows(t, refused, 1, 1, true);
+    let t = calls::ticks_once(t, d, 200, first, second_source, 15);
+    let t = calls::ticks_once(t, d, 200, first, both, 15);
+    let mut foreign = first;
+    foreign.used[0] = 3;
+    calls::ticks_once(t, d, 200, foreign, both, 16)
+}
+
+// 16 by each rule of the record; a dropped mark and an awake task without an event break none.
+fn rules() -> Tally {
+    let d = single();
+    let idle = calls::idle(d);
+    let still = calls::arriving(false, false);
+    let first_source = calls::arriving(true, false);
+    let t = calls::ticks_once(cases::none(), d, 200, idle, still, 0);
+    let mut m = calls::later(d, idle, first_source, false);
+    m.used[0] = 2;
+    let t = calls::ticks_once(t, d, 200, m, still, 0);
+    m.used[0] = 3;
+    let t = calls::ticks_once(t, d, 200, m, still, 16);
+    let mut m = idle;
+    m.used[0] = 1;
+    let t = calls::ticks_once(t, d, 200, m, still, 16);
+    let mut m = idle;
+    m.waiting[0] = true;
+    let t = calls::ticks_once(t, d, 200, m, still, 16);
+    let mut m = idle;
+    m.ages[0] = 6;
+    let t = calls::ticks_once(t, d, 200, m, still, 16);
+    let mut m = idle;
+    m.awake[1] = true;
+    let t = calls::ticks_once(t, d, 200, m, still, 16);
+    let mut m = idle;
+    m.used[1] = 1;
+    let t = calls::ticks_once(t, d, 200, m, still, 16);
+    let mut m = idle;
+    m.waiting[1] = true;
+    let t = calls::ticks_once(t, d, 200, m, still, 16);
+    let mut m = idle;
+    m.dropped[1] = true;
+    let t = calls::ticks_once(t, d, 200, m, still, 16);
+    let mut m = idle;
+    m.ages[1] = 1;
+    let t = calls::ticks_once(t, d, 200, m, still, 16);
+    let mut m = idle;
+    m.dropped[0] = true;
+    m.awake[0] = true;
+    calls::ticks_once(t, d, 200, m, still, 0)
+}
+
 fn print_group(name: &[u8], t: Tally) {
     io::write_all(STDOUT_FILENO, name);
     io::write_all(STDOUT_FILENO, b": ");
@@ -334,4 +509,10 @@ fn main() {
     print_group(b"P6, P7", marked_orders());
     print_group(b"P8, P10", marked_others());
     print_group(b"P9", marked_ticks());
+    print_group(b"records judged", judging());
+    print_group(b"quotes", quoting());
+    print_group(b"buffers just filled", buffers());
+    print_group(b"knob", knobs());
+    print_group(b"ticks of a lent record", ticking());
+    print_group(b"rules of the record", rules());
 }

@@ -1,0 +1,123 @@
+// The calls that take a record, one figure each: judging, writing, quoting, a start, and single ticks of a lent machine.
+
+use crate::cases::Tally;
+use crate::cases::counted;
+use crate::cases::is_outcome;
+use model::Arrivals;
+use model::Description;
+use model::Filled;
+use model::Machine;
+use model::Outcome;
+use model::Quote;
+use model::Ticked;
+use refusals::number_of;
+ghost use Prim.Native.Nat.{_<_, _≤_};
+
+// The description of a file, which is blank where the file is refused.
+pub fn described(file: &[u8]) -> Description {
+    let r = files::read(file);
+    r.description
+}
+
+// A record is judged as done, number 0, or refused with a number and a place.
+pub fn judges(t: Tally, d: Description, number: usize, place: usize) -> Tally {
+    let outcome = files::judge(d);
+    counted(t, is_outcome(outcome, number, place))
+}
+
+// A record's quote is a tempo, number 0, or refused with a number and a place.
+pub fn quotes(t: Tally, d: Description, number: usize, value: u32) -> Tally {
+    let quote = quotes::quote(d);
+    match quote {
+        Quote::Tempo(q) => counted(t, number == 0 && q == value),
+        Quote::Unquoted(why, place) => {
+            let n = number_of(why);
+            counted(t, n == number && place == value as usize)
+        }
+    }
+}
+
+// The number of an answer about a filled buffer, and the bytes filled or the place.
+fn told(filled: Filled, number: usize, value: usize) -> bool {
+    match filled {
+        Filled::Bytes(n) => number == 0 && n == value,
+        Filled::Unfilled(why, place) => {
+            let n = number_of(why);
+            n == number && place == value
+        }
+    }
+}
+
+// A record is written into a buffer: as many bytes, number 0, or refused with a number and a place.
+pub fn writes(t: Tally, d: Description, page: &mut [u8], number: usize, value: usize) -> Tally {
+    let filled = files::write(d, page);
+    counted(t, told(filled, number, value))
+}
+
+// A run of calls whose outcomes go to a buffer is done, number 0, or refused with a number.
+pub fn runs(
+    t: Tally,
+    d: Description,
+    tempo: u32,
+    calls: &[u8],
+    outcomes: &mut [u8],
+    number: usize,
+) -> Tally {
+    let ran = ticks::run(d, tempo, calls, outcomes);
+    let outcome = ran.outcome;
+    counted(t, is_outcome(outcome, number, 0))
+}
+
+// A start is done, number 0, or refused with a number; its first source has an age, and no task is awake.
+pub fn starts(t: Tally, d: Description, tempo: u32, number: usize, age: u32) -> Tally {
+    let s = ticks::start(d, tempo);
+    let outcome = s.outcome;
+    let m = s.machine;
+    let asleep = !m.awake[0] && !m.awake[1];
+    counted(
+        t,
+        is_outcome(outcome, number, 0) && m.ages[0] == age && asleep,
+    )
+}
+
+// Arrivals of sources 33 and 34.
+pub fn arriving(first: bool, second: bool) -> Arrivals {
+    let mut marks = [false; 16];
+    marks[0] = first;
+    marks[1] = second;
+    Arrivals { marks }
+}
+
+// One tick of a record is done, number 0, or refused with a number.
+pub fn ticks_once(
+    t: Tally,
+    d: Description,
+    tempo: u32,
+    m: Machine,
+    a: Arrivals,
+    number: usize,
+) -> Tally {
+    let r = ticks::advanced(d, tempo, m, a, false);
+    let outcome = r.outcome;
+    counted(t, is_outcome(outcome, number, 0))
+}
+
+// A record one tick later.
+pub fn later(d: Description, m: Machine, a: Arrivals, finish: bool) -> Machine {
+    let r = ticks::advanced(d, 200, m, a, finish);
+    r.machine
+}
+
+// The record after a start at 20.0.
+pub fn idle(d: Description) -> Machine {
+    let s = ticks::start(d, 200);
+    s.machine
+}
+
+// Of a record the first tasks' used, the first age, and whether the first task is awake.
+pub fn shows(t: Tally, m: Machine, used: u32, age: u32, awake: bool) -> Tally {
+    counted(
+        t,
+        m.used[0] == used && m.ages[0] == age && m.awake[0] == awake,
+    )
+}

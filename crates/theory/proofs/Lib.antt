@@ -12,6 +12,7 @@ pub mod RecordLaws
 pub mod RecordState
 pub mod JudgeLaws
 pub mod ReadLaws
+pub mod RefusalLaws
 pub mod FileLength
 pub mod FileLaws
 pub mod ReadBack

@@ -21,5 +21,6 @@ pub mod LoadLaws
 pub mod Fielded
 pub mod Links
 pub mod LoadBounds
+pub mod Sheet
 pub mod Alike
 pub mod Typed

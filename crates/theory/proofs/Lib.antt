@@ -24,3 +24,4 @@ pub mod LoadBounds
 pub mod Sheet
 pub mod Alike
 pub mod Typed
+pub mod PastCounts

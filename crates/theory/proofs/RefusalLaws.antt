@@ -9,7 +9,6 @@ use lib.ListN.{length, getD}
 use Rattle.model.specs.declared.Description.{Description}
 use Rattle.model.specs.declared.Field.{Field}
 use Rattle.model.specs.declared.Progress.{Progress}
-use Rattle.model.specs.declared.Refusal.{Refusal}
 use Rattle.model.specs.declared.Refusal.the-variants.{CutShort, StrangeTag, WrongLength, OutOfTurn, TooMany, OffScale, NoSuchEnd, NoTask, Loop, TooHeavy}
 use Rattle.model.specs.declared.Taken.{Taken}
 use Rattle.model.specs.declared.Taken.the-variants.{Whole, Broken, End}

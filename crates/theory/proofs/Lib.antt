@@ -16,6 +16,7 @@ pub mod RefusalLaws
 pub mod FileLength
 pub mod FileLaws
 pub mod ReadBack
+pub mod Accepting
 pub mod Rank
 pub mod LoadLaws
 pub mod Fielded
@@ -25,3 +26,4 @@ pub mod Sheet
 pub mod Alike
 pub mod Typed
 pub mod PastCounts
+pub mod Longest

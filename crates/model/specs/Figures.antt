@@ -10,11 +10,12 @@ use Rattle.model.specs.declared.Source.the-variants.{Fixed, Paced}
 use Rattle.model.specs.declared.SourceSlot.{SourceSlot}
 use Rattle.model.specs.declared.Link.{Link}
 use Rattle.model.specs.declared.Description.{Description}
-use Rattle.model.specs.declared.Refusal.the-variants.{NoTask, OutOfTurn, TooSoon}
+use Rattle.model.specs.declared.Refusal.the-variants.{NoTask, OutOfTurn, OffKnob, TooSoon, Stranger, ForeignState}
 use Rattle.model.specs.declared.Outcome.{Outcome}
 use Rattle.model.specs.declared.Outcome.the-variants.{Done, Refused}
 use Rattle.model.specs.declared.Verdict.the-variants.{HeldOrder, DoubtOrder, Held, Doubt}
 use Rattle.model.specs.declared.Quote.the-variants.{Tempo}
+use Rattle.model.specs.declared.Machine.{Machine}
 use Rattle.model.specs.declared.Ticked.{Ticked}
 use Rattle.model.specs.Basics.{tab}
 use Rattle.model.specs.Refusals.{noSource, noLink}
@@ -24,7 +25,7 @@ use Rattle.model.specs.File.{fileOf, readFile}
 use Rattle.model.specs.Delays.{spacing, spacingOf, roundOf, startOf}
 use Rattle.model.specs.Order.{walk}
 use Rattle.model.specs.Verdicts.{verdictAt, quoteOf}
-use Rattle.model.specs.Machine.{idle, droppedAt}
+use Rattle.model.specs.Machine.{idle, droppedAt, setAge, setUsed, judgeTick}
 use Rattle.model.specs.History.{Call, answers}
 
 -- a list filled up to n places
@@ -136,3 +137,20 @@ pub record Figures : Type 0 where
   pub p9-refused : outcomes pulse 200 (callsWhere 5 (λ x. eqb x 0 || eqb x 4)) ≡ Done ∷ Done ∷ Done ∷ Done ∷ Refused TooSoon 0 ∷ []
   pub p9-pass : outcomes pulse 200 (callsWhere 6 (λ x. eqb x 0 || eqb x 5)) ≡ replicate 6 Done
   pub p10-twice : readFile (fileOf sameTwice) .outcome ≡ Refused OutOfTurn 20
+
+-- "calls then check 11, 16, 15, 14": a call that breaks all four, and then one fewer each time. Its record has task 1 asleep with
+-- a tick used; sources 33 and 34 arrive, 33 too soon, and 34 does not exist.
+abbrev pub early : Machine
+early = setAge 0 0 (idle pulse 200)
+
+abbrev pub foreign : Machine
+foreign = setUsed 1 1 early
+
+abbrev pub arriving : ℕ → List Bool
+arriving n = upToLength 16 false (replicate n true)
+
+pub record CallOrder : Type 0 where
+  pub first-11 : judgeTick pulse 199 foreign (arriving 2) ≡ Refused OffKnob 0
+  pub then-16 : judgeTick pulse 200 foreign (arriving 2) ≡ Refused ForeignState 0
+  pub then-15 : judgeTick pulse 200 early (arriving 2) ≡ Refused Stranger 0
+  pub then-14 : judgeTick pulse 200 early (arriving 1) ≡ Refused TooSoon 0

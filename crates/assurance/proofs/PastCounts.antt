@@ -22,7 +22,8 @@ use Rattle.model.specs.Machine.{awakeAt, usedAt, waitingAt, ageAt, setAwake, se
 use Rattle.model.specs.History.{Call, answers, left}
 use Rattle.lemmas.proofs.Range.{any-cong, all-cong, upTo-alike}
 use Rattle.lemmas.proofs.Table.{tab-cong}
-use Rattle.theory.proofs.PastCounts.{cond-same, done-same, same-knob, same-run, same-spacing, knob-known}
+use Rattle.theory.proofs.FileLaws.{at-known}
+use Rattle.theory.proofs.PastCounts.{cond-same, done-same, same-knob, same-run, same-spacing}
 use Rattle.assurance.proofs.Ending.{highest-le}
 use Rattle.assurance.proofs.Replay.{judge-passed}
 
@@ -134,7 +135,7 @@ module _ (d e : Description) (s : SameTo d e) where
     unfolding plainTick
     same-tick m a finish =
         done-same (judgeTick d t m (a .marks)) (judgeTick e t m (a .marks)) _ _ _ (same-judge-tick t m (a .marks))
-        (λ j. ap (λ (x : Machine). record { outcome = Done; machine = x }) (same-stepped t (a .marks) finish m (knob-known d e s w t (judge-passed d t m (a .marks) j .judged) .some-task)))
+        (λ j. ap (λ (x : Machine). record { outcome = Done; machine = x }) (same-stepped t (a .marks) finish m (at-known d t w (judge-passed d t m (a .marks) j .judged) .0 .some-task)))
 
     pub same-answers : (m : Machine) (cs : List Call) → answers d t m cs ≡ answers e t m cs
     unfolding answers

@@ -1,6 +1,6 @@
 -- "Entries past a count are not looked at": two records that agree below their counts get the same answers. Assumes nothing.
 use Prim.Native.Nat.{ℕ, _+_, _-_, _*_, _≤_, _<_}
-use mathlib.Core.Path.{_≡_, refl, sym, ap, _∙_, fun-ext}
+use mathlib.Core.Path.{_≡_, refl, sym, ap, subst, _∙_, fun-ext}
 use mathlib.Core.Bool.{Bool, true, false, cond, not, _||_}
 use mathlib.Core.List.{List}
 use mathlib.Core.Logic.{_⊎_, inl, inr}
@@ -12,25 +12,25 @@ use Rattle.model.specs.declared.Link.{Link}
 use Rattle.model.specs.declared.Description.{Description}
 use Rattle.model.specs.declared.Field.the-variants.{OfTask, OfSource, OfLink}
 use Rattle.model.specs.declared.Refusal.{Refusal}
-use Rattle.model.specs.declared.Refusal.the-variants.{OffKnob}
 use Rattle.model.specs.declared.Outcome.{Outcome}
 use Rattle.model.specs.declared.Outcome.the-variants.{Done, Refused}
 use Rattle.model.specs.declared.Verdict.{Verdict}
 use Rattle.model.specs.Basics.{joined, allN}
-use Rattle.model.specs.Refusals.{onDone}
+use Rattle.model.specs.Refusals.{noLink, noSource, onDone}
 use Rattle.model.specs.Graph.{System, system, linkAt, runOf}
 use Rattle.model.specs.Loads.{load, sheet}
 use Rattle.model.specs.Field.{fieldBytes, fieldOf, fieldCount}
-use Rattle.model.specs.File.{SameTo, fileOf, overfull, judge, written, pageAfter, loadSheet}
+use Rattle.model.specs.File.{SameTo, trimmed, fileOf, overfull, judge, written, pageAfter, loadSheet}
 use Rattle.model.specs.Delays.{spacing, spacingOf, spacings, startOf, roundOf, delayOf}
-use Rattle.model.specs.Verdicts.{sourceVerdict, verdictOf, verdictAt, doubtful, allHeld, onKnob, slotAt, freeSlot, judgeAt, verdicts, largestBelow, quoteOf}
+use Rattle.model.specs.Verdicts.{sourceVerdict, verdictOf, verdictAt, doubtful, allHeld, slotAt, freeSlot, judgeAt, verdicts, largestBelow, quoteOf}
 use Rattle.lemmas.proofs.Range.{Each, sumN-cong, all-cong}
-use Rattle.lemmas.proofs.Outcomes.{refused-not}
 use Rattle.lemmas.proofs.Table.{joined-cong, tab-cong}
 use Rattle.theory.proofs.WellFormed.{WellFormed, IsTask, IsSource}
 use Rattle.theory.proofs.RecordLaws.{Widths, field-task, field-source, field-link, by-place}
+use Rattle.theory.proofs.RecordState.{getD-filled, copy-links}
 use Rattle.theory.proofs.JudgeLaws.{system-same}
-use Rattle.theory.proofs.FileLaws.{judge-well-formed}
+use Rattle.theory.proofs.FileLaws.{judge-well-formed, at-known}
+use Rattle.theory.proofs.ReadBack.{copy-trimmed}
 
 -- two choices by the same test, each by what it chooses
 pub cond-same : {A : Type 0} (b c : Bool) (x y z w : A) → b ≡ c → (b ≡ true → x ≡ y) → (b ≡ false → z ≡ w) → cond b x z ≡ cond c y w
@@ -159,16 +159,19 @@ module _ (d e : Description) (s : SameTo d e) where
     unfolding quoteOf
     same-quote = done-same (judge d) (judge e) _ _ _ same-judge (λ j. ap (λ f. largestBelow f 2801) (fun-ext (same-held (known j))))
 
-    pub knob-known : (t : ℕ) → judgeAt d t ≡ Done → WellFormed d
-    unfolding judgeAt
-    knob-known t = go (judge d) refl
-      where
-        go : (o : Outcome) → judge d ≡ o → onDone o (cond (onKnob t) Done (Refused OffKnob 0)) Refused ≡ Done → WellFormed d
-        go Done j f = known j
-        go (Refused r place) j f = refused-not f
-
     pub same-verdicts : (t : ℕ) → verdicts d t ≡ verdicts e t
     unfolding verdicts
     same-verdicts t =
         done-same (judgeAt d t) (judgeAt e t) _ _ _ (same-knob t)
-        (λ j. ap (λ x. record { outcome = Done; slots = x }) (tab-cong 256 _ _ (λ l h. same-slot (knob-known t j) t l)))
+        (λ j. ap (λ x. record { outcome = Done; slots = x }) (tab-cong 256 _ _ (λ l h. same-slot (at-known d t w j .0) t l)))
+
+-- the record that is read back from a description's file agrees with it below its counts, and so gets the same answers
+pub trimmed-same : (d : Description) → WellFormed d → SameTo d (trimmed d)
+trimmed-same d w = subst (SameTo d) (sym (copy-links d (d .«link_count»)) ∙ copy-trimmed d w) (record {
+  tasks = refl;
+  sources = refl;
+  links = refl;
+  run = λ k h. sym (getD-filled 32 (d .runs) (d .«task_count») 0 k h (w .fields .few-tasks));
+  source = λ k h. sym (getD-filled 16 (d .sources) (d .«source_count») noSource k h (w .fields .few-sources));
+  link = λ l h. sym (getD-filled 256 (d .links) (d .«link_count») noLink l h (w .fields .few-links));
+})

@@ -12,6 +12,7 @@ use Rattle.model.specs.declared.Source.the-variants.{Fixed, Paced}
 use Rattle.model.specs.declared.Description.{Description}
 use Rattle.model.specs.declared.Outcome.the-variants.{Done}
 use Rattle.model.specs.declared.Quote.the-variants.{Tempo}
+use Rattle.model.specs.declared.Verdict.the-variants.{Doubt}
 use Rattle.model.specs.Basics.{sumN, topN, anyN, allN, joined}
 use Rattle.model.specs.Refusals.{noSource}
 use Rattle.model.specs.Field.{bytesOf, numberIn, bodyOf, fieldBytes, fieldIn, takeField, checkField, fieldOf}
@@ -29,7 +30,9 @@ use Rattle.model.specs.Figures.{box, boxFile, boxPage, twin}
 use Rattle.model.proofs.Figures.{figures}
 use Rattle.lemmas.proofs.Range.{all-at}
 use Rattle.lemmas.proofs.Decimal.{every-at}
+use Rattle.theory.proofs.WellFormed.{WellFormed}
 use Rattle.theory.proofs.FileLaws.{judge-well-formed}
+use Rattle.theory.proofs.Levels.{Overloaded, test-6-link}
 use Rattle.theory.proofs.Quotes.{quote-at}
 use Rattle.assurance.proofs.PlainCalls.{AssuredOf, plain-assured}
 use Rattle.assurance.proofs.Paper.{from-page}
@@ -124,3 +127,22 @@ twin-assured t low high cs = plain-assured (twin 9) 3000 t twin-widths twin-quot
 pub twin-waits : (t : ℕ) → 200 ≤ t → t ≤ 3000 → (cs : List Call) (x : ℕ) → x < length (ticks (twin 9) t (idle (twin 9) t) cs) → fires (tickAt (ticks (twin 9) t (idle (twin 9) t) cs) x) 33 ≡ true → waitOf (ticks (twin 9) t (idle (twin 9) t) cs) 1 x ≤ 8
 unfolding computing
 twin-waits t low high cs x h f = twin-assured t low high cs .waited 2 x (omega arith) refl (omega arith) h f
+
+-- Twin with spacing 8: task 1 is loaded by exactly 1, 8 / 8, so 33>1 is doubtful at every tempo (document 000's test (6))
+twin-8-formed : WellFormed (twin 8)
+unfolding computing fits
+twin-8-formed = judge-well-formed (twin 8) (widths-by (twin 8) refl refl) refl
+
+twin-full : (t : ℕ) → Overloaded (system (twin 8)) (spacingOf (twin 8) t) 1
+unfolding computing
+twin-full t = record {
+  P = 8;
+  m = λ u. 1;
+  some = omega arith;
+  multiple = λ u p q. let e : u ≡ 33 = omega arith in rw e refl;
+  full = omega arith;
+}
+
+pub twin-8-doubt : (t : ℕ) → verdictAt (twin 8) t 2 ≡ Doubt 8
+unfolding computing
+twin-8-doubt t = test-6-link (twin 8) twin-8-formed t 2 (omega arith) refl (omega arith) (twin-full t)

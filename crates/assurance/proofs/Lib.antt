@@ -20,6 +20,7 @@ pub mod Replay
 pub mod Machine
 pub mod Marks
 pub mod Lawful
+pub mod PastCounts
 -- the promise
 pub mod Assurance
 pub mod Demand3

@@ -7,14 +7,14 @@ use mathlib.Core.Logic.{_⊎_, inl, inr}
 use native.Mathlib.Omega.{arith}
 use lib.ListN.{getD}
 use lib.Dec.{ltb, eqb}
-use borrow.Author.Tests.{eqb-true, eq-eqb, ne-eqb, lt-ltb, le-ltb, not-true}
+use borrow.Author.Tests.{eqb-true, ne-eqb, lt-ltb, le-ltb, not-true}
 use Rattle.model.specs.declared.Description.{Description}
 use Rattle.model.specs.Graph.{system, linkAt, linked}
 use Rattle.model.specs.Machine.{waitingAt, droppedAt, idle}
 use Rattle.model.specs.History.{Call}
 use Rattle.lemmas.proofs.Tests.{Cmp, less, same, more, cmp, not-both, and-left, and-right, both, or-left, or-right, or-new, or-else, eqb-sym}
-use Rattle.lemmas.proofs.Range.{any-at}
 use Rattle.theory.proofs.WellFormed.{WellFormed, Loaded, IsTask, IsSource}
+use Rattle.theory.proofs.Fielded.{linked-at}
 use Rattle.assurance.proofs.Arriving.{comes}
 use Rattle.assurance.proofs.Machine.{at, marksAt, highAt, endAt, at-step, high-low}
 use Rattle.assurance.proofs.Replay.{stateAt}
@@ -215,9 +215,7 @@ module _ (d : Description) (wf : WellFormed d) (L : Loaded (system d)) (t : ℕ)
     to = linkAt d l .to
 
     pub link-here : linked d from to ≡ true
-    unfolding linked
-    link-here =
-        any-at _ 0 (d .«link_count») l (omega arith) (omega arith) (both (eqb from from) _ (eq-eqb from from refl) (eq-eqb to to refl))
+    link-here = linked-at d l p
 
     pub not-self : from ≡ to → ⊥
     unfolding system

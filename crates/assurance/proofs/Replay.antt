@@ -42,10 +42,11 @@ state-cons d t m c ks (suc x) =
 
 -- a call that is done: what passed, and the record that it leaves
 pub record Passed (d : Description) (t : ℕ) (m : Machine) (marks : List Bool) : Type 0 where
+  pub judged : judgeAt d t ≡ Done
   pub known : strangers d marks ≡ false
   pub spaced : tooSoon d t marks m ≡ false
 
-judge-passed : (d : Description) (t : ℕ) (m : Machine) (marks : List Bool) → judgeTick d t m marks ≡ Done → Passed d t m marks
+pub judge-passed : (d : Description) (t : ℕ) (m : Machine) (marks : List Bool) → judgeTick d t m marks ≡ Done → Passed d t m marks
 unfolding judgeTick
 judge-passed d t m marks e = go (judgeAt d t) refl (lawful d t m) refl (strangers d marks) refl (tooSoon d t marks m) refl
   where
@@ -57,7 +58,7 @@ judge-passed d t m marks e = go (judgeAt d t) refl (lawful d t m) refl (stranger
     go Done eo false ea b eb c ec = never (Refused ForeignState 0) refl (rw (eo, ea, judgeTick) at e)
     go Done eo true ea true eb c ec = never (Refused Stranger 0) refl (rw (eo, ea, eb, judgeTick) at e)
     go Done eo true ea false eb true ec = never (Refused TooSoon 0) refl (rw (eo, ea, eb, ec, judgeTick) at e)
-    go Done eo true ea false eb false ec = record { known = eb; spaced = ec }
+    go Done eo true ea false eb false ec = record { judged = eo; known = eb; spaced = ec }
 
 tick-done : (d : Description) (t : ℕ) (m : Machine) (c : Call) → isDone (plainTick d t m (c .arrivals) (c .finish) .outcome) ≡ true → (judgeTick d t m (c .arrivals .marks) ≡ Done) × (plainTick d t m (c .arrivals) (c .finish) .machine ≡ stepped d t (c .arrivals .marks) (c .finish) m)
 unfolding plainTick

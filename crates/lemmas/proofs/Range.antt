@@ -31,6 +31,20 @@ sumN-le f g a zero h = omega arith
 sumN-le f g a (suc n) h =
     omega (arith, h (a + n) (omega arith) (omega arith), sumN-le f g a n (λ k p q. h k p (omega arith)))
 
+-- a sum is below another one if one of its terms is and none is above
+pub sumN-lt : (f g : ℕ → ℕ) (a n k : ℕ) → Each (λ u. f u ≤ g u) a n → a ≤ k → k < a + n → f k < g k → sumN f a n < sumN g a n
+unfolding sumN
+sumN-lt f g a zero k h p q l = absurd (omega arith)
+sumN-lt f g a (suc n) k h p q l = go (cmp k (a + n)) (sumN-lt f g a n k below p)
+  where
+    below : Each (λ u. f u ≤ g u) a n
+    below u x y = h u x (omega arith)
+
+    go : Cmp k (a + n) → (k < a + n → f k < g k → sumN f a n < sumN g a n) → sumN f a (suc n) < sumN g a (suc n)
+    go (less c) ih = omega (arith, ih c l, h (a + n) (omega arith) (omega arith))
+    go (same c) ih = omega (arith, rw c at l, sumN-le f g a n below)
+    go (more c) ih = absurd (omega arith)
+
 pub sumN-cong : (f g : ℕ → ℕ) (a n : ℕ) → Each (λ k. f k ≡ g k) a n → sumN f a n ≡ sumN g a n
 sumN-cong f g a n h =
     omega (arith, sumN-le f g a n (λ k p q. omega (arith, h k p q)), sumN-le g f a n (λ k p q. omega (arith, h k p q)))

@@ -42,6 +42,11 @@ pub joined-more : {A : Type 0} (n : ℕ) (f : ℕ → List A) → joined (n + 1)
 unfolding joined
 joined-more n f = rw add-one refl
 
+pub joined-cong : {A : Type 0} (n : ℕ) (f g : ℕ → List A) → ((k : ℕ) → k < n → f k ≡ g k) → joined n f ≡ joined n g
+unfolding joined
+joined-cong zero f g h = refl
+joined-cong (suc n) f g h = rw (joined-cong n f g (λ k p. h k (omega arith)), h n (omega arith))
+
 -- filling a list from the front: what holds of each place below i, and of the value stored at i, holds of each place below i + 1
 pub stored : {A : Type 0} (P : ℕ → A → Type 0) (d : A) (l : List A) (i : ℕ) (v : A) → i < length l → ((k : ℕ) → k < i → P k (getD l k d)) → P i v → (k : ℕ) → k < i + 1 → P k (getD (set l i v) k d)
 stored P d l i v b h x k p = go (cmp k i)

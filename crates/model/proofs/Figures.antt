@@ -1,7 +1,7 @@
 -- The P figures hold: each row is computed. Assumes nothing.
 use Prim.Native.Nat.{ℕ}
 use mathlib.Core.Path.{refl}
-use Rattle.model.specs.Figures.{Figures}
+use Rattle.model.specs.Figures.{Figures, CallOrder}
 use Rattle.model.specs.Basics.{sumN, topN, anyN, allN, upTo, tab, joined}
 use Rattle.model.specs.Field.{bytesOf, numberIn, bodyOf, fieldBytes, fieldIn, takeField, checkField, fieldOf}
 use Rattle.model.specs.Graph.{linked, system, walks, cyclic}
@@ -69,3 +69,7 @@ figures = record {
   page-box-link-4 = refl;
   page-refused = refl;
 }
+
+pub call-order : CallOrder
+unfolding computing
+call-order = record { first-11 = refl; then-16 = refl; then-15 = refl; then-14 = refl }

@@ -15,16 +15,17 @@ use Rattle.model.specs.declared.Outcome.{Outcome}
 use Rattle.model.specs.declared.Outcome.the-variants.{Done}
 use Rattle.model.specs.declared.Verdict.the-variants.{HeldOrder, DoubtOrder, Held, Doubt}
 use Rattle.model.specs.declared.Quote.the-variants.{Tempo}
+use Rattle.model.specs.declared.Machine.{Machine}
 use Rattle.model.specs.declared.Ticked.{Ticked}
 use Rattle.model.specs.Basics.{tab}
-use Rattle.model.specs.Refusals.{numberOf, ofReading, ofQuote, noSource, noLink}
+use Rattle.model.specs.Refusals.{numberOf, ofOutcome, ofReading, ofQuote, noSource, noLink}
 use Rattle.model.specs.Graph.{system}
 use Rattle.model.specs.Loads.{load}
 use Rattle.model.specs.File.{fileOf, readFile}
 use Rattle.model.specs.Delays.{spacing, spacingOf, roundOf, startOf}
 use Rattle.model.specs.Order.{walk}
 use Rattle.model.specs.Verdicts.{verdictAt, quoteOf}
-use Rattle.model.specs.Machine.{idle, droppedAt}
+use Rattle.model.specs.Machine.{idle, droppedAt, setAge, setUsed, judgeTick}
 use Rattle.model.specs.History.{Call, Tick, answers, ticks, servedBefore, waitOf}
 use Rattle.model.specs.Run.{page}
 use Rattle.model.specs.Report.{reportFor, reportOf}
@@ -174,3 +175,20 @@ pub record Figures : Type 0 where
   pub page-box-link-3 : lineAt boxPage 3 ≡ heldWords 3 33 2 700 701
   pub page-box-link-4 : lineAt boxPage 4 ≡ heldWords 4 34 3 400 2000
   pub page-refused : reportOf (fileOf sameTwice) ≡ refusedPage
+
+-- "calls then check 11, 16, 15, 14": a call that breaks all four, and then one fewer each time. Its record has task 1 asleep with
+-- a tick used; sources 33 and 34 arrive, 33 too soon, and 34 does not exist.
+abbrev pub early : Machine
+early = setAge 0 0 (idle pulse 200)
+
+abbrev pub foreign : Machine
+foreign = setUsed 1 1 early
+
+abbrev pub arriving : ℕ → List Bool
+arriving n = upToLength 16 false (replicate n true)
+
+pub record CallOrder : Type 0 where
+  pub first-11 : ofOutcome (judgeTick pulse 199 foreign (arriving 2)) .number ≡ 11
+  pub then-16 : ofOutcome (judgeTick pulse 200 foreign (arriving 2)) .number ≡ 16
+  pub then-15 : ofOutcome (judgeTick pulse 200 early (arriving 2)) .number ≡ 15
+  pub then-14 : ofOutcome (judgeTick pulse 200 early (arriving 1)) .number ≡ 14

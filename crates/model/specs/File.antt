@@ -108,6 +108,15 @@ trimmed d = record {
   links = take (d .«link_count») (d .links) ++ replicate (256 - d .«link_count») noLink;
 }
 
+-- two records that agree below their counts
+pub record SameTo (d e : Description) : Type 0 where
+  pub tasks : d .«task_count» ≡ e .«task_count»
+  pub sources : d .«source_count» ≡ e .«source_count»
+  pub links : d .«link_count» ≡ e .«link_count»
+  pub run : (k : ℕ) → k < d .«task_count» → getD (d .runs) k 0 ≡ getD (e .runs) k 0
+  pub source : (k : ℕ) → k < d .«source_count» → getD (d .sources) k noSource ≡ getD (e .sources) k noSource
+  pub link : (l : ℕ) → l < d .«link_count» → getD (d .links) l noLink ≡ getD (e .links) l noLink
+
 -- "short page: a lent buffer is shorter than the file or report it is to take"; "only the bytes of that file or report are filled"
 unfoldable pub fillWith : List ℕ → List ℕ → Filled
 fillWith text buffer = cond (ltb (length buffer) (length text)) (Unfilled ShortPage 0) (Bytes (length text))

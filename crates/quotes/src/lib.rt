@@ -113,8 +113,8 @@ pub fn quote_file(file: &[u8]) -> Quote
 {
     let judged = files::examine(file);
     let outcome = judged.outcome;
-    if let Outcome::Refused(why, place) = outcome {
-        return Quote::Unquoted(why, place);
+    if let Outcome::Refused(why, offset) = outcome {
+        return Quote::Unquoted(why, offset);
     }
     let d = judged.description;
     let t = tables_of(d, &judged.adds, &judged.works);

@@ -4,11 +4,11 @@ use mathlib.Core.Path.{_≡_, refl}
 use mathlib.Core.Bool.{Bool, true, false, cond, _&&_}
 use native.Mathlib.Omega.{arith}
 use lib.Dec.{eqb, leb}
-use borrow.Author.Tests.{eqb-true, leb-true, le-leb}
+use borrow.Author.Tests.{eqb-true, eq-eqb, leb-true, le-leb}
 use Rattle.model.specs.declared.Description.{Description}
 use Rattle.model.specs.Graph.{system, linked, runOf, linkAt}
-use Rattle.lemmas.proofs.Tests.{and-left, and-right}
-use Rattle.lemmas.proofs.Range.{Found, any-found}
+use Rattle.lemmas.proofs.Tests.{and-left, and-right, both}
+use Rattle.lemmas.proofs.Range.{Found, any-found, any-at}
 use Rattle.theory.proofs.WellFormed.{Fielded, WellFormed, Shaped}
 
 -- the place of a link that exists
@@ -28,6 +28,17 @@ link-place d i j e =
       from-is = eqb-true _ _ (and-left (eqb (linkAt d (f .at) .from) i) (eqb (linkAt d (f .at) .to) j) (f .passes));
       to-is = eqb-true _ _ (and-right (eqb (linkAt d (f .at) .from) i) (eqb (linkAt d (f .at) .to) j) (f .passes));
     }
+
+-- and a link at a place exists
+pub linked-at : (d : Description) (l : ℕ) → l < d .«link_count» → linked d (linkAt d l .from) (linkAt d l .to) ≡ true
+unfolding linked
+linked-at d l h =
+    any-at _ 0 (d .«link_count») l (omega arith) (omega arith)
+    (both (eqb (linkAt d l .from) (linkAt d l .from)) _ (eq-eqb (linkAt d l .from) (linkAt d l .from) refl) (eq-eqb (linkAt d l .to) (linkAt d l .to) refl))
+
+pub link-at : (d : Description) (l : ℕ) → l < d .«link_count» → system d .link (linkAt d l .from) (linkAt d l .to) ≡ true
+unfolding system
+link-at d l h = linked-at d l h
 
 -- the run of a task of the file
 pub run-is : (d : Description) (k : ℕ) → k ≤ d .«task_count» → system d .run k ≡ runOf d k

@@ -9,7 +9,7 @@ use lib.ListN.{length, getD}
 use borrow.Author.Tests.{leb-true, eqb-false}
 use Rattle.model.specs.declared.Description.{Description}
 use Rattle.model.specs.declared.Field.the-variants.{OfTask, OfSource, OfLink}
-use Rattle.model.specs.declared.Refusal.the-variants.{TooMany, NoTask, Loop, TooHeavy}
+use Rattle.model.specs.declared.Refusal.the-variants.{TooMany, NoTask, Loop, TooHeavy, OffKnob}
 use Rattle.model.specs.declared.Outcome.{Outcome}
 use Rattle.model.specs.declared.Outcome.the-variants.{Done, Refused}
 use Rattle.model.specs.declared.Reading.{Reading}
@@ -18,6 +18,8 @@ use Rattle.model.specs.Graph.{System, system, linkAt, runOf, cyclic}
 use Rattle.model.specs.Loads.{tooHeavy}
 use Rattle.model.specs.Field.{fieldOf, fieldCount, isTask, isSource}
 use Rattle.model.specs.File.{fileOf, parseFile, lastChecks, finished, readFile, overfull, judge}
+use Rattle.model.specs.Verdicts.{judgeAt, onKnob}
+use Rattle.lemmas.proofs.Outcomes.{refused-not}
 use Rattle.lemmas.proofs.Tests.{or-new, or-cases, and-left, and-right}
 use Rattle.theory.proofs.WellFormed.{WellFormed, rises}
 use Rattle.theory.proofs.WellFormed.{Fielded}
@@ -155,3 +157,13 @@ judge-steps d w = go (overfull d) refl (parseFile (fileOf d) .outcome) refl
         (finished-outcome (parseFile (fileOf d) .description)
         ∙ ap (λ (x : Reading). lastChecks (x .description)) (parsed-copy d w r)
         ∙ last-copy d (few-counts d q))
+
+-- what is known once a description is judged at a tempo
+pub at-known : (d : Description) (t : ℕ) → Widths d → judgeAt d t ≡ Done → WellFormed d × (200 ≤ t) × (t ≤ 3000)
+unfolding judgeAt
+at-known d t w = go (judge d) refl (onKnob t) refl
+  where
+    go : (o : Outcome) → judge d ≡ o → (b : Bool) → onKnob t ≡ b → onDone o (cond b (let x : Outcome = Done in x) (Refused OffKnob 0)) Refused ≡ Done → WellFormed d × (200 ≤ t) × (t ≤ 3000)
+    go Done e true k f = (judge-well-formed d w e, leb-true 200 t (and-left (leb 200 t) (leb t 3000) k), leb-true t 3000 (and-right (leb 200 t) (leb t 3000) k))
+    go Done e false k f = refused-not f
+    go (Refused r p) e b k f = refused-not f

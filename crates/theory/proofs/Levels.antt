@@ -3,17 +3,23 @@
 use Prim.Native.Nat.{ℕ, zero, suc, _+_, _-_, _*_, _/_, _≤_, _<_, max}
 use mathlib.Core.Path.{_≡_, refl, sym, ap, _∙_}
 use mathlib.Core.Bool.{cond}
+use mathlib.Core.Logic.{_⊎_, inl, inr}
 use native.Mathlib.Omega.{arith}
 use native.Mathlib.Nat.{div-mul-le-self, div-le-self, lt-div-mul-add, mul-le-mul-left, mul-le-mul-right, zero-add, lt-of-mul-lt-mul-left}
 use lib.Dec.{ltb}
-use borrow.Author.Tests.{lt-ltb, le-ltb}
+use borrow.Author.Tests.{lt-ltb, le-ltb, ne-eqb}
+use Rattle.model.specs.declared.Description.{Description}
 use Rattle.model.specs.declared.Verdict.the-variants.{Held, Doubt}
 use Rattle.model.specs.Basics.{sumN}
-use Rattle.model.specs.Graph.{System}
-use Rattle.model.specs.Delays.{spacings, startOf, roundOf, Settled, unchanged, reached, settle, delayOf}
-use Rattle.model.specs.Verdicts.{settledVerdict, sourceVerdict}
+use Rattle.model.specs.Graph.{System, system, linkAt}
+use Rattle.model.specs.Loads.{load}
+use Rattle.model.specs.Delays.{spacings, startOf, roundOf, Settled, unchanged, reached, settle, delayOf, spacingOf}
+use Rattle.model.specs.Verdicts.{settledVerdict, sourceVerdict, verdictOf, verdictAt}
 use Rattle.lemmas.proofs.Tests.{Cmp, less, same, more, cmp}
-use Rattle.lemmas.proofs.Range.{Each, sumN-le, sumN-mul}
+use Rattle.lemmas.proofs.Range.{Each, sumN-le, sumN-lt, sumN-mul}
+use Rattle.theory.proofs.WellFormed.{WellFormed, IsTask, IsSource}
+use Rattle.theory.proofs.Fielded.{link-at, shaped}
+use Rattle.theory.proofs.LoadLaws.{loaded, run-whole, load-direct}
 use Rattle.theory.proofs.Rounds.{Spaced, spacings-some, held-fixed, round-mono, round-start, settle-fixed, settle-least, settle-finds, never-reached}
 
 -- a sum whose numbers are counted from 0
@@ -128,3 +134,102 @@ never-unchanged n next limit d up = go (settle n next limit d) refl
     go : (r : Settled) → settle n next limit d ≡ r → reachOf r limit ≡ limit
     go (unchanged D) e = absurd (omega (arith, up D, settle-fixed n next limit d D e .0))
     go reached e = refl
+
+-- a factor of a number that is not 0
+some-factor : (m g P : ℕ) → m * g ≡ P → 1 ≤ P → 1 ≤ m
+some-factor zero g P e p = omega arith
+some-factor (suc m) g P e p = omega arith
+
+-- document 000's test (6): with P a common multiple of the spacings, P = m(u) × spacing(u), a level is loaded by 1 or more,
+-- the sum over sources u of load(u, j) / spacing(u), exactly if P is at most the sum of load(u, j) × m(u)
+pub record Overloaded (s : System) (gap : ℕ → ℕ) (j : ℕ) : Type 0 where
+  pub P : ℕ
+  pub m : ℕ → ℕ
+  pub some : 1 ≤ P
+  pub multiple : Each (λ u. m u * gap u ≡ P) 33 (s .sources)
+  pub full : P ≤ sumN (λ u. load s u j * m u) 33 (s .sources)
+
+module _ (s : System) (gap : ℕ → ℕ) (j : ℕ) (o : Overloaded s gap j) where
+  -- what source u brings in D ticks at least, and what a round counts of it, each P times
+  abbrev least : ℕ → ℕ → ℕ
+  least D u = D * (load s u j * o .m u)
+
+  abbrev counted : ℕ → ℕ → ℕ
+  counted D u = o .P * (load s u j * spacings D (gap u))
+
+  spaced-by : Spaced s gap
+  spaced-by u p q = some-factor (gap u) (o .m u) (o .P) (omega (arith, o .multiple u p q)) (o .some)
+
+  covered : (D u : ℕ) → 33 ≤ u → u < 33 + s .sources → least D u ≤ counted D u
+  covered D u p q =
+      let c : ℕ = spacings D (gap u) in
+      let w : ℕ = load s u j * o .m u in
+      omega (
+        arith,
+        mul-le-mul-left w (spacings-cover D (gap u) (spaced-by u p q)),
+        ap (λ x. x * (load s u j * c)) (o .multiple u p q),
+      )
+
+  beyond : (D i : ℕ) → 33 ≤ i → i < 33 + s .sources → 1 ≤ load s i j → D < gap i → least D i < counted D i
+  beyond D i p q l h =
+      let c : ℕ = spacings D (gap i) in
+      let w : ℕ = load s i j * o .m i in
+      let a : 1 ≤ o .m i = some-factor (o .m i) (gap i) (o .P) (o .multiple i p q) (o .some) in
+      let b : gap i ≤ c * gap i = omega (arith, mul-le-mul-right (gap i) (spacings-some D (gap i))) in
+      let r : D + 1 ≤ c * gap i = omega arith in
+      omega (
+        arith,
+        mul-le-mul-left (load s i j) a,
+        mul-le-mul-left w r,
+        ap (λ x. x * (load s i j * c)) (o .multiple i p q),
+      )
+
+  -- so a D that a round leaves unchanged is not below the spacing of a source that loads the level
+  pub unchanged-above : (D i : ℕ) → 33 ≤ i → i < 33 + s .sources → 1 ≤ load s i j → roundOf s gap j D ≡ D → gap i ≤ D
+  unfolding roundOf
+  unchanged-above D i p q l e = go (cmp D (gap i))
+    where
+      go : Cmp D (gap i) → gap i ≤ D
+      go (less h) =
+          let f : ℕ → ℕ = λ u. load s u j * o .m u in
+          let g : ℕ → ℕ = λ u. load s u j * spacings D (gap u) in
+          let r : sumN g 33 (s .sources) ≤ D = omega arith in
+          absurd (omega (
+            arith,
+            sumN-lt (least D) (counted D) 33 (s .sources) i (covered D) p q (beyond D i p q l h),
+            sumN-mul D f 33 (s .sources),
+            sumN-mul (o .P) g 33 (s .sources),
+            mul-le-mul-left D (o .full),
+            mul-le-mul-left (o .P) r,
+          ))
+      go (same h) = omega arith
+      go (more h) = omega arith
+
+  -- and no link from there is held
+  pub test-6 : (i : ℕ) → 33 ≤ i → i < 33 + s .sources → 1 ≤ load s i j → sourceVerdict s gap i j ≡ Doubt (gap i)
+  unfolding sourceVerdict
+  test-6 i p q l = go (delayOf s gap i j) refl
+    where
+      go : (r : Settled) → delayOf s gap i j ≡ r → settledVerdict (delayOf s gap i j) (gap i) ≡ Doubt (gap i)
+      go (unchanged D) e =
+          let f = held-fixed s gap i j D e in
+          absurd (omega (arith, unchanged-above D i p q l (f .0), f .1))
+      go reached e = rw e
+
+-- a critical link from a source into such a level is doubtful
+pub test-6-link : (d : Description) → WellFormed d → (t l : ℕ) → l < d .«link_count» → linkAt d l .critical ≡ 1 → 33 ≤ linkAt d l .from → Overloaded (system d) (spacingOf d t) (linkAt d l .to) → verdictAt d t l ≡ Doubt (spacingOf d t (linkAt d l .from))
+unfolding verdictAt verdictOf
+test-6-link d w t l p c f o =
+    rw (ne-eqb (linkAt d l .critical) 0 (λ e. omega arith), le-ltb (linkAt d l .from) 33 f)
+    (test-6 (system d) (spacingOf d t) (linkAt d l .to) o (linkAt d l .from) f (source (w .fields .link-from l p)) some)
+  where
+    source : IsTask (system d) (linkAt d l .from) ⊎ IsSource (system d) (linkAt d l .from) → linkAt d l .from < 33 + system d .sources
+    source (inl x) = absurd (omega (arith, x .1, shaped d w .few))
+    source (inr x) = x .1
+
+    some : 1 ≤ load (system d) (linkAt d l .from) (linkAt d l .to)
+    some =
+        let S = shaped d w in
+        let L = loaded (system d) S (w .no-cycle) in
+        let j = w .fields .link-to l p in
+        omega (arith, load-direct (system d) L S (linkAt d l .from) (linkAt d l .to) (link-at d l p), run-whole (system d) L (linkAt d l .to), S .runs (linkAt d l .to) (j .0) (j .1))

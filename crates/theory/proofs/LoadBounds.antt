@@ -2,16 +2,15 @@
 use Prim.Native.Nat.{ℕ, zero, suc, _+_, _-_, _≤_, _<_}
 use mathlib.Core.Path.{_≡_, ap}
 use mathlib.Core.Bool.{false}
-use mathlib.Core.Logic.{⊎-elim}
 use native.Mathlib.Omega.{arith}
 use borrow.Author.Tests.{ltb-false}
 use Rattle.model.specs.Basics.{sumN, sumTo}
 use Rattle.model.specs.Graph.{System}
 use Rattle.model.specs.Loads.{work, added, load, tooHeavy}
-use Rattle.lemmas.proofs.Tests.{Cmp, less, same, more, cmp, false-of}
+use Rattle.lemmas.proofs.Tests.{Cmp, less, same, more, cmp}
 use Rattle.lemmas.proofs.Range.{All, Each, sumN-split, sumN-first, none-any}
 use Rattle.theory.proofs.WellFormed.{IsTask, IsSource, Shaped, Loaded}
-use Rattle.theory.proofs.LoadLaws.{added-le, no-link-load}
+use Rattle.theory.proofs.LoadLaws.{added-le, absent-load}
 
 -- a part of a sum
 pub sumN-part : (f : ℕ → ℕ) (a n m : ℕ) → n ≤ m → sumN f a n ≤ sumN f a m
@@ -122,18 +121,8 @@ pub load-light : (s : System) → Shaped s → s .sources ≤ 16 → Loaded s �
 unfolding tooHeavy
 load-light s S few L light i j q = go (cmp i 0) (cmp i 49)
   where
-    -- a number that no node has
     none : (IsTask s i → ⊥) → (IsSource s i → ⊥) → load s i j ≤ 1000000000
-    none t u =
-        omega (
-          arith,
-          no-link-load
-              s
-              L
-              i
-              j
-              (λ k p r. false-of (s .link i k) (λ e. ⊎-elim t u (S .from-node i k e))),
-        )
+    none t u = omega (arith, absent-load s L S i j t u)
 
     node : 1 ≤ i → i ≤ 48 → load s i j ≤ 1000000000
     node p r =

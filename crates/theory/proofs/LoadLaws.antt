@@ -2,13 +2,14 @@
 use Prim.Native.Nat.{ℕ, zero, suc, _+_, _-_, _*_, _≤_, _<_}
 use mathlib.Core.Path.{_≡_, refl, sym, ap, _∙_}
 use mathlib.Core.Bool.{Bool, true, false}
+use mathlib.Core.Logic.{⊎-elim}
 use native.Mathlib.Omega.{arith}
-use Rattle.model.specs.Basics.{sumTo, topTo, given}
+use Rattle.model.specs.Basics.{sumN, sumTo, topTo, given}
 use Rattle.model.specs.Graph.{System, cyclic}
 use Rattle.model.specs.Loads.{workF, addedF, work, added, load}
-use Rattle.lemmas.proofs.Tests.{not-both}
+use Rattle.lemmas.proofs.Tests.{not-both, false-of}
 use Rattle.lemmas.proofs.Range.{All, sumTo-cong, sumTo-zero, le-sumTo, topTo-cong, topTo-le, le-topTo, given-le, le-given, given-cong}
-use Rattle.theory.proofs.WellFormed.{Shaped, Loaded}
+use Rattle.theory.proofs.WellFormed.{IsTask, IsSource, Shaped, Loaded}
 use Rattle.theory.proofs.Rank.{Ends, rankOf, ends-fall, rank-most}
 
 -- one step of each definition
@@ -148,3 +149,13 @@ module _ (s : System) (L : Loaded s) where
   pub no-link-load : (i j : ℕ) → All (λ k. s .link i k ≡ false) j (s .tasks) → load s i j ≡ 0
   unfolding load
   no-link-load i j none = sumTo-zero (added s i) j (s .tasks) (no-link-added i j none)
+
+  -- a number that no node has has no load
+  pub absent-load : Shaped s → (i j : ℕ) → (IsTask s i → ⊥) → (IsSource s i → ⊥) → load s i j ≡ 0
+  absent-load S i j t u =
+      no-link-load i j (λ k p q. false-of (s .link i k) (λ e. ⊎-elim t u (S .from-node i k e)))
+
+-- and there is none at a number above the tasks
+pub past-load : (s : System) (i j : ℕ) → s .tasks < j → load s i j ≡ 0
+unfolding load sumN
+past-load s i j h = let e : suc (s .tasks) - j ≡ 0 = omega arith in rw (e, sumN)

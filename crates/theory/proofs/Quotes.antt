@@ -3,7 +3,8 @@
 use Prim.Native.Nat.{ℕ, zero, suc, _+_, _-_, _≤_, _<_}
 use mathlib.Core.Path.{_≡_, refl, sym, ap, _∙_}
 use mathlib.Core.Bool.{Bool, true, false, not, cond}
-use mathlib.Core.Logic.{_⊎_, inl, inr}
+use mathlib.Core.List.{List}
+use mathlib.Core.Logic.{_⊎_, inl, inr, _↔_}
 use native.Mathlib.Omega.{arith}
 use lib.Dec.{eqb, ltb}
 use borrow.Author.Tests.{ltb-false, not-true}
@@ -15,15 +16,18 @@ use Rattle.model.specs.declared.Outcome.{Outcome}
 use Rattle.model.specs.declared.Outcome.the-variants.{Done, Refused}
 use Rattle.model.specs.declared.Verdict.{Verdict}
 use Rattle.model.specs.declared.Quote.the-variants.{Tempo, Unquoted}
-use Rattle.model.specs.Refusals.{onDone}
+use Rattle.model.specs.Refusals.{onDone, numberOf}
 use Rattle.model.specs.Graph.{System, system, linkAt}
-use Rattle.model.specs.File.{judge}
+use Rattle.model.specs.File.{judge, readFile, Accepted}
 use Rattle.model.specs.Delays.{Settled, unchanged, reached, delayOf, spacingOf}
-use Rattle.model.specs.Verdicts.{settledVerdict, sourceVerdict, orderVerdict, verdictOf, verdictAt, doubtful, allHeld, largestBelow, quoteOf}
+use Rattle.model.specs.Verdicts.{settledVerdict, sourceVerdict, orderVerdict, verdictOf, verdictAt, doubtful, allHeld, largestBelow, quoteOf, quotedFile}
 use Rattle.lemmas.proofs.Tests.{Cmp, less, same, more, cmp, not-both, false-of}
 use Rattle.lemmas.proofs.Range.{all-at, all-of}
 use Rattle.theory.proofs.WellFormed.{WellFormed, IsTask, IsSource}
 use Rattle.theory.proofs.Spacing.{gap-anti, gap-some}
+use Rattle.theory.proofs.NumberBytes.{Bytes}
+use Rattle.theory.proofs.ReadBack.{read-judged}
+use Rattle.theory.proofs.RefusalLaws.{read-number, judge-number}
 use Rattle.theory.proofs.Rounds.{Spaced, Wider, Kept, held-wider}
 
 -- a working out that gives no doubtful verdict has ended unchanged
@@ -143,6 +147,22 @@ module _ (good : ℕ → Bool) where
       go (more c) ih = absurd (omega (arith, r .high))
 
   -- none passes
+  pub none-largest : (n : ℕ) → largestBelow good n ≡ Unquoted NoTempo 0 → (t : ℕ) → 200 ≤ t → t < 200 + n → good t ≡ false
+  none-largest n e t x y = false-of (good t) (λ f. found n t e x y f)
+    where
+      found : (n t : ℕ) → largestBelow good n ≡ Unquoted NoTempo 0 → 200 ≤ t → t < 200 + n → good t ≡ true → ⊥
+      found zero t e x y f = omega arith
+      found (suc n) t e x y f = go (good (200 + n)) refl (found n t)
+        where
+          go : (b : Bool) → good (200 + n) ≡ b → (largestBelow good n ≡ Unquoted NoTempo 0 → 200 ≤ t → t < 200 + n → good t ≡ true → ⊥) → ⊥
+          go true q ih = unquoted-not (sym e ∙ largest-hit n q)
+          go false q ih = ih (sym (largest-miss n q) ∙ e) x (below (cmp t (200 + n))) f
+            where
+              below : Cmp t (200 + n) → t < 200 + n
+              below (less c) = c
+              below (same c) = absurd (not-both (rw c at f) q)
+              below (more c) = absurd (omega arith)
+
   pub largest-none : (n : ℕ) → ((t : ℕ) → 200 ≤ t → t < 200 + n → good t ≡ false) → largestBelow good n ≡ Unquoted NoTempo 0
   unfolding largestBelow
   largest-none zero h = refl
@@ -195,3 +215,54 @@ quoted d q = go (judge d) refl
           above = λ t x y. r .above t x (omega arith);
         }
     go (Refused r p) e f = absurd (unquoted-not (allHeld d) f)
+
+-- "the quote is the largest T at which every critical link is held", both ways
+pub quote-exactly : (d : Description) (q : ℕ) → (quoteOf d ≡ Tempo q) ↔ Quoted d q
+unfolding quoteOf
+quote-exactly d q = (quoted d q, found)
+  where
+    found : Quoted d q → quoteOf d ≡ Tempo q
+    found r =
+        rw (r .judged)
+        (largest-is (allHeld d) 2801 q (record { low = r .low; high = omega (arith, r .high); passes = r .held; above = λ t x y. r .above t x (omega arith) }))
+
+-- no tempo of the knob has every critical link held
+pub record NoneHeld (d : Description) : Type 0 where
+  pub judged : judge d ≡ Done
+  pub none : (t : ℕ) → 200 ≤ t → t ≤ 3000 → allHeld d t ≡ false
+
+-- a refusal of a reading is not 12
+not-12 : {r : Refusal} {p : ℕ} → numberOf r ≤ 10 → Unquoted r p ≡ Unquoted NoTempo 0 → ⊥
+not-12 {r} h e = let z : r ≡ NoTempo = cc in omega (arith, ap numberOf z)
+
+-- 12 is given only if there is no such tempo, and always then
+pub no-tempo-exactly : (d : Description) → (quoteOf d ≡ Unquoted NoTempo 0) ↔ NoneHeld d
+unfolding quoteOf
+no-tempo-exactly d = (go (judge d) refl, found)
+  where
+    go : (o : Outcome) → judge d ≡ o → onDone o (largestBelow (allHeld d) 2801) Unquoted ≡ Unquoted NoTempo 0 → NoneHeld d
+    go Done e f = record { judged = e; none = λ t x y. none-largest (allHeld d) 2801 f t x (omega arith) }
+    go (Refused r p) e f = absurd (not-12 (rw e at (judge-number d)) f)
+
+    found : NoneHeld d → quoteOf d ≡ Unquoted NoTempo 0
+    found r = rw (r .judged) (largest-none (allHeld d) 2801 (λ t x y. r .none t x (omega arith)))
+
+-- the same of a file
+pub file-quote-exactly : (s : List ℕ) (q : ℕ) → (quotedFile s ≡ Tempo q) ↔ (Accepted s × Quoted (readFile s .description) q)
+unfolding quotedFile
+file-quote-exactly s q = (go (readFile s .outcome) refl, λ r. rw (r .0) (quote-exactly (readFile s .description) q .1 (r .1)))
+  where
+    go : (o : Outcome) → readFile s .outcome ≡ o → onDone o (quoteOf (readFile s .description)) Unquoted ≡ Tempo q → Accepted s × Quoted (readFile s .description) q
+    go Done e f = (e, quoted (readFile s .description) q f)
+    go (Refused r p) e f = absurd (unquoted-not (λ t. true) f)
+
+pub file-no-tempo-exactly : (s : List ℕ) → Bytes s → (quotedFile s ≡ Unquoted NoTempo 0) ↔ (Accepted s × ((t : ℕ) → 200 ≤ t → t ≤ 3000 → allHeld (readFile s .description) t ≡ false))
+unfolding quotedFile
+file-no-tempo-exactly s b = (go (readFile s .outcome) refl, found)
+  where
+    go : (o : Outcome) → readFile s .outcome ≡ o → onDone o (quoteOf (readFile s .description)) Unquoted ≡ Unquoted NoTempo 0 → Accepted s × ((t : ℕ) → 200 ≤ t → t ≤ 3000 → allHeld (readFile s .description) t ≡ false)
+    go Done e f = (e, no-tempo-exactly (readFile s .description) .0 f .none)
+    go (Refused r p) e f = absurd (not-12 (rw e at (read-number s)) f)
+
+    found : Accepted s × ((t : ℕ) → 200 ≤ t → t ≤ 3000 → allHeld (readFile s .description) t ≡ false) → quotedFile s ≡ Unquoted NoTempo 0
+    found r = rw (r .0) (no-tempo-exactly (readFile s .description) .1 (record { judged = read-judged s b (r .0); none = r .1 }))

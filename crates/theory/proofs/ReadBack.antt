@@ -82,7 +82,7 @@ read-whence s b e = rw (read-is s e) (parse-whence (suc (length s)) s 0 _ _ b (s
 pub read-writes : (s : List ℕ) → Bytes s → Accepted s → fileOf (readFile s .description) ≡ s
 read-writes s b e = read-whence s b e .file
 
-few-not-over : (d : Description) → Few d → overfull d ≡ false
+pub few-not-over : (d : Description) → Few d → overfull d ≡ false
 unfolding overfull
 few-not-over d w =
     or-false (ltb 32 (d .«task_count»)) _ (le-ltb 32 (d .«task_count») (w .tasks))

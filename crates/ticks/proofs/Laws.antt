@@ -1,27 +1,21 @@
 -- The public calls by their tests: judged, the knob, then the plain machine. Assumes nothing.
-use Prim.Native.Nat.{ℕ, _-_, _≤_}
-use mathlib.Core.Path.{_≡_, refl, sym, ap, _∙_}
-use mathlib.Core.Bool.{Bool, true, false, cond}
+use Prim.Native.Nat.{ℕ}
+use mathlib.Core.Path.{_≡_, sym, ap, _∙_}
+use mathlib.Core.Bool.{Bool, true, false}
 use mathlib.Core.List.{List}
-use lib.Dec.{leb}
-use borrow.Author.Tests.{leb-true}
 use Rattle.model.specs.declared.Description.{Description}
 use Rattle.model.specs.declared.Machine.{Machine}
 use Rattle.model.specs.declared.Arrivals.{Arrivals}
 use Rattle.model.specs.declared.Ticked.{Ticked}
 use Rattle.model.specs.declared.Refusal.{Refusal}
 use Rattle.model.specs.declared.Refusal.the-variants.{OffKnob}
-use Rattle.model.specs.declared.Outcome.{Outcome}
 use Rattle.model.specs.declared.Outcome.the-variants.{Done, Refused}
-use Rattle.model.specs.Refusals.{onDone}
 use Rattle.model.specs.File.{Widths, judge}
 use Rattle.model.specs.Verdicts.{judgeAt, onKnob}
 use Rattle.model.specs.Machine.{idle, started, judgeTick, plainTick}
 use Rattle.model.specs.History.{Call}
-use Rattle.lemmas.proofs.Tests.{and-left, and-right}
-use Rattle.theory.proofs.WellFormed.{WellFormed}
-use Rattle.theory.proofs.FileLaws.{judge-well-formed}
 use Rattle.model.specs.Run.{ran, pageRan, RunMeets}
+pub use Rattle.theory.proofs.FileLaws.{at-known}
 use Rattle.machine.specs.Run.{RunOf}
 use Rattle.model.specs.Machine.{unstarted}
 use Rattle.ticks.specs.Calls.{untouched}
@@ -40,16 +34,6 @@ module _ (d : Description) (t : ℕ) where
   pub at-done : judge d ≡ Done → onKnob t ≡ true → Done ≡ judgeAt d t
   unfolding judgeAt
   at-done e h = rw (e, h)
-
-  -- what is known once a description is judged at a tempo
-  pub at-known : Widths d → judgeAt d t ≡ Done → WellFormed d × (200 ≤ t) × (t ≤ 3000)
-  unfolding judgeAt
-  at-known w = go (judge d) refl (onKnob t) refl
-    where
-      go : (o : Outcome) → judge d ≡ o → (b : Bool) → onKnob t ≡ b → onDone o (cond b (let x : Outcome = Done in x) (Refused OffKnob 0)) Refused ≡ Done → WellFormed d × (200 ≤ t) × (t ≤ 3000)
-      go Done e true k f = (judge-well-formed d w e, leb-true 200 t (and-left (leb 200 t) (leb t 3000) k), leb-true t 3000 (and-right (leb 200 t) (leb t 3000) k))
-      go Done e false k f = refused-not f
-      go (Refused r p) e b k f = refused-not f
 
   pub start-refused : (r : Refusal) (p : ℕ) → judgeAt d t ≡ Refused r p → unstarted r p ≡ started d t
   unfolding started

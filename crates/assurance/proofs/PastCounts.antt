@@ -1,0 +1,152 @@
+-- "Entries past a count are not looked at", by the machine: two records that agree below their counts start, tick and run alike. Assumes nothing.
+use Prim.Native.Nat.{ℕ, _+_, _-_, _≤_, _<_, min}
+use mathlib.Core.Path.{_≡_, refl, ap, _∙_}
+use mathlib.Core.Bool.{Bool, true, false, cond, not, _||_, _&&_}
+use mathlib.Core.List.{List, [], _∷_}
+use native.Mathlib.Omega.{arith}
+use lib.ListN.{getD, replicate}
+use lib.Dec.{eqb, ltb, leb}
+use borrow.Author.Tests.{ltb-true, leb-true}
+use Rattle.model.specs.declared.Link.{Link}
+use Rattle.model.specs.declared.Description.{Description}
+use Rattle.model.specs.declared.Machine.{Machine}
+use Rattle.model.specs.declared.Arrivals.{Arrivals}
+use Rattle.model.specs.declared.Ticked.{Ticked}
+use Rattle.model.specs.declared.Outcome.the-variants.{Done}
+use Rattle.model.specs.Basics.{upTo, allN, anyN}
+use Rattle.model.specs.Delays.{spacingOf}
+use Rattle.model.specs.Graph.{runOf}
+use Rattle.model.specs.File.{SameTo, Widths}
+use Rattle.model.specs.Verdicts.{judgeAt}
+use Rattle.model.specs.Machine.{awakeAt, usedAt, waitingAt, ageAt, setAwake, setUsed, setWaiting, setAge, markDropped, idle, started, taskRule, linkRule, sourceRule, lawful, fireLink, fire, arriveOne, arrive, highestIn, highest, runTask, clearLink, clearInto, endRun, ageOne, ageAll, stepped, strangers, tooSoon, judgeTick, plainTick}
+use Rattle.model.specs.History.{Call, answers, left}
+use Rattle.lemmas.proofs.Range.{any-cong, all-cong, upTo-alike}
+use Rattle.lemmas.proofs.Table.{tab-cong}
+use Rattle.theory.proofs.FileLaws.{at-known}
+use Rattle.theory.proofs.PastCounts.{cond-same, done-same, same-knob, same-run, same-spacing}
+use Rattle.assurance.proofs.Ending.{highest-le}
+use Rattle.assurance.proofs.Replay.{judge-passed}
+
+module _ (d e : Description) (s : SameTo d e) where
+  -- the start
+  gap-same : (t u : ℕ) → ltb u (d .«source_count») ≡ true → spacingOf d t (33 + u) ≡ spacingOf e t (33 + u)
+  gap-same t u p = same-spacing d e s t (33 + u) (omega (arith, ltb-true u (d .«source_count») p))
+
+  same-idle : (t : ℕ) → idle d t ≡ idle e t
+  unfolding idle
+  same-idle t =
+      ap (λ (l : List ℕ). record { awake = replicate 32 false; used = replicate 32 0; waiting = replicate 256 false; dropped = replicate 256 false; ages = l })
+      (tab-cong 16 _ _ (λ u h. cond-same (ltb u (d .«source_count»)) (ltb u (e .«source_count»)) _ _ 0 0 (ap (ltb u) (s .sources)) (gap-same t u) (λ p. refl)))
+
+  pub same-started : (t : ℕ) → started d t ≡ started e t
+  unfolding started
+  same-started t =
+      done-same (judgeAt d t) (judgeAt e t) _ _ _ (same-knob d e s t) (λ j. ap (λ (m : Machine). record { outcome = Done; machine = m }) (same-idle t))
+
+  -- the rules
+  pub same-lawful : (t : ℕ) (m : Machine) → lawful d t m ≡ lawful e t m
+  unfolding lawful
+  same-lawful t m = rw (tasks, links, sources)
+    where
+      tasks : allN (taskRule d m) 1 32 ≡ allN (taskRule e m) 1 32
+      tasks = all-cong _ _ 1 32 (λ k p q.
+          cond-same (leb k (d .«task_count»)) (leb k (e .«task_count»)) _ _ _ _ (ap (leb k) (s .tasks))
+          (λ b. ap (λ (r : ℕ). ltb (usedAt m k) r && (awakeAt m k || eqb (usedAt m k) 0)) (same-run d e s k (omega (arith, leb-true k (d .«task_count») b))))
+          (λ b. refl))
+
+      links : allN (linkRule d m) 0 256 ≡ allN (linkRule e m) 0 256
+      links = all-cong _ _ 0 256 (λ l p q.
+          cond-same (ltb l (d .«link_count»)) (ltb l (e .«link_count»)) _ _ _ _ (ap (ltb l) (s .links))
+          (λ b. ap (λ (x : Link). not (waitingAt m l) || awakeAt m (x .to)) (s .link l (ltb-true l (d .«link_count») b)))
+          (λ b. refl))
+
+      sources : allN (sourceRule d t m) 0 16 ≡ allN (sourceRule e t m) 0 16
+      sources = all-cong _ _ 0 16 (λ u p q.
+          cond-same (ltb u (d .«source_count»)) (ltb u (e .«source_count»)) _ _ _ _ (ap (ltb u) (s .sources))
+          (λ b. ap (leb (ageAt m u)) (gap-same t u b))
+          (λ b. refl))
+
+  -- the refusals of a tick
+  same-strangers : (marks : List Bool) → strangers d marks ≡ strangers e marks
+  unfolding strangers
+  same-strangers marks = ap (λ (n : ℕ). anyN (λ u. getD marks u false && leb n u) 0 16) (s .sources)
+
+  same-soon : (t : ℕ) (marks : List Bool) (m : Machine) → tooSoon d t marks m ≡ tooSoon e t marks m
+  unfolding tooSoon
+  same-soon t marks m =
+      any-cong _ _ 0 (d .«source_count») (λ u p q. ap (λ (g : ℕ). getD marks u false && ltb (ageAt m u) g) (same-spacing d e s t (33 + u) (omega arith)))
+      ∙ ap (anyN (λ u. getD marks u false && ltb (ageAt m u) (spacingOf e t (33 + u))) 0) (s .sources)
+
+  pub same-judge-tick : (t : ℕ) (m : Machine) (marks : List Bool) → judgeTick d t m marks ≡ judgeTick e t m marks
+  unfolding judgeTick
+  same-judge-tick t m marks = rw (same-knob d e s t, same-lawful t m, same-strangers marks, same-soon t marks m)
+
+  -- the steps of a tick
+  same-fire : (x : ℕ) (m : Machine) → fire d x m ≡ fire e x m
+  unfolding fire fireLink
+  same-fire x m =
+      upTo-alike (d .«link_count») (fireLink d x) (fireLink e x) m
+      (λ l h y. ap (λ (k : Link). cond (eqb (k .from) x) (setAwake (k .to) true (setWaiting l true (markDropped l y))) y) (s .link l h))
+      ∙ ap (λ (n : ℕ). upTo n (fireLink e x) m) (s .links)
+
+  same-arrive : (marks : List Bool) (m : Machine) → arrive d marks m ≡ arrive e marks m
+  unfolding arrive arriveOne
+  same-arrive marks m =
+      upTo-alike (d .«source_count») (arriveOne d marks) (arriveOne e marks) m
+      (λ u h y. ap (λ (z : Machine). cond (getD marks u false) (setAge u 0 z) y) (same-fire (33 + u) y))
+      ∙ ap (λ (n : ℕ). upTo n (arriveOne e marks) m) (s .sources)
+
+  same-clear : (h : ℕ) (m : Machine) → clearInto d h m ≡ clearInto e h m
+  unfolding clearInto clearLink
+  same-clear h m =
+      upTo-alike (d .«link_count») (clearLink d h) (clearLink e h) m
+      (λ l p y. ap (λ (k : Link). cond (eqb (k .to) h) (setWaiting l false y) y) (s .link l p))
+      ∙ ap (λ (n : ℕ). upTo n (clearLink e h) m) (s .links)
+
+  same-end : (h : ℕ) (finish : Bool) (m : Machine) → h - 1 < d .«task_count» → endRun d h finish m ≡ endRun e h finish m
+  unfolding endRun
+  same-end h finish m p =
+      ap (λ (r : ℕ). cond (not (eqb h 0) && (eqb (usedAt m h) r || finish)) (fire d h (clearInto d h (setUsed h 0 (setAwake h false m)))) m) (same-run d e s h p)
+      ∙ ap (λ (x : Machine). cond (not (eqb h 0) && (eqb (usedAt m h) (runOf e h) || finish)) x m) (same-fire h (clearInto d h (setUsed h 0 (setAwake h false m))) ∙ ap (fire e h) (same-clear h (setUsed h 0 (setAwake h false m))))
+
+  same-age : (t : ℕ) (m : Machine) → ageAll d t m ≡ ageAll e t m
+  unfolding ageAll ageOne
+  same-age t m =
+      upTo-alike (d .«source_count») (ageOne d t) (ageOne e t) m
+      (λ u h y. ap (λ (g : ℕ). setAge u (min g (ageAt y u + 1)) y) (same-spacing d e s t (33 + u) (omega arith)))
+      ∙ ap (λ (n : ℕ). upTo n (ageOne e t) m) (s .sources)
+
+  same-stepped : (t : ℕ) (marks : List Bool) (finish : Bool) (m : Machine) → 1 ≤ d .«task_count» → stepped d t marks finish m ≡ stepped e t marks finish m
+  unfolding stepped
+  same-stepped t marks finish m some = ap (worked d) (same-arrive marks m) ∙ go (arrive e marks m)
+    where
+      worked : Description → Machine → Machine
+      worked x y = ageAll x t (endRun x (highest x y) finish (runTask (highest x y) y))
+
+      go : (y : Machine) → worked d y ≡ worked e y
+      go y =
+          ap (ageAll d t) (same-end (highest d y) finish (runTask (highest d y) y) (omega (arith, highest-le (y .awake) (d .«task_count»))))
+          ∙ same-age t (endRun e (highest d y) finish (runTask (highest d y) y))
+          ∙ ap (λ (n : ℕ). ageAll e t (endRun e (highestIn (y .awake) n) finish (runTask (highestIn (y .awake) n) y))) (s .tasks)
+
+  -- a tick and a run
+  module _ (w : Widths d) (t : ℕ) where
+    pub same-tick : (m : Machine) (a : Arrivals) (finish : Bool) → plainTick d t m a finish ≡ plainTick e t m a finish
+    unfolding plainTick
+    same-tick m a finish =
+        done-same (judgeTick d t m (a .marks)) (judgeTick e t m (a .marks)) _ _ _ (same-judge-tick t m (a .marks))
+        (λ j. ap (λ (x : Machine). record { outcome = Done; machine = x }) (same-stepped t (a .marks) finish m (at-known d t w (judge-passed d t m (a .marks) j .judged) .0 .some-task)))
+
+    pub same-answers : (m : Machine) (cs : List Call) → answers d t m cs ≡ answers e t m cs
+    unfolding answers
+    same-answers m [] = refl
+    same-answers m (c ∷ cs) =
+        ap (λ (r : Ticked). r ∷ answers d t (r .machine) cs) (same-tick m (c .arrivals) (c .finish))
+        ∙ ap (λ (l : List Ticked). plainTick e t m (c .arrivals) (c .finish) ∷ l) (same-answers (plainTick e t m (c .arrivals) (c .finish) .machine) cs)
+
+    pub same-left : (m : Machine) (cs : List Call) → left d t m cs ≡ left e t m cs
+    unfolding left
+    same-left m [] = refl
+    same-left m (c ∷ cs) =
+        ap (λ (r : Ticked). left d t (r .machine) cs) (same-tick m (c .arrivals) (c .finish))
+        ∙ same-left (plainTick e t m (c .arrivals) (c .finish) .machine) cs

@@ -23,10 +23,10 @@ use Rattle.lemmas.proofs.Table.{is-tab}
 use Rattle.theory.proofs.WellFormed.{Fielded}
 use Rattle.loads.specs.declared.Worked.{Worked}
 use Rattle.paths.specs.Rows.{SuccessorsOf, Closed, graph, selfIn}
-use Rattle.works.specs.Works.{Ready, WorksOf, Scaled, loadBy}
+use Rattle.works.specs.Works.{Ready, WorksOf, SetsOf, Scaled, loadBy}
 use Rattle.loads.specs.Tables.{heavyBy, LoadsOf, SheetBy, RowsAre, WorkedOf, checkedLoads, refusedLoads}
 use Rattle.paths.proofs.Tabled.{sets-cyclic, sets-load}
-use Rattle.works.proofs.Bringing.{self-cyclic, adds-ready, load-by}
+use Rattle.works.proofs.Bringing.{self-cyclic, load-by}
 use Rattle.lemmas.proofs.Outcomes.{refused-not}
 
 -- how the last checks end
@@ -52,23 +52,20 @@ module _ (d : Description) where
 pub worked-refused : (d : Description) (r : Worked) (why : Refusal) → r .outcome ≡ Refused why 0 → lastChecks d ≡ Refused why 0 → WorkedOf d r
 worked-refused d r why e f = record { judged = e ∙ sym f; worked = λ g. refused-not (sym f ∙ g) }
 
--- sets that are closed, and works over them, give a description's loads
-module _ (d : Description) (F : Fielded d) (succ adds : List ℕ) (M : SuccessorsOf d succ) (C : Closed succ (d .«task_count») adds) where
-  pub self-is : selfIn adds (d .«task_count») ≡ cyclic (system d)
-  self-is = self-cyclic succ (d .runs) (d .«task_count») adds C (F .few-tasks) ∙ sets-cyclic d succ (d .runs) F M
+-- sets and works that are found along a description's links give its loads
+module _ (d : Description) (F : Fielded d) (succ : List ℕ) (M : SuccessorsOf d succ) where
+  pub self-is : (rows : List ℕ) → Closed succ (d .«task_count») rows → selfIn rows (d .«task_count») ≡ cyclic (system d)
+  self-is rows C = self-cyclic succ (d .runs) (d .«task_count») rows C ∙ sets-cyclic d succ (d .runs) F M
 
   module _ (acyclic : cyclic (system d) ≡ false) where
-    acyclic-graph : cyclic (graph succ (d .runs) (d .«task_count»)) ≡ false
-    acyclic-graph = sets-cyclic d succ (d .runs) F M ∙ acyclic
+    pub links-ready : Ready succ (d .runs) (d .«task_count»)
+    links-ready = record { few = F .few-tasks; run-most = F .run-most; no-cycle = sets-cyclic d succ (d .runs) F M ∙ acyclic }
 
-    pub sets-ready : Ready adds (d .runs) (d .«task_count»)
-    sets-ready = adds-ready succ (d .runs) (d .«task_count») adds C (F .few-tasks) acyclic-graph (F .run-most)
-
-    pub loads-of : (works : List ℕ) → WorksOf (graph adds (d .runs) (d .«task_count»)) works → Scaled works → LoadsOf d adds works
-    loads-of works W S =
+    pub loads-of : (adds works : List ℕ) → WorksOf (graph succ (d .runs) (d .«task_count»)) works × Scaled works × SetsOf succ (d .«task_count») adds → LoadsOf d adds works
+    loads-of adds works W =
         record {
-          by-sets = λ i j N p. load-by succ (d .runs) (d .«task_count») adds C (F .few-tasks) acyclic-graph sets-ready works W i j N p ∙ sets-load d succ F M i j;
-          scaled = S;
+          by-sets = λ i j N p. load-by succ (d .runs) (d .«task_count») (links-ready .no-cycle) adds works (W .2) (W .0) i j N p ∙ sets-load d succ F M i j;
+          scaled = W .1;
         }
 
 pub heavy-is : (d : Description) (adds works : List ℕ) → LoadsOf d adds works → heavyBy adds works (d .«task_count») ≡ tooHeavy (system d)

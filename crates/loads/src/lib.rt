@@ -37,17 +37,17 @@ pub fn work_out(d: Description) -> Worked
     ensures { λ r. ⌜ WorkedOf d r ⌝ }
 {
     let n = d.task_count;
-    let m = d.source_count;
     if n == 0 {
         return unworked(Refusal::NoTask, 0);
     }
     let succ = paths::successors(d);
-    let adds = paths::closed(succ, n, m);
-    if paths::brings_itself(&adds, n) {
+    let rows = paths::closed(succ, n);
+    if paths::brings_itself(&rows, n) {
         return unworked(Refusal::Loop, 0);
     }
     let runs = d.runs;
-    let works = works::works_of(&adds, &runs, n);
+    let mut adds = [0u64; 48];
+    let works = works::works_of(&succ, &runs, n, &mut adds);
     if rows::heavy(&adds, &works, n) {
         return unworked(Refusal::TooHeavy, 0);
     }

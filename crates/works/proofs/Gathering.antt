@@ -13,6 +13,7 @@ use Rattle.sets.proofs.SetLaws.{member-none}
 use Rattle.paths.specs.Paths.{Through}
 use Rattle.paths.specs.Paths.Through.{one, more}
 use Rattle.paths.specs.Rows.{linkBy, rowOf, NodeOf, TaskOf, Brought}
+use Rattle.works.specs.Works.{LinksOf}
 use Rattle.paths.proofs.Tabled.{link-is, link-inside}
 
 -- a set that holds the tasks node i has links to, and what those of them that are not left bring in below themselves
@@ -24,7 +25,7 @@ pub record Gathered (succ : List ℕ) (n i left set : ℕ) : Type 0 where
 
 module _ (succ : List ℕ) (n i : ℕ) (N : NodeOf i) where
   -- all links are left
-  pub gathered-none : (set : ℕ) → ((k : ℕ) → member set k ≡ (member (rowOf succ i) k && ltb k n)) → Gathered succ n i set set
+  pub gathered-none : (set : ℕ) → LinksOf succ n i set → Gathered succ n i set set
   gathered-none set e =
       record {
         links = λ k m. let q : k + 1 - 1 ≡ k = omega arith in link-is succ n i (k + 1) N (omega arith, omega (arith, inside k m)) ∙ rw q (row k m);

@@ -13,9 +13,9 @@ ghost use Prim.Native.Nat.{_≤_};
 ghost use lib.ListN.{length};
 ghost use Rattle.model.specs.Graph.{cyclic};
 ghost use Rattle.paths.specs.Rows.{NodeOf, TaskOf, Brought, graph};
-ghost use Rattle.works.specs.Works.{Ready, SetMemo, WorkMemo, WorkIs, AddedIs, WorksOf, SetsOf, Scaled};
+ghost use Rattle.works.specs.Works.{Ready, LinksOf, SetMemo, WorkMemo, WorkIs, AddedIs, WorksOf, SetsOf, Scaled};
 
-// The tasks that node i brings in: from the memo, or those it has links to and, of what each of these brings in, the tasks below it.
+// The tasks that node i brings in: none without a link, else from the memo, or gathered along the links.
 fn brought(succ: &[u64; 48], n: usize, i: usize, brings: &mut [u64; 48]) -> u64
     requires { ⌜ (n ≤ 32) × (cyclic (graph (now succ) [] n) ≡ false) × NodeOf i × SetMemo (now succ) n (now brings) ⌝ }
     ensures { λ r. ⌜ Brought (now (succ .entry)) n i r × SetMemo (now (succ .entry)) n (now (brings .exit)) ⌝ }
@@ -25,6 +25,17 @@ fn brought(succ: &[u64; 48], n: usize, i: usize, brings: &mut [u64; 48]) -> u64
         return noted;
     }
     let links = below(succ[i - 1], n);
+    if links == 0 {
+        return 0;
+    }
+    gathered(succ, n, i, links, &mut *brings)
+}
+
+// The tasks that node i has links to and, of what each of these brings in, the tasks below it; noted in the memo.
+fn gathered(succ: &[u64; 48], n: usize, i: usize, links: u64, brings: &mut [u64; 48]) -> u64
+    requires { ⌜ (n ≤ 32) × (cyclic (graph (now succ) [] n) ≡ false) × NodeOf i × LinksOf (now succ) n i links × SetMemo (now succ) n (now brings) ⌝ }
+    ensures { λ r. ⌜ Brought (now (succ .entry)) n i r × SetMemo (now (succ .entry)) n (now (brings .exit)) ⌝ }
+{
     let mut set = links;
     let mut left = links;
     while 0 < left {
@@ -37,7 +48,7 @@ fn brought(succ: &[u64; 48], n: usize, i: usize, brings: &mut [u64; 48]) -> u64
     set
 }
 
-// W(j): from the memo, or the run of j and all that j adds above it, noted there.
+// W(j): the run of j and all that j adds above it; noted in the memo.
 fn work(
     succ: &[u64; 48],
     runs: &[u32; 32],
@@ -49,10 +60,6 @@ fn work(
     requires { ⌜ Ready (now succ) (now runs) n × TaskOf n j × SetMemo (now succ) n (now brings) × WorkMemo (now succ) (now runs) n (now known) ⌝ }
     ensures { λ r. ⌜ WorkIs (graph (now (succ .entry)) (now (runs .entry)) n) j r × SetMemo (now (succ .entry)) n (now (brings .exit)) × WorkMemo (now (succ .entry)) (now (runs .entry)) n (now (known .exit)) ⌝ }
 {
-    let noted = known[j - 1];
-    if 0 < noted {
-        return noted;
-    }
     let mut sum = wide(runs[j - 1]);
     let mut k = j + 1;
     while k <= n {
@@ -64,7 +71,7 @@ fn work(
     sum
 }
 
-// added(i, j): W(j) if i brings j in, by a link or through higher tasks; else 0.
+// added(i, j): W(j), from the memo or worked out, if i brings j in, by a link or through higher tasks; else 0.
 fn added(
     succ: &[u64; 48],
     runs: &[u32; 32],
@@ -78,6 +85,10 @@ fn added(
     ensures { λ r. ⌜ AddedIs (graph (now (succ .entry)) (now (runs .entry)) n) i j r × SetMemo (now (succ .entry)) n (now (brings .exit)) × WorkMemo (now (succ .entry)) (now (runs .entry)) n (now (known .exit)) ⌝ }
 {
     if has(brought(succ, n, i, &mut *brings), j - 1) {
+        let noted = known[j - 1];
+        if 0 < noted {
+            return noted;
+        }
         return work(succ, runs, n, j, &mut *brings, &mut *known);
     }
     0

@@ -65,36 +65,51 @@ added-sub-has t c = search needs
 added-has-requires : (t : ℕ) → added-lts.Need-has-requires (added-calls t) (added-at t) added.Post
 added-has-requires t c κs = search needs
 
-added-work-requires : (t : ℕ) → added-lts.Need-work-requires (added-calls t) (added-at t) added.Post
-added-work-requires t c κs =
-    let S = c .before .before .before .before .before .before in
-    let p = S .pre .1 in
-    let path = c .before .before .before .before .brought .ensures .0 .only (S .args .j) (p .2) (sym (c .before .before .before .has .ensures) ∙ c .before .before .if1 .taken) in
-    let h = through-falls (S .args .succ .now) (S .args .runs .now) (S .args .n) (p .0 .no-cycle) (S .args .j) path in
-    let e = S .pre .0 in
-    (omega arith, (p .0, p .2, c .before .before .before .before .brought .ensures .1, p .4))
+added-sub-noted : (t : ℕ) → added-lts.Need-sub-noted (added-calls t) (added-at t) added.Post
+added-sub-noted t c = search needs
+
+added-mul-noted : (t : ℕ) → added-lts.Need-mul-noted (added-calls t) (added-at t) added.Post
+added-mul-noted t c = search needs
+
+added-element-copy-out-noted : (t : ℕ) → added-lts.Need-element-copy-out-noted (added-calls t) (added-at t) added.Post
+added-element-copy-out-noted t c = search needs
 
 added-returns : (t : ℕ) → added-lts.Need-returns (added-calls t) (added-at t) added.Post
 added-returns t c =
-    let S = c .before .before .before .before .before .before .before in
+    let S = c .before .before .before .before .before .before in
     let p = S .pre .1 in
-    let path = c .before .before .before .before .before .brought .ensures .0 .only (S .args .j) (p .2) (sym (c .before .before .before .before .has .ensures) ∙ c .before .before .before .if1 .taken) in
-    let e = added-in (S .args .succ .now) (S .args .runs .now) (S .args .n) (p .0 .no-cycle) (S .args .j) path in
-    (c .work .ensures .0 ∙ sym e, c .work .ensures .1, c .work .ensures .2)
+    let path = c .before .before .before .before .brought .ensures .0 .only (S .args .j) (p .2) (sym (c .before .before .before .has .ensures) ∙ c .before .before .if1 .taken) in
+    (p .4 .right (S .args .j) (p .2) (c .if2 .taken) ∙ sym (added-in (S .args .succ .now) (S .args .runs .now) (S .args .n) (p .0 .no-cycle) (S .args .j) path), c .before .before .before .before .brought .ensures .1, p .4)
+
+added-work-requires : (t : ℕ) → added-lts.Need-work-requires (added-calls t) (added-at t) added.Post
+added-work-requires t c κs =
+    let S = c .before .before .before .before .before .before .before .before in
+    let p = S .pre .1 in
+    let path = c .before .before .before .before .before .before .brought .ensures .0 .only (S .args .j) (p .2) (sym (c .before .before .before .before .before .has .ensures) ∙ c .before .before .before .before .if1 .taken) in
+    let h = through-falls (S .args .succ .now) (S .args .runs .now) (S .args .n) (p .0 .no-cycle) (S .args .j) path in
+    let e = S .pre .0 in
+    (omega arith, (p .0, p .2, c .before .before .before .before .before .before .brought .ensures .1, p .4))
 
 added-returns-2 : (t : ℕ) → added-lts.Need-returns-2 (added-calls t) (added-at t) added.Post
 added-returns-2 t c =
+    let S = c .before .before .before .before .before .before .before .before .before in
+    let p = S .pre .1 in
+    let path = c .before .before .before .before .before .before .before .brought .ensures .0 .only (S .args .j) (p .2) (sym (c .before .before .before .before .before .before .has .ensures) ∙ c .before .before .before .before .before .if1 .taken) in
+    (c .work .ensures .0 ∙ sym (added-in (S .args .succ .now) (S .args .runs .now) (S .args .n) (p .0 .no-cycle) (S .args .j) path), c .work .ensures .1, c .work .ensures .2)
+
+added-returns-3 : (t : ℕ) → added-lts.Need-returns-3 (added-calls t) (added-at t) added.Post
+added-returns-3 t c =
     let S = c .before .before .before .before in
     let p = S .pre .1 in
     let e = added-out (S .args .succ .now) (S .args .runs .now) (S .args .n) (p .0 .no-cycle) (S .args .i) (S .args .j) (λ path. not-both (c .before .before .brought .ensures .0 .all (S .args .j) (p .2) path) (sym (c .before .has .ensures) ∙ c .if1 .left)) in
     (sym e, c .before .before .brought .ensures .1, p .4)
 
 abbrev work-Inv-loop : work-lts.InvT-loop
-work-Inv-loop succ runs n j brings₀ known₀ noted sum₀ k₀ brings known sum k =
+work-Inv-loop succ runs n j brings₀ known₀ sum₀ k₀ brings known sum k =
     (j + 1 ≤ k) × (k ≤ n + 1) × (sum ≡ workTo (graph succ runs n) j k) × SetMemo succ n brings × WorkMemo succ runs n known
 
 abbrev work-μ-loop : work-lts.MeasureT-loop
-work-μ-loop succ runs n j brings₀ known₀ noted sum₀ k₀ brings known sum k = n + 1 - k
+work-μ-loop succ runs n j brings₀ known₀ sum₀ k₀ brings known sum k = n + 1 - k
 
 abbrev work-calls : ℕ → work-lts.Claims
 work-calls t = (
@@ -103,21 +118,6 @@ work-calls t = (
   added-below t,
   added.Post,
 )
-
-work-sub-noted : (t : ℕ) → work-lts.Need-sub-noted (work-calls t) (work-at t) work.Post work-Inv-loop work-μ-loop
-work-sub-noted t c = search needs
-
-work-mul-noted : (t : ℕ) → work-lts.Need-mul-noted (work-calls t) (work-at t) work.Post work-Inv-loop work-μ-loop
-work-mul-noted t c = search needs
-
-work-element-copy-out-noted : (t : ℕ) → work-lts.Need-element-copy-out-noted (work-calls t) (work-at t) work.Post work-Inv-loop work-μ-loop
-work-element-copy-out-noted t c = search needs
-
-work-returns : (t : ℕ) → work-lts.Need-returns (work-calls t) (work-at t) work.Post work-Inv-loop work-μ-loop
-work-returns t c =
-    let S = c .before .before in
-    let p = S .pre .1 in
-    (p .3 .right (S .args .j) (p .1) (c .if1 .taken), p .2, p .3)
 
 work-sub-wide : (t : ℕ) → work-lts.Need-sub-wide (work-calls t) (work-at t) work.Post work-Inv-loop work-μ-loop
 work-sub-wide t c = search needs
@@ -136,13 +136,13 @@ work-add-k t c = search needs
 
 work-loop-holds : (t : ℕ) → work-lts.Need-loop-holds (work-calls t) (work-at t) work.Post work-Inv-loop work-μ-loop
 work-loop-holds t c =
-    let S = c .before .before .before .before in
+    let S = c .before .before in
     let p = S .pre .1 in
     (omega arith, omega arith, c .wide .ensures ∙ sym (workTo-start (S .args .succ .now) (S .args .runs .now) (S .args .n) (p .0) (S .args .j) (p .1)), p .2, p .3)
 
 work-added-requires : (t : ℕ) → work-lts.Need-added-requires (work-calls t) (work-at t) work.Post work-Inv-loop work-μ-loop
 work-added-requires t c κs =
-    let S = c .before .before .before .before .before .before .before .before in
+    let S = c .before .before .before .before .before .before in
     let L = c .before .before .before .loop in
     let p = S .pre .1 in
     let e = S .pre .0 in
@@ -150,7 +150,7 @@ work-added-requires t c κs =
 
 work-add-sum : (t : ℕ) → work-lts.Need-add-sum (work-calls t) (work-at t) work.Post work-Inv-loop work-μ-loop
 work-add-sum t c =
-    let S = c .before .before .before .before .before .before .before .before .before in
+    let S = c .before .before .before .before .before .before .before in
     let L = c .before .before .before .before .loop in
     let p = S .pre .1 in
     let s = graph (S .args .succ .now) (S .args .runs .now) (S .args .n) in
@@ -165,7 +165,7 @@ work-loop-less t c = search needs
 
 work-loop-again : (t : ℕ) → work-lts.Need-loop-again (work-calls t) (work-at t) work.Post work-Inv-loop work-μ-loop
 work-loop-again t c =
-    let S = c .before .before .before .before .before .before .before .before .before in
+    let S = c .before .before .before .before .before .before .before in
     let L = c .before .before .before .before .loop in
     let s = graph (S .args .succ .now) (S .args .runs .now) (S .args .n) in
     (omega arith, omega arith, omega (arith, workTo-more s (S .args .j) (L .k) (L .inv .0), c .added .ensures .0, L .inv .2), c .added .ensures .1, c .added .ensures .2)
@@ -179,9 +179,9 @@ work-mul-known t c = search needs
 work-element-write-known : (t : ℕ) → work-lts.Need-element-write-known (work-calls t) (work-at t) work.Post work-Inv-loop work-μ-loop
 work-element-write-known t c = search needs
 
-work-returns-2 : (t : ℕ) → work-lts.Need-returns-2 (work-calls t) (work-at t) work.Post work-Inv-loop work-μ-loop
-work-returns-2 t c =
-    let S = c .before .before .before .before .before .before in
+work-returns : (t : ℕ) → work-lts.Need-returns (work-calls t) (work-at t) work.Post work-Inv-loop work-μ-loop
+work-returns t c =
+    let S = c .before .before .before .before in
     let L = c .before .loop in
     let p = S .pre .1 in
     let e : L .k ≡ S .args .n + 1 = omega arith in
@@ -195,19 +195,19 @@ pub +added+work-spec : {M : Type 1} → statement M
     (added-brought-requires t)
     (added-sub-has t)
     (added-has-requires t)
-    (added-work-requires t)
+    (added-sub-noted t)
+    (added-mul-noted t)
+    (added-element-copy-out-noted t)
     (added-returns t)
-    (added-returns-2 t))
+    (added-work-requires t)
+    (added-returns-2 t)
+    (added-returns-3 t))
     λ t. work-lts.spec
     (wide-reads.Asked, wide-reads.Learnt, added-below t, added.Post)
     (work-at t)
     work.Post
     work-Inv-loop
     work-μ-loop
-    (work-sub-noted t)
-    (work-mul-noted t)
-    (work-element-copy-out-noted t)
-    (work-returns t)
     (work-sub-wide t)
     (work-mul-wide t)
     (work-element-copy-out-wide t)
@@ -222,4 +222,4 @@ pub +added+work-spec : {M : Type 1} → statement M
     (work-sub-known t)
     (work-mul-known t)
     (work-element-write-known t)
-    (work-returns-2 t)
+    (work-returns t)

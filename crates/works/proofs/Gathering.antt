@@ -4,16 +4,14 @@ use mathlib.Core.Path.{_≡_, refl, sym, ap, _∙_}
 use mathlib.Core.Bool.{Bool, true, false, _&&_, _||_}
 use mathlib.Core.List.{List}
 use native.Mathlib.Omega.{arith}
-use native.Mathlib.Decide.{ℕ-discrete}
 use lib.Dec.{ltb}
 use borrow.Author.Tests.{ltb-true, lt-ltb}
-use Rattle.lemmas.proofs.Tests.{Cmp, less, same, more as above, cmp, not-both, or-left, or-right, or-cases, and-left, and-right, both}
+use Rattle.lemmas.proofs.Tests.{Cmp, less, same, more as above, cmp, not-both, or-left, or-right, or-cases, and-left, and-right, and-false-left, both}
 use Rattle.sets.specs.Sets.{member, FirstIn, RestOf}
 use Rattle.sets.proofs.SetLaws.{member-none}
 use Rattle.paths.specs.Paths.{Through}
 use Rattle.paths.specs.Paths.Through.{one, more}
 use Rattle.paths.specs.Rows.{linkBy, rowOf, NodeOf, TaskOf, Brought}
-use Rattle.works.specs.Works.{LinksOf}
 use Rattle.paths.proofs.Tabled.{link-is, link-inside}
 
 -- a set that holds the tasks node i has links to, and what those of them that are not left bring in below themselves
@@ -23,9 +21,13 @@ pub record Gathered (succ : List ℕ) (n i left set : ℕ) : Type 0 where
   pub direct : (j : ℕ) → linkBy succ n i j ≡ true → member set (j - 1) ≡ true
   pub passed : (k j : ℕ) → linkBy succ n i k ≡ true → member left (k - 1) ≡ false → TaskOf n j → j < k → Through (linkBy succ n) j k j → member set (j - 1) ≡ true
 
+-- the task that a link ends at is a node
+pub linked-node : (succ : List ℕ) (n : ℕ) → n ≤ 32 → (i k : ℕ) → linkBy succ n i (k + 1) ≡ true → NodeOf (k + 1)
+linked-node succ n few i k l = omega (arith, link-inside succ n i (k + 1) l .1)
+
 module _ (succ : List ℕ) (n i : ℕ) (N : NodeOf i) where
   -- all links are left
-  pub gathered-none : (set : ℕ) → LinksOf succ n i set → Gathered succ n i set set
+  pub gathered-none : (set : ℕ) → ((k : ℕ) → member set k ≡ (member (rowOf succ i) k && ltb k n)) → Gathered succ n i set set
   gathered-none set e =
       record {
         links = λ k m. let q : k + 1 - 1 ≡ k = omega arith in link-is succ n i (k + 1) N (omega arith, omega (arith, inside k m)) ∙ rw q (row k m);
@@ -84,3 +86,8 @@ module _ (succ : List ℕ) (n i : ℕ) (N : NodeOf i) where
       all : (j : ℕ) → TaskOf n j → Through (linkBy succ n) j i j → member set (j - 1) ≡ true
       all j T (one e) = G .direct j e
       all j T (more {k = k} e p t) = G .passed k j e (member-none (k - 1)) T p t
+
+  -- a node without a link brings nothing in
+  pub brought-none : rowOf succ i ≡ 0 → Brought succ n i 0
+  brought-none e =
+      gathered-all 0 (gathered-none 0 (λ k. member-none k ∙ sym (and-false-left (member (rowOf succ i) k) (ltb k n) (ap (λ r. member r k) e ∙ member-none k))))

@@ -86,6 +86,10 @@ memo-put Is m known j r T M e =
         let f = getD-set-other known (j - 1) (k - 1) r 0 (λ z. q (omega (arith, K, T))) in
         rw f (M .right k K (rw f at p))
 
+-- what stands at index k, if it is not 0
+pub noted : (Is : ℕ → ℕ → Type 0) (m : ℕ) (known : List ℕ) (k : ℕ) → TaskOf m (k + 1) → Memo Is m known → (getD known k 0 ≡ 0 → ⊥) → Is (k + 1) (getD known k 0)
+noted Is m known k T M some = let e : k + 1 - 1 ≡ k = omega arith in rw e at (M .right (k + 1) T (rw e (omega arith)))
+
 -- nothing is known yet
 pub memo-none : (Is : ℕ → ℕ → Type 0) (m l : ℕ) → m ≤ l → Memo Is m (replicate l 0)
 memo-none Is m l few =

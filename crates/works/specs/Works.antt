@@ -1,10 +1,9 @@
 -- Works over links without a cycle, the sets of tasks that nodes bring in, and the loads that are sums of works.
 use Prim.Native.Nat.{ℕ, _-_, _≤_, _<_}
 use mathlib.Core.Path.{_≡_}
-use mathlib.Core.Bool.{false, _&&_}
+use mathlib.Core.Bool.{false}
 use mathlib.Core.List.{List}
 use lib.ListN.{length, getD}
-use lib.Dec.{ltb}
 use Rattle.model.specs.Basics.{sumTo, given}
 use Rattle.model.specs.Graph.{System, cyclic}
 use Rattle.model.specs.Loads.{work, added}
@@ -16,10 +15,6 @@ pub record Ready (succ : List ℕ) (runs : List ℕ) (n : ℕ) : Type 0 where
   pub few : n ≤ 32
   pub run-most : (k : ℕ) → 1 ≤ k → k ≤ n → getD runs (k - 1) 0 ≤ 10000000
   pub no-cycle : cyclic (graph succ runs n) ≡ false
-
--- the set of the tasks that node i has links to
-abbrev pub LinksOf : List ℕ → ℕ → ℕ → ℕ → Type 0
-LinksOf succ n i links = (k : ℕ) → member links k ≡ (member (rowOf succ i) k && ltb k n)
 
 abbrev pub WorkIs : System → ℕ → ℕ → Type 0
 WorkIs s j r = r ≡ work s j

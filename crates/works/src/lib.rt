@@ -13,10 +13,33 @@ ghost use Prim.Native.Nat.{_≤_};
 ghost use lib.ListN.{length};
 ghost use Rattle.model.specs.Graph.{cyclic};
 ghost use Rattle.paths.specs.Rows.{NodeOf, TaskOf, Brought, graph};
-ghost use Rattle.works.specs.Works.{Ready, LinksOf, SetMemo, WorkMemo, WorkIs, AddedIs, WorksOf, SetsOf, Scaled};
+ghost use Rattle.works.specs.Works.{Ready, SetMemo, WorkMemo, WorkIs, AddedIs, WorksOf, SetsOf, Scaled};
 
-// The tasks that node i brings in: none without a link, else from the memo, or gathered along the links.
+// The tasks that node i brings in: those it has links to and, of what each of these brings in, the tasks below it. The sets of these come
+// from the memo, or are found in turn.
 fn brought(succ: &[u64; 48], n: usize, i: usize, brings: &mut [u64; 48]) -> u64
+    requires { ⌜ (n ≤ 32) × (cyclic (graph (now succ) [] n) ≡ false) × NodeOf i × SetMemo (now succ) n (now brings) ⌝ }
+    ensures { λ r. ⌜ Brought (now (succ .entry)) n i r × SetMemo (now (succ .entry)) n (now (brings .exit)) ⌝ }
+{
+    let links = below(succ[i - 1], n);
+    let mut set = links;
+    let mut left = links;
+    while 0 < left {
+        let k = first(left);
+        let mut through = brings[k];
+        if through == 0 {
+            through = brought(succ, n, k + 1, &mut *brings);
+        }
+        let low = below(through, k);
+        set = union(set, low);
+        left = rest(left);
+    }
+    brings[i - 1] = set;
+    set
+}
+
+// The same from the memo; none without a link; else found.
+fn set_of(succ: &[u64; 48], n: usize, i: usize, brings: &mut [u64; 48]) -> u64
     requires { ⌜ (n ≤ 32) × (cyclic (graph (now succ) [] n) ≡ false) × NodeOf i × SetMemo (now succ) n (now brings) ⌝ }
     ensures { λ r. ⌜ Brought (now (succ .entry)) n i r × SetMemo (now (succ .entry)) n (now (brings .exit)) ⌝ }
 {
@@ -24,28 +47,10 @@ fn brought(succ: &[u64; 48], n: usize, i: usize, brings: &mut [u64; 48]) -> u64
     if 0 < noted {
         return noted;
     }
-    let links = below(succ[i - 1], n);
-    if links == 0 {
+    if succ[i - 1] == 0 {
         return 0;
     }
-    gathered(succ, n, i, links, &mut *brings)
-}
-
-// The tasks that node i has links to and, of what each of these brings in, the tasks below it; noted in the memo.
-fn gathered(succ: &[u64; 48], n: usize, i: usize, links: u64, brings: &mut [u64; 48]) -> u64
-    requires { ⌜ (n ≤ 32) × (cyclic (graph (now succ) [] n) ≡ false) × NodeOf i × LinksOf (now succ) n i links × SetMemo (now succ) n (now brings) ⌝ }
-    ensures { λ r. ⌜ Brought (now (succ .entry)) n i r × SetMemo (now (succ .entry)) n (now (brings .exit)) ⌝ }
-{
-    let mut set = links;
-    let mut left = links;
-    while 0 < left {
-        let k = first(left);
-        let low = below(brought(succ, n, k + 1, &mut *brings), k);
-        set = union(set, low);
-        left = rest(left);
-    }
-    brings[i - 1] = set;
-    set
+    brought(succ, n, i, &mut *brings)
 }
 
 // W(j): the run of j and all that j adds above it; noted in the memo.
@@ -84,7 +89,7 @@ fn added(
     requires { ⌜ Ready (now succ) (now runs) n × NodeOf i × TaskOf n j × SetMemo (now succ) n (now brings) × WorkMemo (now succ) (now runs) n (now known) ⌝ }
     ensures { λ r. ⌜ AddedIs (graph (now (succ .entry)) (now (runs .entry)) n) i j r × SetMemo (now (succ .entry)) n (now (brings .exit)) × WorkMemo (now (succ .entry)) (now (runs .entry)) n (now (known .exit)) ⌝ }
 {
-    if has(brought(succ, n, i, &mut *brings), j - 1) {
+    if has(set_of(succ, n, i, &mut *brings), j - 1) {
         let noted = known[j - 1];
         if 0 < noted {
             return noted;
@@ -110,7 +115,7 @@ pub fn works_of(succ: &[u64; 48], runs: &[u32; 32], n: usize, brings: &mut [u64;
     }
     let mut i: usize = 0;
     while i < 48 {
-        let set = brought(succ, n, i + 1, &mut sets);
+        let set = set_of(succ, n, i + 1, &mut sets);
         brings[i] = set;
         i += 1;
     }

@@ -21,7 +21,7 @@ use Rattle.works.proofs.work.Kinds as work-kinds
 use Rattle.works.proofs.+added+work.Lts-work as work-lts
 use Rattle.numbers.proofs.wide.Reads as wide-reads
 use Rattle.sets.proofs.has.Reads as has-reads
-use Rattle.works.proofs.brought.Reads as brought-reads
+use Rattle.works.proofs.set_of.Reads as set-of-reads
 use Rattle.works.proofs.+added+work.{statement}
 use Rattle.works.proofs.+added+work.Tie.{close}
 
@@ -45,16 +45,16 @@ work-below t = and 4 work-kinds.ps (falls 4 work-kinds.ps _<_ μ-work t) work.Pr
 
 abbrev added-calls : ℕ → added-lts.Claims
 added-calls t = (
-  brought-reads.Asked,
-  brought-reads.Learnt,
+  set-of-reads.Asked,
+  set-of-reads.Learnt,
   has-reads.Asked,
   has-reads.Learnt,
   work-below t,
   work.Post,
 )
 
-added-brought-requires : (t : ℕ) → added-lts.Need-brought-requires (added-calls t) (added-at t) added.Post
-added-brought-requires t c κs =
+added-set-of-requires : (t : ℕ) → added-lts.Need-set-of-requires (added-calls t) (added-at t) added.Post
+added-set-of-requires t c κs =
     let S = c .before in
     let p = S .pre .1 in
     (p .0 .few, cycle-free (S .args .succ .now) (S .args .runs .now) (S .args .n) (p .0 .no-cycle), p .1, p .3)
@@ -78,31 +78,31 @@ added-returns : (t : ℕ) → added-lts.Need-returns (added-calls t) (added-at t
 added-returns t c =
     let S = c .before .before .before .before .before .before in
     let p = S .pre .1 in
-    let path = c .before .before .before .before .brought .ensures .0 .only (S .args .j) (p .2) (sym (c .before .before .before .has .ensures) ∙ c .before .before .if1 .taken) in
-    (p .4 .right (S .args .j) (p .2) (c .if2 .taken) ∙ sym (added-in (S .args .succ .now) (S .args .runs .now) (S .args .n) (p .0 .no-cycle) (S .args .j) path), c .before .before .before .before .brought .ensures .1, p .4)
+    let path = c .before .before .before .before .set-of .ensures .0 .only (S .args .j) (p .2) (sym (c .before .before .before .has .ensures) ∙ c .before .before .if1 .taken) in
+    (p .4 .right (S .args .j) (p .2) (c .if2 .taken) ∙ sym (added-in (S .args .succ .now) (S .args .runs .now) (S .args .n) (p .0 .no-cycle) (S .args .j) path), c .before .before .before .before .set-of .ensures .1, p .4)
 
 added-work-requires : (t : ℕ) → added-lts.Need-work-requires (added-calls t) (added-at t) added.Post
 added-work-requires t c κs =
     let S = c .before .before .before .before .before .before .before .before in
     let p = S .pre .1 in
-    let path = c .before .before .before .before .before .before .brought .ensures .0 .only (S .args .j) (p .2) (sym (c .before .before .before .before .before .has .ensures) ∙ c .before .before .before .before .if1 .taken) in
+    let path = c .before .before .before .before .before .before .set-of .ensures .0 .only (S .args .j) (p .2) (sym (c .before .before .before .before .before .has .ensures) ∙ c .before .before .before .before .if1 .taken) in
     let h = through-falls (S .args .succ .now) (S .args .runs .now) (S .args .n) (p .0 .no-cycle) (S .args .j) path in
     let e = S .pre .0 in
-    (omega arith, (p .0, p .2, c .before .before .before .before .before .before .brought .ensures .1, p .4))
+    (omega arith, (p .0, p .2, c .before .before .before .before .before .before .set-of .ensures .1, p .4))
 
 added-returns-2 : (t : ℕ) → added-lts.Need-returns-2 (added-calls t) (added-at t) added.Post
 added-returns-2 t c =
     let S = c .before .before .before .before .before .before .before .before .before in
     let p = S .pre .1 in
-    let path = c .before .before .before .before .before .before .before .brought .ensures .0 .only (S .args .j) (p .2) (sym (c .before .before .before .before .before .before .has .ensures) ∙ c .before .before .before .before .before .if1 .taken) in
+    let path = c .before .before .before .before .before .before .before .set-of .ensures .0 .only (S .args .j) (p .2) (sym (c .before .before .before .before .before .before .has .ensures) ∙ c .before .before .before .before .before .if1 .taken) in
     (c .work .ensures .0 ∙ sym (added-in (S .args .succ .now) (S .args .runs .now) (S .args .n) (p .0 .no-cycle) (S .args .j) path), c .work .ensures .1, c .work .ensures .2)
 
 added-returns-3 : (t : ℕ) → added-lts.Need-returns-3 (added-calls t) (added-at t) added.Post
 added-returns-3 t c =
     let S = c .before .before .before .before in
     let p = S .pre .1 in
-    let e = added-out (S .args .succ .now) (S .args .runs .now) (S .args .n) (p .0 .no-cycle) (S .args .i) (S .args .j) (λ path. not-both (c .before .before .brought .ensures .0 .all (S .args .j) (p .2) path) (sym (c .before .has .ensures) ∙ c .if1 .left)) in
-    (sym e, c .before .before .brought .ensures .1, p .4)
+    let e = added-out (S .args .succ .now) (S .args .runs .now) (S .args .n) (p .0 .no-cycle) (S .args .i) (S .args .j) (λ path. not-both (c .before .before .set-of .ensures .0 .all (S .args .j) (p .2) path) (sym (c .before .has .ensures) ∙ c .if1 .left)) in
+    (sym e, c .before .before .set-of .ensures .1, p .4)
 
 abbrev work-Inv-loop : work-lts.InvT-loop
 work-Inv-loop succ runs n j brings₀ known₀ sum₀ k₀ brings known sum k =
@@ -192,7 +192,7 @@ pub +added+work-spec : {M : Type 1} → statement M
 +added+work-spec = close μ-added μ-work (λ t. added-lts.spec (added-calls t)
     (added-at t)
     added.Post
-    (added-brought-requires t)
+    (added-set-of-requires t)
     (added-sub-has t)
     (added-has-requires t)
     (added-sub-noted t)

@@ -62,11 +62,11 @@ loop-again c =
 loop2-holds : tie.Need-loop2-holds Inv-loop μ-loop Inv-loop2 μ-loop2
 loop2-holds c = (omega arith, c .before .before .pre .1, c .before .loop .inv .1, λ k p. absurd (omega arith))
 
-add-brought : tie.Need-add-brought Inv-loop μ-loop Inv-loop2 μ-loop2
-add-brought c = search needs
+add-set-of : tie.Need-add-set-of Inv-loop μ-loop Inv-loop2 μ-loop2
+add-set-of c = search needs
 
-brought-requires : tie.Need-brought-requires Inv-loop μ-loop Inv-loop2 μ-loop2
-brought-requires c κs =
+set-of-requires : tie.Need-set-of-requires Inv-loop μ-loop Inv-loop2 μ-loop2
+set-of-requires c κs =
     let S = c .before .before .before .before .before in
     (S .pre .0 .few, cycle-free (S .args .succ .now) (S .args .runs .now) (S .args .n) (S .pre .0 .no-cycle), (omega arith, omega arith), c .before .before .loop2 .inv .2)
 
@@ -88,8 +88,8 @@ loop2-again c =
     let L = c .before .before .before .loop2 in (
       omega arith,
       simp length-set (L .inv .1),
-      c .brought .ensures .1,
-      stored (λ k x. Brought (S .args .succ .now) (S .args .n) (k + 1) x) 0 (L .brings) (L .i) (c .brought .result) (omega (arith, L .inv .1)) (L .inv .3) (c .brought .ensures .0),
+      c .set-of .ensures .1,
+      stored (λ k x. Brought (S .args .succ .now) (S .args .n) (k + 1) x) 0 (L .brings) (L .i) (c .set-of .result) (omega (arith, L .inv .1)) (L .inv .3) (c .set-of .ensures .0),
     )
 
 returns : tie.Need-returns Inv-loop μ-loop Inv-loop2 μ-loop2
@@ -118,8 +118,8 @@ works-of-spec =
     loop-less
     loop-again
     loop2-holds
-    add-brought
-    brought-requires
+    add-set-of
+    set-of-requires
     mul-brings
     element-write-brings
     add-i

@@ -5,11 +5,10 @@ use mathlib.Core.Bool.{Bool, true, false, _||_, _&&_}
 use mathlib.Core.List.{List}
 use mathlib.Core.Logic.{_⊎_, inl, inr}
 use native.Mathlib.Omega.{arith}
-use native.Mathlib.Decide.{decLt}
 use lib.ListN.{getD}
 use lib.Dec.{ltb}
 use borrow.Author.Tests.{lt-ltb, le-ltb}
-use Rattle.lemmas.proofs.Tests.{Cmp, less, same, more, cmp, not-both, false-of, or-left, or-right, or-new, and-left, and-right, both, and-false-right}
+use Rattle.lemmas.proofs.Tests.{Cmp, less, same, more, cmp, or-left, or-right, or-new, and-left, and-right, both, and-false-right}
 use Rattle.paths.specs.Paths.{Through}
 use Rattle.paths.specs.Paths.Through.{one, more as on}
 use Rattle.sets.specs.Sets.{member}

@@ -13,7 +13,6 @@ use Rattle.lemmas.proofs.Tests.{not-both, false-of, true-of, same-test}
 use Rattle.lemmas.proofs.Range.{Found, any-at, any-found, topTo-le, given-le, sumTo-cong}
 use Rattle.theory.proofs.Rank.{rankOf, ends-fall, reach-falls, cycle-is}
 use Rattle.theory.proofs.LoadLaws.{added-le, along}
-use Rattle.theory.proofs.WellFormed.{Loaded}
 use Rattle.theory.proofs.Alike.{same-cyclic}
 use Rattle.sets.specs.Sets.{member}
 use Rattle.paths.specs.Paths.{Through}

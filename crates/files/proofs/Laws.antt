@@ -110,7 +110,7 @@ module _ (s : List ℕ) (at : ℕ) (x : Reading) (parsed : x ≡ parseAt s at) (
   pub unchecked-as : (r : Refusal) (p : ℕ) (j : Judged) → w .outcome ≡ Refused r p → j .outcome ≡ Refused r p → j .description ≡ blank → ReadAs (readFrom s at) j
   unchecked-as r p j e f g = refused-as s at r p j (read-unchecked s at r p parsed-fine (last-is ∙ e)) f g
 
-  pub checked-as : Bytes s → w .outcome ≡ Done → ReadAs (readFrom s at) (record { outcome = Done; description = x .description; adds = w .adds; works = w .works })
+  pub checked-as : Bytes s → w .outcome ≡ Done → ReadAs (readFrom s at) (record { outcome = Done; description = x .description; brings = w .brings; works = w .works })
   checked-as b e =
       let whole : x ≡ readFrom s at = parsed ∙ read-checked s at parsed-fine (last-is ∙ e) in
       let passes : lastChecks (x .description) ≡ Done = sym (checked .judged) ∙ e in

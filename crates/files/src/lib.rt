@@ -22,7 +22,7 @@ pub mod reader;
 pub struct Judged {
     pub outcome: Outcome,
     pub description: Description,
-    pub adds: [u64; 48],
+    pub brings: [u64; 48],
     pub works: [u64; 32],
 }
 
@@ -62,12 +62,12 @@ pub fn examine_record(d: Description) -> Judged
 {
     let worked = work_out(d);
     let outcome = worked.outcome;
-    let adds = worked.adds;
+    let brings = worked.brings;
     let works = worked.works;
     Judged {
         outcome,
         description: d,
-        adds,
+        brings,
         works,
     }
 }
@@ -80,7 +80,7 @@ fn refused(why: Refusal, place: usize) -> Judged
     Judged {
         outcome: Outcome::Refused(why, place),
         description: none,
-        adds: [0u64; 48],
+        brings: [0u64; 48],
         works: [0u64; 32],
     }
 }
@@ -100,12 +100,12 @@ fn examine_at(s: &[u8], at: usize) -> Judged
     if let Outcome::Refused(why, place) = last {
         return refused(why, place);
     }
-    let adds = worked.adds;
+    let brings = worked.brings;
     let works = worked.works;
     Judged {
         outcome: Outcome::Done,
         description: d,
-        adds,
+        brings,
         works,
     }
 }

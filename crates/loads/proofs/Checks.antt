@@ -23,10 +23,10 @@ use Rattle.lemmas.proofs.Table.{is-tab}
 use Rattle.theory.proofs.WellFormed.{Fielded}
 use Rattle.loads.specs.declared.Worked.{Worked}
 use Rattle.paths.specs.Rows.{SuccessorsOf, Closed, graph, selfIn}
-use Rattle.works.specs.Works.{Ready, WorksOf, Scaled, loadBy}
+use Rattle.works.specs.Works.{Ready, WorksOf, SetsOf, Scaled, loadBy}
 use Rattle.loads.specs.Tables.{heavyBy, LoadsOf, SheetBy, RowsAre, WorkedOf, checkedLoads, refusedLoads}
 use Rattle.paths.proofs.Tabled.{sets-cyclic, sets-load}
-use Rattle.works.proofs.Bringing.{self-cyclic, adds-ready, load-by}
+use Rattle.works.proofs.Bringing.{self-cyclic, load-by}
 use Rattle.lemmas.proofs.Outcomes.{refused-not}
 
 -- how the last checks end
@@ -52,47 +52,44 @@ module _ (d : Description) where
 pub worked-refused : (d : Description) (r : Worked) (why : Refusal) → r .outcome ≡ Refused why 0 → lastChecks d ≡ Refused why 0 → WorkedOf d r
 worked-refused d r why e f = record { judged = e ∙ sym f; worked = λ g. refused-not (sym f ∙ g) }
 
--- sets that are closed, and works over them, give a description's loads
-module _ (d : Description) (F : Fielded d) (succ adds : List ℕ) (M : SuccessorsOf d succ) (C : Closed succ (d .«task_count») adds) where
-  pub self-is : selfIn adds (d .«task_count») ≡ cyclic (system d)
-  self-is = self-cyclic succ (d .runs) (d .«task_count») adds C (F .few-tasks) ∙ sets-cyclic d succ (d .runs) F M
+-- sets and works that are found along a description's links give its loads
+module _ (d : Description) (F : Fielded d) (succ : List ℕ) (M : SuccessorsOf d succ) where
+  pub self-is : (rows : List ℕ) → Closed succ (d .«task_count») rows → selfIn rows (d .«task_count») ≡ cyclic (system d)
+  self-is rows C = self-cyclic succ (d .runs) (d .«task_count») rows C ∙ sets-cyclic d succ (d .runs) F M
 
   module _ (acyclic : cyclic (system d) ≡ false) where
-    acyclic-graph : cyclic (graph succ (d .runs) (d .«task_count»)) ≡ false
-    acyclic-graph = sets-cyclic d succ (d .runs) F M ∙ acyclic
+    pub links-ready : Ready succ (d .runs) (d .«task_count»)
+    links-ready = record { few = F .few-tasks; run-most = F .run-most; no-cycle = sets-cyclic d succ (d .runs) F M ∙ acyclic }
 
-    pub sets-ready : Ready adds (d .runs) (d .«task_count»)
-    sets-ready = adds-ready succ (d .runs) (d .«task_count») adds C (F .few-tasks) acyclic-graph (F .run-most)
-
-    pub loads-of : (works : List ℕ) → WorksOf (graph adds (d .runs) (d .«task_count»)) works → Scaled works → LoadsOf d adds works
-    loads-of works W S =
+    pub loads-of : (brings works : List ℕ) → WorksOf (graph succ (d .runs) (d .«task_count»)) works × Scaled works × SetsOf succ (d .«task_count») brings → LoadsOf d brings works
+    loads-of brings works W =
         record {
-          by-sets = λ i j N p. load-by succ (d .runs) (d .«task_count») adds C (F .few-tasks) acyclic-graph sets-ready works W i j N p ∙ sets-load d succ F M i j;
-          scaled = S;
+          by-sets = λ i j N p. load-by succ (d .runs) (d .«task_count») (links-ready .no-cycle) brings works (W .2) (W .0) i j N p ∙ sets-load d succ F M i j;
+          scaled = W .1;
         }
 
-pub heavy-is : (d : Description) (adds works : List ℕ) → LoadsOf d adds works → heavyBy adds works (d .«task_count») ≡ tooHeavy (system d)
+pub heavy-is : (d : Description) (brings works : List ℕ) → LoadsOf d brings works → heavyBy brings works (d .«task_count») ≡ tooHeavy (system d)
 unfolding heavyBy tooHeavy
-heavy-is d adds works L = same-test _ _ there back
+heavy-is d brings works L = same-test _ _ there back
   where
-    row : (r : ℕ) → r < 48 → loadBy (getD adds r 0) works (d .«task_count») 1 ≡ load (system d) (suc r) 1
+    row : (r : ℕ) → r < 48 → loadBy (getD brings r 0) works (d .«task_count») 1 ≡ load (system d) (suc r) 1
     row r p = let e : suc r - 1 ≡ r = omega arith in rw e at (L .by-sets (suc r) 1 (omega arith, omega arith) (omega arith))
 
-    there : heavyBy adds works (d .«task_count») ≡ true → tooHeavy (system d) ≡ true
+    there : heavyBy brings works (d .«task_count») ≡ true → tooHeavy (system d) ≡ true
     there e =
-        let f : Found (λ r. ltb 1000000000 (loadBy (getD adds r 0) works (d .«task_count») 1)) 0 48 = any-found _ 0 48 e in
+        let f : Found (λ r. ltb 1000000000 (loadBy (getD brings r 0) works (d .«task_count») 1)) 0 48 = any-found _ 0 48 e in
         any-at (λ i. ltb 1000000000 (load (system d) i 1)) 1 48 (suc (f .at)) (omega arith) (omega (arith, f .within)) (ap (ltb 1000000000) (sym (row (f .at) (f .within))) ∙ f .passes)
 
-    back : tooHeavy (system d) ≡ true → heavyBy adds works (d .«task_count») ≡ true
+    back : tooHeavy (system d) ≡ true → heavyBy brings works (d .«task_count») ≡ true
     back e =
         let f : Found (λ i. ltb 1000000000 (load (system d) i 1)) 1 48 = any-found _ 1 48 e in
         let q : suc (f .at - 1) ≡ f .at = omega (arith, f .from) in
-        any-at (λ r. ltb 1000000000 (loadBy (getD adds r 0) works (d .«task_count») 1)) 0 48 (f .at - 1) (omega arith) (omega (arith, f .from, f .within)) (ap (ltb 1000000000) (row (f .at - 1) (omega (arith, f .from, f .within)) ∙ ap (λ i. load (system d) i 1) q) ∙ f .passes)
+        any-at (λ r. ltb 1000000000 (loadBy (getD brings r 0) works (d .«task_count») 1)) 0 48 (f .at - 1) (omega arith) (omega (arith, f .from, f .within)) (ap (ltb 1000000000) (row (f .at - 1) (omega (arith, f .from, f .within)) ∙ ap (λ i. load (system d) i 1) q) ∙ f .passes)
 
 -- rows that hold a sheet are the rows of the answer
-pub rows-are : (d : Description) (adds works : List ℕ) (t : List (List ℕ)) (rows : List Row) → LoadsOf d adds works → SheetBy adds works (d .«task_count») t → RowsAre t rows → rows ≡ sheet (system d)
+pub rows-are : (d : Description) (brings works : List ℕ) (t : List (List ℕ)) (rows : List Row) → LoadsOf d brings works → SheetBy brings works (d .«task_count») t → RowsAre t rows → rows ≡ sheet (system d)
 unfolding sheet
-rows-are d adds works t rows L S R =
+rows-are d brings works t rows L S R =
     is-tab
     noRow
     48
@@ -104,7 +101,7 @@ rows-are d adds works t rows L S R =
     row : List ℕ → Row
     row l = record { loads = l }
 
-    at : (k c : ℕ) → k < 48 → loadBy (getD adds k 0) works (d .«task_count») (suc c) ≡ load (system d) (suc k) (suc c)
+    at : (k c : ℕ) → k < 48 → loadBy (getD brings k 0) works (d .«task_count») (suc c) ≡ load (system d) (suc k) (suc c)
     at k c p = let e : suc k - 1 ≡ k = omega arith in rw e at (L .by-sets (suc k) (suc c) (omega arith, omega arith) (omega arith))
 
 pub sheet-refused : (d : Description) (why : Refusal) (place : ℕ) → lastChecks d ≡ Refused why place → checkedLoads d ≡ refusedLoads why place

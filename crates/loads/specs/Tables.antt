@@ -25,26 +25,26 @@ abbrev pub RowBy : ℕ → List ℕ → ℕ → List ℕ → Type 0
 RowBy row works n r = (length r ≡ 32) × ((c : ℕ) → c < 32 → getD r c 0 ≡ loadBy row works n (suc c))
 
 abbrev pub SheetBy : List ℕ → List ℕ → ℕ → List (List ℕ) → Type 0
-SheetBy adds works n t = (length t ≡ 48) × ((r : ℕ) → r < 48 → RowBy (getD adds r 0) works n (getD t r []))
+SheetBy brings works n t = (length t ≡ 48) × ((r : ℕ) → r < 48 → RowBy (getD brings r 0) works n (getD t r []))
 
 -- the loads of c nodes from place `base` on, one task further down: the work w of task j + 1 comes in; the others stay
 abbrev pub Column : ℕ → List ℕ → ℕ → ℕ → ℕ → List ℕ → List ℕ → Type 0
-Column base adds j w c loads loads′ = (length loads′ ≡ length loads) × ((k : ℕ) → k < c → getD loads′ k 0 ≡ getD loads k 0 + given (member (getD adds (base + k) 0) j) w) × ((k : ℕ) → c ≤ k → getD loads′ k 0 ≡ getD loads k 0)
+Column base brings j w c loads loads′ = (length loads′ ≡ length loads) × ((k : ℕ) → k < c → getD loads′ k 0 ≡ getD loads k 0 + given (member (getD brings (base + k) 0) j) w) × ((k : ℕ) → c ≤ k → getD loads′ k 0 ≡ getD loads k 0)
 
 -- in a table of loads of sources, 16 places for a task: those of c sources at task j + 1 from those at the task above, whose work w comes in
 -- where a source brings it in; the places after them stay
-pub record LevelColumn (adds : List ℕ) (j w c : ℕ) (levels levels′ : List ℕ) : Type 0 where
+pub record LevelColumn (brings : List ℕ) (j w c : ℕ) (levels levels′ : List ℕ) : Type 0 where
   pub long : length levels′ ≡ length levels
-  pub here : (u : ℕ) → u < c → getD levels′ (16 * j + u) 0 ≡ getD levels (16 * j + 16 + u) 0 + given (member (getD adds (32 + u) 0) j) w
+  pub here : (u : ℕ) → u < c → getD levels′ (16 * j + u) 0 ≡ getD levels (16 * j + 16 + u) 0 + given (member (getD brings (32 + u) 0) j) w
   pub above : (k : ℕ) → 16 * j + c ≤ k → getD levels′ k 0 ≡ getD levels k 0
 
 -- whether some node's load at task 1 exceeds 1,000,000,000
 unfoldable pub heavyBy : List ℕ → List ℕ → ℕ → Bool
-heavyBy adds works n = anyN (λ r. ltb 1000000000 (loadBy (getD adds r 0) works n 1)) 0 48
+heavyBy brings works n = anyN (λ r. ltb 1000000000 (loadBy (getD brings r 0) works n 1)) 0 48
 
 -- sets and works that give the loads of a description
-pub record LoadsOf (d : Description) (adds works : List ℕ) : Type 0 where
-  pub by-sets : (i j : ℕ) → NodeOf i → 1 ≤ j → loadBy (rowOf adds i) works (d .«task_count») j ≡ load (system d) i j
+pub record LoadsOf (d : Description) (brings works : List ℕ) : Type 0 where
+  pub by-sets : (i j : ℕ) → NodeOf i → 1 ≤ j → loadBy (rowOf brings i) works (d .«task_count») j ≡ load (system d) i j
   pub scaled : Scaled works
 
 -- the rows of the public answer
@@ -54,7 +54,7 @@ RowsAre t rows = (length rows ≡ 48) × ((k : ℕ) → k < 48 → getD rows k n
 -- "after the last field come 8, 9, 10", with sets and works of a description that passes
 pub record WorkedOf (d : Description) (r : Worked) : Type 0 where
   pub judged : r .outcome ≡ lastChecks d
-  pub worked : lastChecks d ≡ Done → LoadsOf d (r .adds) (r .works)
+  pub worked : lastChecks d ≡ Done → LoadsOf d (r .brings) (r .works)
 
 -- the same with the load sheet
 abbrev pub refusedLoads : Refusal → ℕ → LoadSheet

@@ -16,7 +16,7 @@ ghost use Rattle.loads.specs.Tables.{WorkedOf, RowsAre, checkedLoads, re
 // How the last checks end, and if they pass, for each node the tasks it brings in and for each task its work: all that loads are sums of.
 pub struct Worked {
     pub outcome: Outcome,
-    pub adds: [u64; 48],
+    pub brings: [u64; 48],
     pub works: [u64; 32],
 }
 
@@ -26,7 +26,7 @@ pub fn unworked(why: Refusal, place: usize) -> Worked
 {
     Worked {
         outcome: Outcome::Refused(why, place),
-        adds: [0u64; 48],
+        brings: [0u64; 48],
         works: [0u64; 32],
     }
 }
@@ -37,23 +37,23 @@ pub fn work_out(d: Description) -> Worked
     ensures { λ r. ⌜ WorkedOf d r ⌝ }
 {
     let n = d.task_count;
-    let m = d.source_count;
     if n == 0 {
         return unworked(Refusal::NoTask, 0);
     }
     let succ = paths::successors(d);
-    let adds = paths::closed(succ, n, m);
-    if paths::brings_itself(&adds, n) {
+    let rows = paths::closed(succ, n);
+    if paths::brings_itself(&rows, n) {
         return unworked(Refusal::Loop, 0);
     }
     let runs = d.runs;
-    let works = works::works_of(&adds, &runs, n);
-    if rows::heavy(&adds, &works, n) {
+    let mut brings = [0u64; 48];
+    let works = works::works_of(&succ, &runs, n, &mut brings);
+    if rows::heavy(&brings, &works, n) {
         return unworked(Refusal::TooHeavy, 0);
     }
     Worked {
         outcome: Outcome::Done,
-        adds,
+        brings,
         works,
     }
 }
@@ -93,7 +93,7 @@ pub fn last_checks(d: Description) -> LoadSheet
         return refused(why, place);
     }
     let n = d.task_count;
-    let t = rows::load_rows(&worked.adds, &worked.works, n);
+    let t = rows::load_rows(&worked.brings, &worked.works, n);
     let rows = as_rows(t);
     LoadSheet {
         outcome: Outcome::Done,

@@ -36,14 +36,14 @@ fn load_row(row: u64, works: &[u64; 32], n: usize) -> [u64; 32]
 }
 
 // The load sheet, row by row.
-pub fn load_rows<'a>(adds: &'a [u64; 48], works: &'a [u64; 32], n: usize) -> [[u64; 32]; 48]
+pub fn load_rows<'a>(brings: &'a [u64; 48], works: &'a [u64; 32], n: usize) -> [[u64; 32]; 48]
     requires { ⌜ (n ≤ 32) × Scaled (now works) ⌝ }
-    ensures { λ r. ⌜ SheetBy (now (adds .entry)) (now (works .entry)) n r ⌝ }
+    ensures { λ r. ⌜ SheetBy (now (brings .entry)) (now (works .entry)) n r ⌝ }
 {
     let mut t = [[0u64; 32]; 48];
     let mut i: usize = 0;
     while i < 48 {
-        let row = load_row(adds[i], works, n);
+        let row = load_row(brings[i], works, n);
         t[i] = row;
         i += 1;
     }
@@ -79,16 +79,16 @@ fn sum_of(works: &[u64; 32], n: usize) -> u64
 }
 
 // Whether some node's load at task 1 exceeds 1,000,000,000; none does if all works together do not.
-pub fn heavy(adds: &[u64; 48], works: &[u64; 32], n: usize) -> bool
+pub fn heavy(brings: &[u64; 48], works: &[u64; 32], n: usize) -> bool
     requires { ⌜ (n ≤ 32) × Scaled (now works) ⌝ }
-    ensures { λ r. ⌜ r ≡ heavyBy (now (adds .entry)) (now (works .entry)) n ⌝ }
+    ensures { λ r. ⌜ r ≡ heavyBy (now (brings .entry)) (now (works .entry)) n ⌝ }
 {
     if sum_of(works, n) <= 1_000_000_000 {
         return false;
     }
     let mut i: usize = 0;
     while i < 48 {
-        if 1_000_000_000 < total(adds[i], works, n) {
+        if 1_000_000_000 < total(brings[i], works, n) {
             return true;
         }
         i += 1;

@@ -5,15 +5,14 @@ use mathlib.Core.Bool.{Bool, true, false, _||_, _&&_}
 use mathlib.Core.List.{List}
 use mathlib.Core.Logic.{_⊎_, inl, inr}
 use native.Mathlib.Omega.{arith}
-use native.Mathlib.Decide.{decLt}
 use lib.ListN.{getD}
 use lib.Dec.{ltb}
 use borrow.Author.Tests.{lt-ltb, le-ltb}
-use Rattle.lemmas.proofs.Tests.{Cmp, less, same, more, cmp, not-both, false-of, or-left, or-right, or-new, and-left, and-right, both, and-false-right}
+use Rattle.lemmas.proofs.Tests.{Cmp, less, same, more, cmp, or-left, or-right, or-new, and-left, and-right, both, and-false-right}
 use Rattle.paths.specs.Paths.{Through}
 use Rattle.paths.specs.Paths.Through.{one, more as on}
 use Rattle.sets.specs.Sets.{member}
-use Rattle.paths.specs.Rows.{linkBy, rowOf, NodeOf, TaskOf, Grown, Allowed, Absent, Closed}
+use Rattle.paths.specs.Rows.{linkBy, rowOf, TaskOf, Grown, Allowed, Closed}
 use Rattle.paths.proofs.Tabled.{link-is, link-inside}
 use Rattle.lemmas.proofs.Bools.{or-none}
 
@@ -50,44 +49,42 @@ module _ (link : ℕ → ℕ → Bool) where
       go (more r) (inl s) h = h r s
       go (more r) (inr s) h = (suc v, omega arith, omega arith, join (suc v) i r (s .1) (s .0))
 
-  -- the first link of a path
-  pub first : (v : ℕ) {i j : ℕ} → Through link v i j → (k : ℕ) × (link i k ≡ true)
-  first v (one {j = j} e) = (j, e)
-  first v (on {k = k} e p t) = (k, e)
-
 -- the sets once paths may pass the tasks above v: up to v they may still grow, from v on they are closed
 pub record RowsAt (succ : List ℕ) (n v : ℕ) (rows : List ℕ) : Type 0 where
-  pub open-only : (i j : ℕ) → NodeOf i → TaskOf n j → j ≤ v → member (rowOf rows i) (j - 1) ≡ true → Through (linkBy succ n) v i j
-  pub open-all : (i j : ℕ) → NodeOf i → TaskOf n j → j ≤ v → Through (linkBy succ n) v i j → member (rowOf rows i) (j - 1) ≡ true
-  pub shut-only : (i j : ℕ) → NodeOf i → TaskOf n j → v ≤ j → member (rowOf rows i) (j - 1) ≡ true → Through (linkBy succ n) j i j
-  pub shut-all : (i j : ℕ) → NodeOf i → TaskOf n j → v ≤ j → Through (linkBy succ n) j i j → member (rowOf rows i) (j - 1) ≡ true
+  pub open-only : (i j : ℕ) → TaskOf n i → TaskOf n j → j ≤ v → member (rowOf rows i) (j - 1) ≡ true → Through (linkBy succ n) v i j
+  pub open-all : (i j : ℕ) → TaskOf n i → TaskOf n j → j ≤ v → Through (linkBy succ n) v i j → member (rowOf rows i) (j - 1) ≡ true
+  pub shut-only : (i j : ℕ) → TaskOf n i → TaskOf n j → v ≤ j → member (rowOf rows i) (j - 1) ≡ true → Through (linkBy succ n) j i j
+  pub shut-all : (i j : ℕ) → TaskOf n i → TaskOf n j → v ≤ j → Through (linkBy succ n) j i j → member (rowOf rows i) (j - 1) ≡ true
 
 -- above all tasks a path is a link
-pub rows-start : (succ : List ℕ) (n : ℕ) → RowsAt succ n n succ
-rows-start succ n =
+pub rows-start : (succ : List ℕ) (n : ℕ) → n ≤ 32 → RowsAt succ n n succ
+rows-start succ n few =
     record {
-      open-only = λ i j N T p e. one (link-is succ n i j N T ∙ e);
-      open-all = λ i j N T p t. sym (link-is succ n i j N T) ∙ direct n i j (omega arith) t;
-      shut-only = λ i j N T p e. one (link-is succ n i j N T ∙ e);
-      shut-all = λ i j N T p t. sym (link-is succ n i j N T) ∙ direct j i j p t;
+      open-only = λ i j N T p e. one (is i j N T ∙ e);
+      open-all = λ i j N T p t. sym (is i j N T) ∙ direct n i j (omega arith) t;
+      shut-only = λ i j N T p e. one (is i j N T ∙ e);
+      shut-all = λ i j N T p t. sym (is i j N T) ∙ direct j i j p t;
     }
   where
+    is : (i j : ℕ) → TaskOf n i → TaskOf n j → linkBy succ n i j ≡ member (rowOf succ i) (j - 1)
+    is i j N T = link-is succ n i j (omega (arith, N, few)) T
+
     direct : (v i j : ℕ) → n ≤ v → Through (linkBy succ n) v i j → linkBy succ n i j ≡ true
     direct v i j p (one e) = e
     direct v i j p (on {k = k} e q t) = absurd (omega (arith, link-inside succ n i k e .1 .1))
 
-module _ (succ : List ℕ) (n : ℕ) (few : n ≤ 32) (v : ℕ) (p : suc v ≤ n) (rows rows′ : List ℕ) (low : ℕ) (B : RowsAt succ n (suc v) rows)
-    (L : (k : ℕ) → member low k ≡ (member (getD rows v 0) k && ltb k v)) (G : (i : ℕ) → NodeOf i → Grown (rowOf rows i) low v (rowOf rows′ i)) where
+module _ (succ : List ℕ) (n : ℕ) (v : ℕ) (p : suc v ≤ n) (rows rows′ : List ℕ) (low : ℕ) (B : RowsAt succ n (suc v) rows)
+    (L : (k : ℕ) → member low k ≡ (member (getD rows v 0) k && ltb k v)) (A : Allowed low v n rows rows′) where
   index : suc v - 1 ≡ v
   index = omega arith
-
-  N′ : NodeOf (suc v)
-  N′ = (omega arith, omega arith)
 
   T′ : TaskOf n (suc v)
   T′ = (omega arith, p)
 
-  opened-only : (i j : ℕ) → NodeOf i → TaskOf n j → j ≤ v → member (rowOf rows′ i) (j - 1) ≡ true → Through (linkBy succ n) v i j
+  G : (i : ℕ) → TaskOf n i → Grown (rowOf rows i) low v (rowOf rows′ i)
+  G i N = A .each (i - 1) (omega (arith, N))
+
+  opened-only : (i j : ℕ) → TaskOf n i → TaskOf n j → j ≤ v → member (rowOf rows′ i) (j - 1) ≡ true → Through (linkBy succ n) v i j
   opened-only i j N T q e = go (member (rowOf rows i) (j - 1)) refl
     where
       go : (b : Bool) → member (rowOf rows i) (j - 1) ≡ b → Through (linkBy succ n) v i j
@@ -97,20 +94,20 @@ module _ (succ : List ℕ) (n : ℕ) (few : n ≤ 32) (v : ℕ) (p : suc v ≤ n
           let h = sym (L (j - 1)) ∙ and-right (member (rowOf rows i) v) (member low (j - 1)) g in
           join (linkBy succ n) v (suc v) (omega arith)
           (weaken (linkBy succ n) (suc v) v (omega arith) (B .open-only i (suc v) N T′ (omega arith) (rw index (and-left (member (rowOf rows i) v) (member low (j - 1)) g))))
-          (weaken (linkBy succ n) (suc v) v (omega arith) (B .open-only (suc v) j N′ T (omega arith) (rw index (and-left (member (getD rows v 0) (j - 1)) (ltb (j - 1) v) h))))
+          (weaken (linkBy succ n) (suc v) v (omega arith) (B .open-only (suc v) j T′ T (omega arith) (rw index (and-left (member (getD rows v 0) (j - 1)) (ltb (j - 1) v) h))))
 
-  opened-all : (i j : ℕ) → NodeOf i → TaskOf n j → j ≤ v → Through (linkBy succ n) v i j → member (rowOf rows′ i) (j - 1) ≡ true
+  opened-all : (i j : ℕ) → TaskOf n i → TaskOf n j → j ≤ v → Through (linkBy succ n) v i j → member (rowOf rows′ i) (j - 1) ≡ true
   opened-all i j N T q t = G i N (j - 1) ∙ go (split (linkBy succ n) v t)
     where
       go : Through (linkBy succ n) (suc v) i j ⊎ (Through (linkBy succ n) (suc v) i (suc v) × Through (linkBy succ n) (suc v) (suc v) j) → (member (rowOf rows i) (j - 1) || (member (rowOf rows i) v && member low (j - 1))) ≡ true
       go (inl r) = or-left (member (rowOf rows i) (j - 1)) _ (B .open-all i j N T (omega arith) r)
       go (inr r) =
           let a : member (rowOf rows i) v ≡ true = rw index at (B .open-all i (suc v) N T′ (omega arith) (r .0)) in
-          let b : member (getD rows v 0) (j - 1) ≡ true = rw index at (B .open-all (suc v) j N′ T (omega arith) (r .1)) in
+          let b : member (getD rows v 0) (j - 1) ≡ true = rw index at (B .open-all (suc v) j T′ T (omega arith) (r .1)) in
           let c : ltb (j - 1) v ≡ true = lt-ltb (j - 1) v (omega (arith, T)) in
           or-right (member (rowOf rows i) (j - 1)) _ (both (member (rowOf rows i) v) (member low (j - 1)) a (L (j - 1) ∙ both (member (getD rows v 0) (j - 1)) (ltb (j - 1) v) b c))
 
-  kept : (i j : ℕ) → NodeOf i → v < j → member (rowOf rows′ i) (j - 1) ≡ member (rowOf rows i) (j - 1)
+  kept : (i j : ℕ) → TaskOf n i → v < j → member (rowOf rows′ i) (j - 1) ≡ member (rowOf rows i) (j - 1)
   kept i j N q =
       let c : ltb (j - 1) v ≡ false = le-ltb (j - 1) v (omega arith) in
       G i N (j - 1)
@@ -127,12 +124,12 @@ module _ (succ : List ℕ) (n : ℕ) (few : n ≤ 32) (v : ℕ) (p : suc v ≤ n
         shut-all = λ i j N T q t. shut-all i j N T q t (cmp v j);
       }
     where
-      shut-only : (i j : ℕ) → NodeOf i → TaskOf n j → v ≤ j → member (rowOf rows′ i) (j - 1) ≡ true → Cmp v j → Through (linkBy succ n) j i j
+      shut-only : (i j : ℕ) → TaskOf n i → TaskOf n j → v ≤ j → member (rowOf rows′ i) (j - 1) ≡ true → Cmp v j → Through (linkBy succ n) j i j
       shut-only i j N T q e (less r) = B .shut-only i j N T r (sym (kept i j N r) ∙ e)
       shut-only i j N T q e (same r) = weaken (linkBy succ n) v j (omega arith) (opened-only i j N T (omega arith) e)
       shut-only i j N T q e (more r) = absurd (omega arith)
 
-      shut-all : (i j : ℕ) → NodeOf i → TaskOf n j → v ≤ j → Through (linkBy succ n) j i j → Cmp v j → member (rowOf rows′ i) (j - 1) ≡ true
+      shut-all : (i j : ℕ) → TaskOf n i → TaskOf n j → v ≤ j → Through (linkBy succ n) j i j → Cmp v j → member (rowOf rows′ i) (j - 1) ≡ true
       shut-all i j N T q t (less r) = kept i j N r ∙ B .shut-all i j N T r t
       shut-all i j N T q t (same r) = opened-all i j N T (omega arith) (weaken (linkBy succ n) j v (omega arith) t)
       shut-all i j N T q t (more r) = absurd (omega arith)
@@ -141,29 +138,10 @@ module _ (succ : List ℕ) (n : ℕ) (few : n ≤ 32) (v : ℕ) (p : suc v ≤ n
 pub same-grown : (row low v : ℕ) → member row v ≡ false → Grown row low v row
 same-grown row low v e k = sym (or-none (member row k) _ (ap (λ b. b && member low k) e))
 
--- both ranges of nodes have grown, and the others have no set to grow
-pub all-grown : (succ : List ℕ) (n m : ℕ) → n ≤ 32 → Absent succ n m → (v : ℕ) → suc v ≤ n → (low : ℕ) (rows rows₁ rows₂ : List ℕ) → RowsAt succ n (suc v) rows → Allowed low v 0 n rows rows₁ → Allowed low v 32 (32 + m) rows₁ rows₂ → (i : ℕ) → NodeOf i → Grown (rowOf rows i) low v (rowOf rows₂ i)
-all-grown succ n m few absent v p low rows rows₁ rows₂ B A₁ A₂ i N = go (decLt (i - 1) n) (decLt (i - 1) 32) (decLt (i - 1) (32 + m))
-  where
-    none : n < i → (i ≤ 32) ⊎ (32 + m < i) → Grown (rowOf rows i) low v (rowOf rows i)
-    none q r =
-        same-grown (rowOf rows i) low v
-        (false-of _ (λ e.
-        let index : suc v - 1 ≡ v = omega arith in
-        let t = B .open-only i (suc v) N (omega arith, p) (omega arith) (rw index e) in
-        let f = first (linkBy succ n) (suc v) t in
-        not-both (f .1) (absent i (f .0) q r)))
-
-    go : Dec (i - 1 < n) → Dec (i - 1 < 32) → Dec (i - 1 < 32 + m) → Grown (rowOf rows i) low v (rowOf rows₂ i)
-    go (yes a) b c = rw (A₂ .outside (i - 1) (inl (omega arith))) (A₁ .inside (i - 1) (omega arith) a)
-    go (no a) (yes b) c = rw (A₂ .outside (i - 1) (inl b), A₁ .outside (i - 1) (inr (omega arith))) (none (omega (arith, N)) (inl (omega arith)))
-    go (no a) (no b) (yes c) = rw (← A₁ .outside (i - 1) (inr (omega arith))) (A₂ .inside (i - 1) (omega arith) c)
-    go (no a) (no b) (no c) = rw (A₂ .outside (i - 1) (inr (omega arith)), A₁ .outside (i - 1) (inr (omega arith))) (none (omega (arith, N)) (inr (omega (arith, N))))
-
 -- once paths may pass every task, all sets are closed
 pub rows-end : (succ : List ℕ) (n : ℕ) (rows : List ℕ) → RowsAt succ n 0 rows → Closed succ n rows
-rows-end succ n rows B =
+rows-end succ n rows B i N =
     record {
-      only = λ i j N T. B .shut-only i j N T (omega arith);
-      all = λ i j N T. B .shut-all i j N T (omega arith);
+      only = λ j T. B .shut-only i j N T (omega arith);
+      all = λ j T. B .shut-all i j N T (omega arith);
     }

@@ -2,7 +2,7 @@
 use Prim.Native.Nat.{ℕ, _+_, _-_, _≤_}
 use mathlib.Core.Path.{_≡_, refl, sym, ap, _∙_}
 use mathlib.Core.Bool.{Bool, true, false, _&&_, _||_}
-use mathlib.Core.List.{List, []}
+use mathlib.Core.List.{List}
 use mathlib.Core.Logic.{⊎-elim}
 use native.Mathlib.Omega.{arith}
 use native.Mathlib.Decide.{ℕ-discrete}
@@ -24,7 +24,7 @@ use Rattle.theory.proofs.LoadLaws.{loaded-ends}
 use Rattle.theory.proofs.Alike.{SameLinks, same-cyclic, same-load}
 use Rattle.sets.specs.Sets.{member}
 use Rattle.theory.proofs.Links.{Linkable, linkedTo}
-use Rattle.paths.specs.Rows.{SuccessorsOf, linkBy, rowOf, graph, NodeOf, TaskOf, Absent}
+use Rattle.paths.specs.Rows.{SuccessorsOf, linkBy, rowOf, graph, NodeOf, TaskOf}
 use Rattle.lemmas.proofs.Bools.{or-none}
 
 module _ (succ : List ℕ) (n : ℕ) where
@@ -77,12 +77,6 @@ sets-links d succ runs F M =
     from i j p e =
         link-is succ (d .«task_count») i j (p .0) (p .1)
         ∙ (M i j (p .0 .0, p .0 .1, p .1 .0, omega (arith, p .1 .1, F .few-tasks)) ∙ e)
-
--- a node that is not there has no link
-pub sets-absent : (d : Description) (succ : List ℕ) → Fielded d → SuccessorsOf d succ → Absent succ (d .«task_count») (d .«source_count»)
-unfolding graph system
-sets-absent d succ F M i k p q =
-    false-of _ (λ e. ⊎-elim (λ t. omega (arith, t .1)) (λ u. ⊎-elim (λ r. omega (arith, u .0)) (λ r. omega (arith, u .1)) q) (shaped-fields d F .from-node i k (sym (sets-links d succ [] F M .link i k) ∙ e)))
 
 pub sets-cyclic : (d : Description) (succ runs : List ℕ) → Fielded d → SuccessorsOf d succ → cyclic (graph succ runs (d .«task_count»)) ≡ cyclic (system d)
 sets-cyclic d succ runs F M = same-cyclic (graph succ runs (d .«task_count»)) (system d) (sets-links d succ runs F M)

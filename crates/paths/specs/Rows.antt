@@ -1,8 +1,7 @@
 -- The links of a description as a set of tasks for each node, and the tasks that a node brings in.
-use Prim.Native.Nat.{ℕ, _+_, _-_, _≤_, _<_}
+use Prim.Native.Nat.{ℕ, _-_, _≤_, _<_}
 use mathlib.Core.Path.{_≡_}
-use mathlib.Core.Bool.{Bool, true, false, cond, _&&_, _||_}
-use mathlib.Core.Logic.{_⊎_}
+use mathlib.Core.Bool.{Bool, true, cond, _&&_, _||_}
 use mathlib.Core.List.{List}
 use lib.ListN.{length, getD}
 use lib.Dec.{leb}
@@ -41,24 +40,23 @@ graph succ runs n = record {
   link = linkBy succ n;
 }
 
--- a node's set once paths may pass task v + 1, which brings in the set low
+-- a task's set once paths may pass task v + 1, which brings in the set low
 abbrev pub Grown : ℕ → ℕ → ℕ → ℕ → Type 0
 Grown row low v r = (k : ℕ) → member r k ≡ (member row k || (member row v && member low k))
 
--- the same for the rows from start on and before end; the others stay
-pub record Allowed (low v start end : ℕ) (rows rows′ : List ℕ) : Type 0 where
+-- the same for the rows of n tasks
+pub record Allowed (low v n : ℕ) (rows rows′ : List ℕ) : Type 0 where
   pub long : length rows′ ≡ 48
-  pub inside : (i : ℕ) → start ≤ i → i < end → Grown (getD rows i 0) low v (getD rows′ i 0)
-  pub outside : (i : ℕ) → (i < start) ⊎ (end ≤ i) → getD rows′ i 0 ≡ getD rows i 0
+  pub each : (k : ℕ) → k < n → Grown (getD rows k 0) low v (getD rows′ k 0)
 
--- no link leaves a node that is neither one of n tasks nor one of m sources
-abbrev pub Absent : List ℕ → ℕ → ℕ → Type 0
-Absent succ n m = (i k : ℕ) → n < i → (i ≤ 32) ⊎ (32 + m < i) → linkBy succ n i k ≡ false
+-- the set of the tasks that node i brings in: those that a path reaches through higher ones
+pub record Brought (succ : List ℕ) (n i set : ℕ) : Type 0 where
+  pub only : (j : ℕ) → TaskOf n j → member set (j - 1) ≡ true → Through (linkBy succ n) j i j
+  pub all : (j : ℕ) → TaskOf n j → Through (linkBy succ n) j i j → member set (j - 1) ≡ true
 
--- for each node the tasks that a path reaches through higher ones
-pub record Closed (succ : List ℕ) (n : ℕ) (rows : List ℕ) : Type 0 where
-  pub only : (i j : ℕ) → NodeOf i → TaskOf n j → member (rowOf rows i) (j - 1) ≡ true → Through (linkBy succ n) j i j
-  pub all : (i j : ℕ) → NodeOf i → TaskOf n j → Through (linkBy succ n) j i j → member (rowOf rows i) (j - 1) ≡ true
+-- a row for each of n tasks
+abbrev pub Closed : List ℕ → ℕ → List ℕ → Type 0
+Closed succ n rows = (i : ℕ) → TaskOf n i → Brought succ n i (rowOf rows i)
 
 -- whether a task brings itself in
 unfoldable pub selfIn : List ℕ → ℕ → Bool

@@ -1,4 +1,5 @@
-// The tasks that each node brings in: those that a path reaches through higher tasks alone. Tasks are let in from the highest down.
+// The links of a description as a set of tasks for each node, and the cycle test: a task that brings itself in, along a path through higher
+// tasks alone. Tasks are let in from the highest down.
 use model::Description;
 use numbers::index;
 use sets::below;
@@ -9,7 +10,7 @@ ghost use mathlib.Core.Path.{_≡_};
 ghost use Prim.Native.Nat.{_≤_, _<_};
 ghost use lib.ListN.{length};
 ghost use Rattle.theory.proofs.WellFormed.{Fielded};
-ghost use Rattle.paths.specs.Rows.{SuccessorsOf, Grown, Allowed, Absent, Closed, selfIn};
+ghost use Rattle.paths.specs.Rows.{SuccessorsOf, Grown, Allowed, Closed, selfIn};
 
 // The links of a description by the node they leave: bit j - 1 of entry i - 1 for a link from node i to task j.
 pub fn successors(d: Description) -> [u64; 48]
@@ -28,7 +29,7 @@ pub fn successors(d: Description) -> [u64; 48]
     succ
 }
 
-// A node's set once paths may pass task v + 1, which brings in `low` below itself.
+// A task's set once paths may pass task v + 1, which brings in `low` below itself.
 fn grown(row: u64, low: u64, v: usize) -> u64
     requires { ⌜ v < 64 ⌝ }
     ensures { λ r. ⌜ Grown row low v r ⌝ }
@@ -39,21 +40,21 @@ fn grown(row: u64, low: u64, v: usize) -> u64
     row
 }
 
-// The same for the nodes from one place on and before another.
-fn allow(rows: &mut [u64; 48], low: u64, v: usize, start: usize, end: usize)
-    requires { ⌜ (v < 64) × (start ≤ end) × (end ≤ 48) × (length (now rows) ≡ 48) ⌝ }
-    ensures { λ _. ⌜ Allowed low v start end (now (rows .entry)) (now (rows .exit)) ⌝ }
+// The same for each of n tasks.
+fn allow(rows: &mut [u64; 48], low: u64, v: usize, n: usize)
+    requires { ⌜ (v < 64) × (n ≤ 32) × (length (now rows) ≡ 48) ⌝ }
+    ensures { λ _. ⌜ Allowed low v n (now (rows .entry)) (now (rows .exit)) ⌝ }
 {
-    let mut i = start;
-    while i < end {
-        rows[i] = grown(rows[i], low, v);
-        i += 1;
+    let mut k: usize = 0;
+    while k < n {
+        rows[k] = grown(rows[k], low, v);
+        k += 1;
     }
 }
 
-// For each node the tasks it brings in, of n tasks and m sources.
-pub fn closed(succ: [u64; 48], n: usize, m: usize) -> [u64; 48]
-    requires { ⌜ (n ≤ 32) × (m ≤ 16) × Absent succ n m ⌝ }
+// For each of n tasks the tasks it brings in.
+pub fn closed(succ: [u64; 48], n: usize) -> [u64; 48]
+    requires { ⌜ n ≤ 32 ⌝ }
     ensures { λ r. ⌜ Closed succ n r ⌝ }
 {
     let mut rows = succ;
@@ -61,8 +62,7 @@ pub fn closed(succ: [u64; 48], n: usize, m: usize) -> [u64; 48]
     while 0 < v {
         v -= 1;
         let low = below(rows[v], v);
-        allow(&mut rows, low, v, 0, n);
-        allow(&mut rows, low, v, 32, 32 + m);
+        allow(&mut rows, low, v, n);
     }
     rows
 }

@@ -96,7 +96,7 @@ pub fn quote(d: Description) -> Quote
     if let Outcome::Refused(why, place) = outcome {
         return Quote::Unquoted(why, place);
     }
-    let t = tables_of(d, &judged.adds, &judged.works);
+    let t = tables_of(d, &judged.brings, &judged.works);
     quote_by(
         &t.levels,
         &t.starts,
@@ -117,7 +117,7 @@ pub fn quote_file(file: &[u8]) -> Quote
         return Quote::Unquoted(why, offset);
     }
     let d = judged.description;
-    let t = tables_of(d, &judged.adds, &judged.works);
+    let t = tables_of(d, &judged.brings, &judged.works);
     quote_by(
         &t.levels,
         &t.starts,

@@ -62,7 +62,7 @@ fn put_report(file: &[u8], page: &mut [u8]) -> usize
         return refused_line(&mut *page, 0, why, place);
     }
     let d = judged.description;
-    let t = tables_of(d, &judged.adds, &judged.works);
+    let t = tables_of(d, &judged.brings, &judged.works);
     let quote = quote_by(
         &t.levels,
         &t.starts,

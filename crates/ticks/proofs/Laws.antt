@@ -60,5 +60,5 @@ module _ (d : Description) (t : ℕ) where
   run-done cs b b′ x w e g = record {
     answer = g .0 ∙ rw e;
     filled = g .1 ∙ rw e;
-    assured = λ q f h o. run-assured d q t w f (at-known w e .1) h cs b b′ x g o;
+    assured = λ q f h o. run-assured d q t w f (at-known d t w e .1) h cs b b′ x g o;
   }

@@ -43,20 +43,20 @@ top-shift f (suc n) =
     rw (top-shift f n, e)
 
 -- the starts and levels that sets and works give
-pub starts-of : (d : Description) (adds works starts : List ℕ) → LoadsOf d adds works → ((j : ℕ) → j < 32 → getD starts j 0 ≡ topN (λ k. loadBy (getD adds k 0) works (d .«task_count») (suc j)) 0 j) → StartsOf d starts
+pub starts-of : (d : Description) (brings works starts : List ℕ) → LoadsOf d brings works → ((j : ℕ) → j < 32 → getD starts j 0 ≡ topN (λ k. loadBy (getD brings k 0) works (d .«task_count») (suc j)) 0 j) → StartsOf d starts
 unfolding startOf
-starts-of d adds works starts h s j p =
+starts-of d brings works starts h s j p =
     let e : suc (suc j - 1) - 1 ≡ j = omega arith in
     s j p
-    ∙ top-cong (λ k. loadBy (getD adds k 0) works (d .«task_count») (suc j)) (λ k. load (system d) (suc k) (suc j)) j (λ k q. at k (omega arith))
+    ∙ top-cong (λ k. loadBy (getD brings k 0) works (d .«task_count») (suc j)) (λ k. load (system d) (suc k) (suc j)) j (λ k q. at k (omega arith))
     ∙ sym (top-shift (λ k. load (system d) k (suc j)) j)
     ∙ ap (λ n. topN (λ k. load (system d) k (suc j)) 1 n) (sym e)
   where
-    at : (k : ℕ) → k < 48 → loadBy (getD adds k 0) works (d .«task_count») (suc j) ≡ load (system d) (suc k) (suc j)
+    at : (k : ℕ) → k < 48 → loadBy (getD brings k 0) works (d .«task_count») (suc j) ≡ load (system d) (suc k) (suc j)
     at k q = let e : suc k - 1 ≡ k = omega arith in rw e at (h .by-sets (suc k) (suc j) (omega arith, omega arith) (omega arith))
 
-pub levels-of : (d : Description) (adds works levels : List ℕ) → d .«source_count» ≤ 16 → LoadsOf d adds works → ((j u : ℕ) → j < 32 → u < d .«source_count» → getD levels (16 * j + u) 0 ≡ loadBy (getD adds (32 + u) 0) works (d .«task_count») (suc j)) → LevelsOf d levels
-levels-of d adds works levels few h s j u p q =
+pub levels-of : (d : Description) (brings works levels : List ℕ) → d .«source_count» ≤ 16 → LoadsOf d brings works → ((j u : ℕ) → j < 32 → u < d .«source_count» → getD levels (16 * j + u) 0 ≡ loadBy (getD brings (32 + u) 0) works (d .«task_count») (suc j)) → LevelsOf d levels
+levels-of d brings works levels few h s j u p q =
     let e : 33 + u - 1 ≡ 32 + u = omega arith in
     s j u p q ∙ rw e at (h .by-sets (33 + u) (suc j) (omega arith, omega arith) (omega arith))
 

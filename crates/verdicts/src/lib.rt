@@ -42,14 +42,14 @@ pub struct Tables {
 }
 
 // The tables of a judged description, from the sets and works that its loads are sums of.
-pub fn tables_of<'a>(d: Description, adds: &'a [u64; 48], works: &'a [u64; 32]) -> Tables
-    requires { ⌜ WellFormed d × LoadsOf d (now adds) (now works) ⌝ }
+pub fn tables_of<'a>(d: Description, brings: &'a [u64; 48], works: &'a [u64; 32]) -> Tables
+    requires { ⌜ WellFormed d × LoadsOf d (now brings) (now works) ⌝ }
     ensures { λ r. ⌜ TablesOf d r ⌝ }
 {
     let n = d.task_count;
     let m = d.source_count;
-    let levels = levels_of(adds, works, n, m);
-    let starts = starts_of(adds, works, n);
+    let levels = levels_of(brings, works, n, m);
+    let starts = starts_of(brings, works, n);
     let critical = critical_of(d);
     let orders = orders_of(d);
     let ordered = orders_held(d, &orders);
@@ -89,7 +89,7 @@ pub fn verdicts(d: Description, t: u32) -> Verdicts
     if !on_knob(t) {
         return refused(Refusal::OffKnob, 0);
     }
-    let tables = tables_of(d, &judged.adds, &judged.works);
+    let tables = tables_of(d, &judged.brings, &judged.works);
     let gaps = gaps_by(tables.sources, t);
     let slots = slots_at(d, &tables.levels, &tables.starts, &tables.orders, &gaps);
     Verdicts {

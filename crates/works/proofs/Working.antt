@@ -1,26 +1,24 @@
--- Working works out over closed sets: the partial sums of the loops, the falling rank and the memo. Assumes nothing.
+-- Working works out along links: the partial sums of the loops, the memos and the tables. Assumes nothing.
 use Prim.Native.Nat.{ℕ, suc, _+_, _-_, _≤_, _<_}
-use mathlib.Core.Path.{_≡_, refl, sym, ap, _∙_}
+use mathlib.Core.Path.{_≡_, refl, sym, _∙_}
 use mathlib.Core.Bool.{Bool, true, false, cond}
 use mathlib.Core.List.{List}
 use native.Mathlib.Omega.{arith}
 use native.Mathlib.Decide.{ℕ-discrete, decLt}
-use lib.ListN.{length, getD, set, length-set, replicate, getD-replicate, List·getD-eq-default}
+use lib.ListN.{length, getD, set, length-set, replicate, length-replicate, getD-replicate, List·getD-eq-default}
 use lib.Seq.{getD-set-same, getD-set-other}
 use lib.Dec.{leb}
 use borrow.Author.Tests.{leb-true}
-use Rattle.model.specs.Basics.{sumN, given}
+use Rattle.model.specs.Basics.{sumN}
 use Rattle.model.specs.Graph.{System}
 use Rattle.model.specs.Loads.{work, added}
 use Rattle.lemmas.proofs.Tests.{Cmp, less, same, more, cmp}
 use Rattle.lemmas.proofs.Range.{sumN-more}
-use Rattle.theory.proofs.Rank.{rankOf, ends-fall}
+use Rattle.lemmas.proofs.Table.{getD-same}
 use Rattle.theory.proofs.LoadBounds.{sumN-part, work-most}
-use Rattle.sets.specs.Sets.{member}
-use Rattle.paths.specs.Rows.{rowOf, graph, NodeOf, TaskOf}
+use Rattle.paths.specs.Rows.{rowOf, graph, TaskOf}
 use Rattle.works.specs.Works.{Ready, Memo, Scaled, WorksOf}
-use Rattle.paths.proofs.Tabled.{link-is, ends, run-is, graph-loaded}
-use Rattle.works.proofs.Bringing.{ready-brought}
+use Rattle.paths.proofs.Tabled.{run-is, graph-loaded}
 
 -- the works of a graph without a cycle stay on the scale
 module _ (succ : List ℕ) (runs : List ℕ) (n : ℕ) where
@@ -48,72 +46,56 @@ pub workTo-more : (s : System) (j k : ℕ) → j + 1 ≤ k → workTo s j (k + 1
 unfolding workTo
 workTo-more s j k p = omega (arith, sumN-more (added s j) (suc j) k (omega arith))
 
-module _ (adds : List ℕ) (runs : List ℕ) (n : ℕ) (R : Ready adds runs n) where
-  pub rank-down : (i k : ℕ) → NodeOf i → TaskOf n k → member (rowOf adds i) (k - 1) ≡ true → rankOf (graph adds runs n) k < rankOf (graph adds runs n) i
-  unfolding graph
-  rank-down i k N T e = ends-fall (graph adds runs n) (ends adds runs n) (R .no-cycle) i k (link-is adds n i k N T ∙ e)
-
-  pub workTo-start : (j : ℕ) → TaskOf n j → workTo (graph adds runs n) j (j + 1) ≡ getD runs (j - 1) 0
+module _ (succ : List ℕ) (runs : List ℕ) (n : ℕ) (R : Ready succ runs n) where
+  pub workTo-start : (j : ℕ) → TaskOf n j → workTo (graph succ runs n) j (j + 1) ≡ getD runs (j - 1) 0
   unfolding workTo sumN
   workTo-start j T =
       let e : j + 1 - suc j ≡ 0 = omega arith in
-      rw e (omega (arith, run-is adds runs n j (T .1)))
+      rw e (omega (arith, run-is succ runs n j (T .1)))
 
-  pub workTo-end : (j : ℕ) → workTo (graph adds runs n) j (n + 1) ≡ work (graph adds runs n) j
+  pub workTo-end : (j : ℕ) → workTo (graph succ runs n) j (n + 1) ≡ work (graph succ runs n) j
   unfolding workTo graph
   workTo-end j =
       let e : n + 1 ≡ suc n = omega arith in
-      rw e (sym (graph-loaded adds runs n (R .no-cycle) .whole j))
+      rw e (sym (graph-loaded succ runs n (R .no-cycle) .whole j))
 
-  pub workTo-most : (j k : ℕ) → TaskOf n j → k ≤ n + 1 → workTo (graph adds runs n) j k ≤ 42949672960000000
+  pub workTo-most : (j k : ℕ) → TaskOf n j → k ≤ n + 1 → workTo (graph succ runs n) j k ≤ 42949672960000000
   unfolding workTo
   workTo-most j k T p =
       omega (
         arith,
-        graph-work adds runs n R j (T .0),
+        graph-work succ runs n R j (T .0),
         workTo-end j,
-        sumN-part (added (graph adds runs n) j) (suc j) (k - suc j) (n + 1 - suc j) (omega arith),
+        sumN-part (added (graph succ runs n) j) (suc j) (k - suc j) (n + 1 - suc j) (omega arith),
       )
 
-  pub added-in : (i j : ℕ) → NodeOf i → TaskOf n j → member (rowOf adds i) (j - 1) ≡ true → work (graph adds runs n) j ≡ added (graph adds runs n) i j
-  added-in i j N T e = sym (ready-brought adds runs n R i j N T ∙ ap (λ b. given b (work (graph adds runs n) j)) e)
-
-  pub added-out : (i j : ℕ) → NodeOf i → TaskOf n j → member (rowOf adds i) (j - 1) ≡ false → added (graph adds runs n) i j ≡ 0
-  added-out i j N T e = ready-brought adds runs n R i j N T ∙ ap (λ b. given b (work (graph adds runs n) j)) e
-
--- a task of the graph
-pub tasked : (adds runs : List ℕ) (n j : ℕ) → TaskOf n j → TaskOf (graph adds runs n .tasks) j
-unfolding graph
-tasked adds runs n j T = T
-
-pub untasked : (adds runs : List ℕ) (n j : ℕ) → TaskOf (graph adds runs n .tasks) j → TaskOf n j
-unfolding graph
-untasked adds runs n j T = T
-
--- one more entry of the memo is known
-pub memo-put : (s : System) (known : List ℕ) (j r : ℕ) → TaskOf 32 j → Memo s known → r ≡ work s j → Memo s (set known (j - 1) r)
-memo-put s known j r T M e =
+-- one more entry of a memo is known
+pub memo-put : (Is : ℕ → ℕ → Type 0) (m : ℕ) (known : List ℕ) (j r : ℕ) → TaskOf m j → Memo Is m known → Is j r → Memo Is m (set known (j - 1) r)
+memo-put Is m known j r T M e =
     record {
-      known-length = simp length-set (M .known-length);
+      long = simp length-set (M .long);
       right = λ k K p. go k K p (ℕ-discrete k j);
     }
   where
-    here : getD (set known (j - 1) r) (j - 1) 0 ≡ work s j
-    here = getD-set-same known (j - 1) r 0 (omega (arith, M .known-length, T)) ∙ e
+    here : getD (set known (j - 1) r) (j - 1) 0 ≡ r
+    here = getD-set-same known (j - 1) r 0 (omega (arith, M .long, T))
 
-    go : (k : ℕ) → TaskOf (s .tasks) k → 0 < getD (set known (j - 1) r) (k - 1) 0 → Dec (k ≡ j) → getD (set known (j - 1) r) (k - 1) 0 ≡ work s k
-    go k K p (yes q) = rw q here
+    go : (k : ℕ) → TaskOf m k → 0 < rowOf (set known (j - 1) r) k → Dec (k ≡ j) → Is k (rowOf (set known (j - 1) r) k)
+    go k K p (yes q) = rw (q, here) e
     go k K p (no q) =
         let f = getD-set-other known (j - 1) (k - 1) r 0 (λ z. q (omega (arith, K, T))) in
-        f ∙ M .right k K (rw f at p)
+        rw f (M .right k K (rw f at p))
+
+-- what stands at index k, if it is not 0
+pub noted : (Is : ℕ → ℕ → Type 0) (m : ℕ) (known : List ℕ) (k : ℕ) → TaskOf m (k + 1) → Memo Is m known → (getD known k 0 ≡ 0 → ⊥) → Is (k + 1) (getD known k 0)
+noted Is m known k T M some = let e : k + 1 - 1 ≡ k = omega arith in rw e at (M .right (k + 1) T (rw e (omega arith)))
 
 -- nothing is known yet
-pub memo-none : (adds runs : List ℕ) (n : ℕ) → n ≤ 32 → Memo (graph adds runs n) (replicate 32 0)
-unfolding graph
-memo-none adds runs n few =
+pub memo-none : (Is : ℕ → ℕ → Type 0) (m l : ℕ) → m ≤ l → Memo Is m (replicate l 0)
+memo-none Is m l few =
     record {
-      known-length = refl;
-      right = λ j T p. let none : List ℕ = replicate 32 0 in let z : getD none (j - 1) 0 ≡ 0 = getD-replicate 32 (j - 1) 0 0 (omega (arith, T, few)) in absurd (omega arith);
+      long = omega (arith, length-replicate {A = ℕ} l 0);
+      right = λ i T p. absurd (omega (arith, getD-same {A = ℕ} l (i - 1) 0));
     }
 
 -- the works from task j + 1 on, filled from the highest down
@@ -153,8 +135,8 @@ works-put s n j works x p e b W =
     most k (yes q) = rw (q, here) b
     most k (no q) = rw (getD-set-other works j k x 0 q) (W .scaled k)
 
-pub works-end : (adds runs : List ℕ) (n : ℕ) (works : List ℕ) → WorksFrom (graph adds runs n) n 0 works → WorksOf (graph adds runs n) works
+pub works-end : (succ runs : List ℕ) (n : ℕ) (works : List ℕ) → WorksFrom (graph succ runs n) n 0 works → WorksOf (graph succ runs n) works
 unfolding graph
-works-end adds runs n works W j T =
+works-end succ runs n works W j T =
     let e : suc (j - 1) ≡ j = omega (arith, T) in
     rw e at (W .worked (j - 1) (omega arith) (omega (arith, T)))

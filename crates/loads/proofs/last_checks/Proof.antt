@@ -45,7 +45,7 @@ returns-2 c =
     let S = c .before .before .before .before .before .before .before .before in
     let w = c .before .before .before .before .before .before .before .work-out in
     let e = sym (w .ensures .judged) ∙ c .before .before .before .before .before .enum-told .given .1 in
-    ap done (rows-are (S .args .d) (w .result .adds) (w .result .works) (c .before .load-rows .result) (c .as-rows .result) (w .ensures .worked e) (c .before .load-rows .ensures) (c .as-rows .ensures)) ∙ sym (sheet-done (S .args .d) e)
+    ap done (rows-are (S .args .d) (w .result .brings) (w .result .works) (c .before .load-rows .result) (c .as-rows .result) (w .ensures .worked e) (c .before .load-rows .ensures) (c .as-rows .ensures)) ∙ sym (sheet-done (S .args .d) e)
 
 pub last-checks-spec : {M : Type 1} → statement M
 last-checks-spec =

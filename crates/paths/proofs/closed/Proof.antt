@@ -4,18 +4,18 @@ use native.Mathlib.Omega.{arith}
 use Prim.Native.Nat.{suc, _≤_, _-_}
 use mathlib.Core.Path.{_≡_}
 use lib.ListN.{length}
-use Rattle.paths.proofs.PathLaws.{RowsAt, rows-start, rows-step, rows-end, all-grown}
+use Rattle.paths.proofs.PathLaws.{RowsAt, rows-start, rows-step, rows-end}
 use Rattle.paths.proofs.closed.Statement.{statement}
 use Rattle.paths.proofs.closed.Tie as tie
 
 abbrev Inv-loop : tie.InvT-loop
-Inv-loop n m rows₀ v₀ rows v = (v ≤ n) × (length rows ≡ 48) × RowsAt rows₀ n v rows
+Inv-loop n rows₀ v₀ rows v = (v ≤ n) × (length rows ≡ 48) × RowsAt rows₀ n v rows
 
 abbrev μ-loop : tie.MeasureT-loop
-μ-loop n m rows₀ v₀ rows v = v
+μ-loop n rows₀ v₀ rows v = v
 
 loop-holds : tie.Need-loop-holds Inv-loop μ-loop
-loop-holds c = let z : length (c .args .succ) ≡ 48 = search needs in (omega arith, z, rows-start (c .args .succ) (c .args .n))
+loop-holds c = let z : length (c .args .succ) ≡ 48 = search needs in (omega arith, z, rows-start (c .args .succ) (c .args .n) (c .pre))
 
 sub-v : tie.Need-sub-v Inv-loop μ-loop
 sub-v c = search needs
@@ -32,24 +32,17 @@ below-requires c κs = search needs
 allow-requires : tie.Need-allow-requires Inv-loop μ-loop
 allow-requires c κs = search needs
 
-add-allow : tie.Need-add-allow Inv-loop μ-loop
-add-allow c = search needs
-
-allow-requires-2 : tie.Need-allow-requires-2 Inv-loop μ-loop
-allow-requires-2 c κs = search needs
-
 loop-less : tie.Need-loop-less Inv-loop μ-loop
 loop-less c = search needs
 
 loop-again : tie.Need-loop-again Inv-loop μ-loop
 loop-again c =
-    let S = c .before .before .before .before .before .before .before in
-    let L = c .before .before .before .before .before .before .loop in
+    let S = c .before .before .before .before .before in
+    let L = c .before .before .before .before .loop in
     let b = L .v - 1 in
     let e : L .v ≡ suc b = omega arith in
     let B = rw e at (L .inv .2) in
-    let p : suc b ≤ S .args .n = omega arith in
-    (omega arith, c .allow2 .ensures .long, rows-step (S .args .succ) (S .args .n) (S .pre .0) b p (L .rows) _ (c .before .before .before .before .below .result) B (c .before .before .before .before .below .ensures) (all-grown (S .args .succ) (S .args .n) (S .args .m) (S .pre .0) (S .pre .2) b p (c .before .before .before .before .below .result) (L .rows) _ _ B (c .before .before .allow .ensures) (c .allow2 .ensures)))
+    (omega arith, c .allow .ensures .long, rows-step (S .args .succ) (S .args .n) b (omega arith) (L .rows) _ (c .before .before .below .result) B (c .before .before .below .ensures) (c .allow .ensures))
 
 returns : tie.Need-returns Inv-loop μ-loop
 returns c =
@@ -70,8 +63,6 @@ closed-spec =
     array-read-below
     below-requires
     allow-requires
-    add-allow
-    allow-requires-2
     loop-less
     loop-again
     returns)

@@ -29,8 +29,8 @@ returns c =
     record {
       by-levels = record {
         good = S .pre .0;
-        by-level = levels-of d (S .args .adds .now) (S .args .works .now) (c .before .before .before .before .before .before .levels-of .result) (S .pre .0 .fields .few-sources) (S .pre .1) (c .before .before .before .before .before .before .levels-of .ensures);
-        by-start = starts-of d (S .args .adds .now) (S .args .works .now) (c .before .before .before .before .before .starts-of .result) (S .pre .1) (c .before .before .before .before .before .starts-of .ensures);
+        by-level = levels-of d (S .args .brings .now) (S .args .works .now) (c .before .before .before .before .before .before .levels-of .result) (S .pre .0 .fields .few-sources) (S .pre .1) (c .before .before .before .before .before .before .levels-of .ensures);
+        by-start = starts-of d (S .args .brings .now) (S .args .works .now) (c .before .before .before .before .before .starts-of .result) (S .pre .1) (c .before .before .before .before .before .starts-of .ensures);
         by-critical = c .before .before .before .before .critical-of .ensures;
         by-source = c .sources-of .ensures;
         counted = refl;

@@ -10,13 +10,13 @@ use Rattle.loads.proofs.levels.levels_of.Statement.{statement}
 use Rattle.loads.proofs.levels.levels_of.Tie as tie
 
 abbrev Inv-loop : tie.InvT-loop
-Inv-loop adds works n m levels₀ j₀ levels j = (j ≤ n) × LevelsFrom adds works n m j levels
+Inv-loop brings works n m levels₀ j₀ levels j = (j ≤ n) × LevelsFrom brings works n m j levels
 
 abbrev μ-loop : tie.MeasureT-loop
-μ-loop adds works n m levels₀ j₀ levels j = j
+μ-loop brings works n m levels₀ j₀ levels j = j
 
 loop-holds : tie.Need-loop-holds Inv-loop μ-loop
-loop-holds c = (omega arith, levels-none (c .args .adds .now) (c .args .works .now) (c .args .n) (c .args .m) (c .pre .1))
+loop-holds c = (omega arith, levels-none (c .args .brings .now) (c .args .works .now) (c .args .n) (c .args .m) (c .pre .1))
 
 sub-j : tie.Need-sub-j Inv-loop μ-loop
 sub-j c = search needs
@@ -33,7 +33,7 @@ source-column-requires c κs =
     let L = c .before .before .before .loop in
     let b = L .j - 1 in
     let up : suc b ≡ L .j = omega arith in
-    (S .pre .1, omega (arith, S .pre .0), L .inv .1 .0, S .pre .2 b, λ u p. let e : 16 * b + 16 + u ≡ 16 * L .j + u = omega arith in omega (arith, rw (← e) at (L .inv .1 .1 (L .j) u (omega arith) (omega (arith, S .pre .0)) p), loadBy-most (getD (S .args .adds .now) (32 + u) 0) (S .args .works .now) (S .args .n) (suc (L .j)) (S .pre .0) (S .pre .2) (omega arith)))
+    (S .pre .1, omega (arith, S .pre .0), L .inv .1 .0, S .pre .2 b, λ u p. let e : 16 * b + 16 + u ≡ 16 * L .j + u = omega arith in omega (arith, rw (← e) at (L .inv .1 .1 (L .j) u (omega arith) (omega (arith, S .pre .0)) p), loadBy-most (getD (S .args .brings .now) (32 + u) 0) (S .args .works .now) (S .args .n) (suc (L .j)) (S .pre .0) (S .pre .2) (omega arith)))
 
 loop-less : tie.Need-loop-less Inv-loop μ-loop
 loop-less c = search needs
@@ -44,7 +44,7 @@ loop-again c =
     let L = c .before .before .before .before .loop in
     let b = L .j - 1 in
     let e : L .j ≡ suc b = omega arith in
-    (omega arith, levels-step (S .args .adds .now) (S .args .works .now) (S .args .n) (S .args .m) b (L .levels) _ (omega arith) (S .pre .0) (S .pre .1) (c .source-column .ensures) (rw e at (L .inv .1)))
+    (omega arith, levels-step (S .args .brings .now) (S .args .works .now) (S .args .n) (S .args .m) b (L .levels) _ (omega arith) (S .pre .0) (S .pre .1) (c .source-column .ensures) (rw e at (L .inv .1)))
 
 returns : tie.Need-returns Inv-loop μ-loop
 returns c =

@@ -11,13 +11,13 @@ use Rattle.loads.proofs.levels.starts_of.Statement.{statement}
 use Rattle.loads.proofs.levels.starts_of.Tie as tie
 
 abbrev Inv-loop : tie.InvT-loop
-Inv-loop adds works n starts₀ loads₀ j₀ starts loads j = (j ≤ n) × (length loads ≡ 32) × ((k : ℕ) → k < j → getD loads k 0 ≡ loadBy (getD adds k 0) works n (suc j)) × StartsFrom adds works n j starts
+Inv-loop brings works n starts₀ loads₀ j₀ starts loads j = (j ≤ n) × (length loads ≡ 32) × ((k : ℕ) → k < j → getD loads k 0 ≡ loadBy (getD brings k 0) works n (suc j)) × StartsFrom brings works n j starts
 
 abbrev μ-loop : tie.MeasureT-loop
-μ-loop adds works n starts₀ loads₀ j₀ starts loads j = j
+μ-loop brings works n starts₀ loads₀ j₀ starts loads j = j
 
 loop-holds : tie.Need-loop-holds Inv-loop μ-loop
-loop-holds c = (omega arith, refl, λ k p. zero-entry 32 k (omega (arith, c .pre .0)) ∙ sym (loadBy-none (getD (c .args .adds .now) k 0) (c .args .works .now) (c .args .n) (suc (c .args .n)) (omega arith)), starts-none (c .args .adds .now) (c .args .works .now) (c .args .n))
+loop-holds c = (omega arith, refl, λ k p. zero-entry 32 k (omega (arith, c .pre .0)) ∙ sym (loadBy-none (getD (c .args .brings .now) k 0) (c .args .works .now) (c .args .n) (suc (c .args .n)) (omega arith)), starts-none (c .args .brings .now) (c .args .works .now) (c .args .n))
 
 sub-j : tie.Need-sub-j Inv-loop μ-loop
 sub-j c = search needs
@@ -32,7 +32,7 @@ task-column-requires : tie.Need-task-column-requires Inv-loop μ-loop
 task-column-requires c κs =
     let S = c .before .before .before .before in
     let L = c .before .before .before .loop in
-    (omega (arith, S .pre .0), L .inv .1, S .pre .1 (L .j - 1), λ k p. omega (arith, L .inv .2 k (omega arith), loadBy-most (getD (S .args .adds .now) k 0) (S .args .works .now) (S .args .n) (suc (L .j)) (S .pre .0) (S .pre .1) (omega arith)))
+    (omega (arith, S .pre .0), L .inv .1, S .pre .1 (L .j - 1), λ k p. omega (arith, L .inv .2 k (omega arith), loadBy-most (getD (S .args .brings .now) k 0) (S .args .works .now) (S .args .n) (suc (L .j)) (S .pre .0) (S .pre .1) (omega arith)))
 
 mul-starts : tie.Need-mul-starts Inv-loop μ-loop
 mul-starts c = search needs
@@ -49,7 +49,7 @@ loop-again c =
     let L = c .before .before .before .before .loop in
     let b = L .j - 1 in
     let e : L .j ≡ suc b = omega arith in
-    let r = starts-step (S .args .adds .now) (S .args .works .now) (S .args .n) b (L .starts) (L .loads) (c .task-column .last .1 .1 .1 .0) (c .task-column .result) (omega arith) (S .pre .0) (L .inv .1) (rw e at (L .inv .2)) (c .task-column .ensures .0) (c .task-column .ensures .1) (rw e at (L .inv .3)) in
+    let r = starts-step (S .args .brings .now) (S .args .works .now) (S .args .n) b (L .starts) (L .loads) (c .task-column .last .1 .1 .1 .0) (c .task-column .result) (omega arith) (S .pre .0) (L .inv .1) (rw e at (L .inv .2)) (c .task-column .ensures .0) (c .task-column .ensures .1) (rw e at (L .inv .3)) in
     (omega arith, r .0, r .1, r .2)
 
 returns : tie.Need-returns Inv-loop μ-loop

@@ -13,14 +13,14 @@ use Rattle.loads.proofs.levels.task_column.Statement.{statement}
 use Rattle.loads.proofs.levels.task_column.Tie as tie
 
 abbrev Inv-loop : tie.InvT-loop
-Inv-loop adds j w loads₀ best₀ k₀ loads best k = (k ≤ j) × Column 0 adds j w k loads₀ loads × (best ≡ topN (λ k. getD loads k 0) 0 k)
+Inv-loop brings j w loads₀ best₀ k₀ loads best k = (k ≤ j) × Column 0 brings j w k loads₀ loads × (best ≡ topN (λ k. getD loads k 0) 0 k)
 
 abbrev μ-loop : tie.MeasureT-loop
-μ-loop adds j w loads₀ best₀ k₀ loads best k = j - k
+μ-loop brings j w loads₀ best₀ k₀ loads best k = j - k
 
 loop-holds : tie.Need-loop-holds Inv-loop μ-loop
 unfolding topN
-loop-holds c = (omega arith, column-none 0 (c .args .adds .now) (c .args .j) (c .args .w) (c .args .loads .now), refl)
+loop-holds c = (omega arith, column-none 0 (c .args .brings .now) (c .args .j) (c .args .w) (c .args .loads .now), refl)
 
 mul-load : tie.Need-mul-load Inv-loop μ-loop
 mul-load c = search needs
@@ -41,7 +41,7 @@ add-load : tie.Need-add-load Inv-loop μ-loop
 add-load c =
     let S = c .before .before .before .before .before in
     let L = c .before .before .before .before .loop in
-    omega (arith, S .pre .2, S .pre .3 (L .k) (omega arith), L .inv .1 .2 (L .k) (omega arith), c .part .ensures, given-le (member (getD (S .args .adds .now) (L .k) 0) (S .args .j)) (S .args .w) (S .args .w) (λ e. omega arith))
+    omega (arith, S .pre .2, S .pre .3 (L .k) (omega arith), L .inv .1 .2 (L .k) (omega arith), c .part .ensures, given-le (member (getD (S .args .brings .now) (L .k) 0) (S .args .j)) (S .args .w) (S .args .w) (λ e. omega arith))
 
 mul-loads : tie.Need-mul-loads Inv-loop μ-loop
 mul-loads c = search needs
@@ -66,7 +66,7 @@ loop-again c =
     let z : 0 + L .k ≡ L .k = omega arith in
     let long : L .k < length (S .args .loads .now) = omega (arith, S .pre .1, S .pre .0) in (
       omega arith,
-      column-more 0 (S .args .adds .now) (S .args .j) (S .args .w) (L .k) (S .args .loads .now) (L .loads) x long (rw z (ap (λ y. getD (L .loads) (L .k) 0 + y) (c .before .part .ensures))) (L .inv .1),
+      column-more 0 (S .args .brings .now) (S .args .j) (S .args .w) (L .k) (S .args .loads .now) (L .loads) x long (rw z (ap (λ y. getD (L .loads) (L .k) 0 + y) (c .before .part .ensures))) (L .inv .1),
       c .larger .ensures ∙ ap (λ b. max b x) (L .inv .2) ∙ sym (top-set (L .loads) (L .k) x (omega (arith, L .inv .1 .0))),
     )
 

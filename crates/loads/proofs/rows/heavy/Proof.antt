@@ -11,10 +11,10 @@ use Rattle.loads.proofs.rows.heavy.Statement.{statement}
 use Rattle.loads.proofs.rows.heavy.Tie as tie
 
 abbrev Inv-loop : tie.InvT-loop
-Inv-loop adds works n i₀ i = (i ≤ 48) × ((r : ℕ) → r < i → loadBy (getD adds r 0) works n 1 ≤ 1000000000)
+Inv-loop brings works n i₀ i = (i ≤ 48) × ((r : ℕ) → r < i → loadBy (getD brings r 0) works n 1 ≤ 1000000000)
 
 abbrev μ-loop : tie.MeasureT-loop
-μ-loop adds works n i₀ i = 48 - i
+μ-loop brings works n i₀ i = 48 - i
 
 sum-of-requires : tie.Need-sum-of-requires Inv-loop μ-loop
 sum-of-requires c κs = search needs
@@ -22,7 +22,7 @@ sum-of-requires c κs = search needs
 returns : tie.Need-returns Inv-loop μ-loop
 returns c =
     let S = c .before .before in
-    sym (heavy-none (S .args .adds .now) (S .args .works .now) (S .args .n) (λ r p. omega (arith, load-under (getD (S .args .adds .now) r 0) (S .args .works .now) (S .args .n), c .if1 .taken, c .before .sum-of .ensures)))
+    sym (heavy-none (S .args .brings .now) (S .args .works .now) (S .args .n) (λ r p. omega (arith, load-under (getD (S .args .brings .now) r 0) (S .args .works .now) (S .args .n), c .if1 .taken, c .before .sum-of .ensures)))
 
 loop-holds : tie.Need-loop-holds Inv-loop μ-loop
 loop-holds c = (omega arith, λ r p. absurd (omega arith))
@@ -40,7 +40,7 @@ returns-2 : tie.Need-returns-2 Inv-loop μ-loop
 returns-2 c =
     let S = c .before .before .before .before .before .before .before in
     let L = c .before .before .before .before .loop in
-    sym (heavy-found (S .args .adds .now) (S .args .works .now) (S .args .n) (L .i) (omega arith) (omega (arith, c .if2 .taken, c .before .total .ensures)))
+    sym (heavy-found (S .args .brings .now) (S .args .works .now) (S .args .n) (L .i) (omega arith) (omega (arith, c .if2 .taken, c .before .total .ensures)))
 
 add-i : tie.Need-add-i Inv-loop μ-loop
 add-i c = search needs
@@ -52,13 +52,13 @@ loop-again : tie.Need-loop-again Inv-loop μ-loop
 loop-again c =
     let S = c .before .before .before .before .before .before .before in
     let L = c .before .before .before .before .loop in
-    (omega arith, under (λ r. loadBy (getD (S .args .adds .now) r 0) (S .args .works .now) (S .args .n) 1 ≤ 1000000000) (L .i) (L .inv .1) (omega (arith, c .if2 .left, c .before .total .ensures)))
+    (omega arith, under (λ r. loadBy (getD (S .args .brings .now) r 0) (S .args .works .now) (S .args .n) 1 ≤ 1000000000) (L .i) (L .inv .1) (omega (arith, c .if2 .left, c .before .total .ensures)))
 
 returns-3 : tie.Need-returns-3 Inv-loop μ-loop
 returns-3 c =
     let S = c .before .before .before .before in
     let L = c .before .loop in
-    sym (heavy-none (S .args .adds .now) (S .args .works .now) (S .args .n) (λ r p. L .inv .1 r (omega arith)))
+    sym (heavy-none (S .args .brings .now) (S .args .works .now) (S .args .n) (λ r p. L .inv .1 r (omega arith)))
 
 pub heavy-spec : {M : Type 1} → statement M
 heavy-spec =

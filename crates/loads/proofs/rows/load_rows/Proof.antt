@@ -11,10 +11,10 @@ use Rattle.loads.proofs.rows.load_rows.Statement.{statement}
 use Rattle.loads.proofs.rows.load_rows.Tie as tie
 
 abbrev Inv-loop : tie.InvT-loop
-Inv-loop adds works n t₀ i₀ t i = (i ≤ 48) × (length t ≡ 48) × ((r : ℕ) → r < i → RowBy (getD adds r 0) works n (getD t r []))
+Inv-loop brings works n t₀ i₀ t i = (i ≤ 48) × (length t ≡ 48) × ((r : ℕ) → r < i → RowBy (getD brings r 0) works n (getD t r []))
 
 abbrev μ-loop : tie.MeasureT-loop
-μ-loop adds works n t₀ i₀ t i = 48 - i
+μ-loop brings works n t₀ i₀ t i = 48 - i
 
 loop-holds : tie.Need-loop-holds Inv-loop μ-loop
 loop-holds c = (omega arith, refl, λ r p. absurd (omega arith))
@@ -44,7 +44,7 @@ loop-again : tie.Need-loop-again Inv-loop μ-loop
 loop-again c =
     let S = c .before .before .before .before in
     let L = c .before .before .before .loop in
-    (omega arith, simp length-set (L .inv .1), stored (λ r x. RowBy (getD (S .args .adds .now) r 0) (S .args .works .now) (S .args .n) x) [] (L .t) (L .i) (c .load-row .result) (omega (arith, L .inv .1)) (L .inv .2) (c .load-row .ensures))
+    (omega arith, simp length-set (L .inv .1), stored (λ r x. RowBy (getD (S .args .brings .now) r 0) (S .args .works .now) (S .args .n) x) [] (L .t) (L .i) (c .load-row .result) (omega (arith, L .inv .1)) (L .inv .2) (c .load-row .ensures))
 
 returns : tie.Need-returns Inv-loop μ-loop
 returns c = let L = c .before .loop in (L .inv .1, λ r p. L .inv .2 r (omega arith))

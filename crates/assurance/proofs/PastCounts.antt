@@ -4,7 +4,7 @@ use mathlib.Core.Path.{_≡_, refl, ap, _∙_}
 use mathlib.Core.Bool.{Bool, true, false, cond, not, _||_, _&&_}
 use mathlib.Core.List.{List, [], _∷_}
 use native.Mathlib.Omega.{arith}
-use lib.ListN.{getD, replicate}
+use lib.ListN.{length, getD, replicate}
 use lib.Dec.{eqb, ltb, leb}
 use borrow.Author.Tests.{ltb-true, leb-true}
 use Rattle.model.specs.declared.Link.{Link}
@@ -12,14 +12,18 @@ use Rattle.model.specs.declared.Description.{Description}
 use Rattle.model.specs.declared.Machine.{Machine}
 use Rattle.model.specs.declared.Arrivals.{Arrivals}
 use Rattle.model.specs.declared.Ticked.{Ticked}
+use Rattle.model.specs.declared.Outcome.{Outcome}
 use Rattle.model.specs.declared.Outcome.the-variants.{Done}
+use Rattle.model.specs.declared.Refusal.the-variants.{ShortPage}
 use Rattle.model.specs.Basics.{upTo, allN, anyN}
 use Rattle.model.specs.Delays.{spacingOf}
 use Rattle.model.specs.Graph.{runOf}
-use Rattle.model.specs.File.{SameTo, Widths}
+use Rattle.model.specs.Refusals.{onDone}
+use Rattle.model.specs.File.{SameTo, Widths, filledBy}
 use Rattle.model.specs.Verdicts.{judgeAt}
-use Rattle.model.specs.Machine.{awakeAt, usedAt, waitingAt, ageAt, setAwake, setUsed, setWaiting, setAge, markDropped, idle, started, taskRule, linkRule, sourceRule, lawful, fireLink, fire, arriveOne, arrive, highestIn, highest, runTask, clearLink, clearInto, endRun, ageOne, ageAll, stepped, strangers, tooSoon, judgeTick, plainTick}
+use Rattle.model.specs.Machine.{awakeAt, usedAt, waitingAt, ageAt, setAwake, setUsed, setWaiting, setAge, markDropped, idle, unstarted, started, taskRule, linkRule, sourceRule, lawful, fireLink, fire, arriveOne, arrive, highestIn, highest, runTask, clearLink, clearInto, endRun, ageOne, ageAll, stepped, strangers, tooSoon, judgeTick, plainTick}
 use Rattle.model.specs.History.{Call, answers, left}
+use Rattle.model.specs.Run.{codes, page, ranFrom, ran, pageRan}
 use Rattle.lemmas.proofs.Range.{any-cong, all-cong, upTo-alike}
 use Rattle.lemmas.proofs.Table.{tab-cong}
 use Rattle.theory.proofs.FileLaws.{at-known}
@@ -150,3 +154,16 @@ module _ (d e : Description) (s : SameTo d e) where
     same-left m (c ∷ cs) =
         ap (λ (r : Ticked). left d t (r .machine) cs) (same-tick m (c .arrivals) (c .finish))
         ∙ same-left (plainTick e t m (c .arrivals) (c .finish) .machine) cs
+
+    -- the run call: its answer, and the buffer it leaves
+    pub same-ran : (cs : List Call) (buffer : List ℕ) → ran d t cs buffer ≡ ran e t cs buffer
+    unfolding ran
+    same-ran cs buffer =
+        ap (λ (m : Machine). onDone (judgeAt d t) (cond (ltb (length buffer) (length cs)) (unstarted ShortPage 0) (record { outcome = Done; machine = m })) unstarted) (same-left (idle d t) cs ∙ ap (λ (m : Machine). left e t m cs) (same-idle t))
+        ∙ ap (λ (o : Outcome). onDone o (ranFrom e t cs buffer) unstarted) (same-knob d e s t)
+
+    pub same-page-ran : (cs : List Call) (buffer : List ℕ) → pageRan d t cs buffer ≡ pageRan e t cs buffer
+    unfolding pageRan
+    same-page-ran cs buffer =
+        ap (λ (rs : List Ticked). onDone (judgeAt d t) (filledBy (codes rs) buffer) (λ r place. buffer)) (same-answers (idle d t) cs ∙ ap (λ (m : Machine). answers e t m cs) (same-idle t))
+        ∙ ap (λ (o : Outcome). onDone o (filledBy (page e t cs) buffer) (λ r place. buffer)) (same-knob d e s t)

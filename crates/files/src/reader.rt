@@ -1,10 +1,10 @@
 // Reading a whole file from a reading place in the caller's bytes.
 
 use crate::read_at;
-use model::Reading;
 pub use fields::reader::Reader;
 pub use fields::reader::new;
 pub use fields::reader::next;
+use model::Reading;
 ghost use mathlib.Core.Path.{_≡_};
 ghost use Rattle.model.specs.File.{readFrom};
 

@@ -10,6 +10,8 @@ ghost use Prim.Native.Nat.{_+_, _≤_, _<_};
 ghost use lib.ListN.{length, getD};
 ghost use Rattle.model.specs.Field.{numberIn, bodyLength, fieldIn, takeField, fieldOf, fieldBytes};
 
+pub mod reader;
+
 // The byte at a place.
 fn byte_at(s: &[u8], at: usize) -> u32
     requires { ⌜ at < length (now s) ⌝ }

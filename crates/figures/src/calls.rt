@@ -6,6 +6,7 @@ use crate::cases::is_outcome;
 use model::Arrivals;
 use model::Description;
 use model::Filled;
+use model::Found;
 use model::Machine;
 use model::Outcome;
 use model::Quote;
@@ -17,6 +18,37 @@ ghost use Prim.Native.Nat.{_<_, _≤_};
 pub fn described(file: &[u8]) -> Description {
     let r = files::read(file);
     r.description
+}
+
+// At an offset of a file the reader finds a field, and its place is then at another.
+pub fn takes_field(t: Tally, file: &[u8], at: usize, after: usize) -> Tally {
+    let step = fields::reader::next_at(file, at);
+    let found = step.found;
+    let Found::Read(_) = found else {
+        return counted(t, false);
+    };
+    counted(t, step.at == after)
+}
+
+// At an offset of a file the reader is refused with a number and a place, and stays.
+pub fn takes_refusal(t: Tally, file: &[u8], at: usize, number: usize) -> Tally {
+    let step = fields::reader::next_at(file, at);
+    let found = step.found;
+    let Found::Unread(why, place) = found else {
+        return counted(t, false);
+    };
+    let n = number_of(why);
+    counted(t, n == number && place == at && step.at == at)
+}
+
+// At an offset of a file the reader finds the end, and stays.
+pub fn takes_end(t: Tally, file: &[u8], at: usize) -> Tally {
+    let step = fields::reader::next_at(file, at);
+    let found = step.found;
+    let Found::Nothing = found else {
+        return counted(t, false);
+    };
+    counted(t, step.at == at)
 }
 
 // A record is judged as done, number 0, or refused with a number and a place.

@@ -320,6 +320,20 @@ fn single() -> Description {
     )
 }
 
+// Box field by field from a reading place: a task, a paced source, a link, and the end; then a strange tag, a wrong length and a cut body.
+fn taking() -> Tally {
+    let t = cases::none();
+    let t = calls::takes_field(t, &BOX, 0, 7);
+    let t = calls::takes_field(t, &BOX, 21, 26);
+    let t = calls::takes_field(t, &BOX, 51, 57);
+    let t = calls::takes_end(t, &BOX, 57);
+    let t = calls::takes_end(t, &BOX, 58);
+    let t = calls::takes_refusal(t, &BOX, 1, 2);
+    let t = calls::takes_refusal(t, b"\x01\x00\x04\x00\x00\x00\x01\x02\x00\x02\x00\x01", 7, 3);
+    let t = calls::takes_refusal(t, b"\x01\x00\x04\x00\x00\x00\x01\x02\x00\x04\x00\x01", 7, 1);
+    calls::takes_refusal(t, b"\x01\x00", 0, 1)
+}
+
 // A record is judged as its file would be: 8 for a blank one, 9 and 10 where its links or runs are changed, 5 at 0 for a count above its
 // limit, and 6, 7 and 4 at the changed field.
 fn judging() -> Tally {
@@ -509,6 +523,7 @@ fn main() {
     print_group(b"P6, P7", marked_orders());
     print_group(b"P8, P10", marked_others());
     print_group(b"P9", marked_ticks());
+    print_group(b"fields from a reading place", taking());
     print_group(b"records judged", judging());
     print_group(b"quotes", quoting());
     print_group(b"buffers just filled", buffers());

@@ -1,2 +1,3 @@
 -- Facts about the definitions that pin them, beside them.
 pub mod Figures
+pub mod Steps

@@ -11,10 +11,13 @@ use Rattle.model.specs.declared.Field.the-variants.{OfTask, OfSource, Of
 use Rattle.model.specs.declared.Refusal.the-variants.{CutShort, StrangeTag, WrongLength, OutOfTurn, TooMany, OffScale, NoSuchEnd}
 use Rattle.model.specs.declared.Taken.{Taken}
 use Rattle.model.specs.declared.Taken.the-variants.{Whole, Broken, End}
+use Rattle.model.specs.declared.Found.{Found}
+use Rattle.model.specs.declared.Found.the-variants.{Read, Unread, Nothing}
+use Rattle.model.specs.declared.Step.{Step}
 use Rattle.model.specs.declared.Progress.{Progress}
 use Rattle.model.specs.declared.Check.{Check}
 use Rattle.model.specs.declared.Check.the-variants.{Fine, Unfit}
-use Rattle.model.specs.Refusals.{noLink, noSource}
+use Rattle.model.specs.Refusals.{Numbered, accepted, refusal, noLink, noSource}
 
 -- "Numbers have their high byte first": x in n bytes, and the number in the n bytes from `at` on
 unfoldable pub bytesOf : ℕ → ℕ → List ℕ
@@ -62,6 +65,21 @@ takeField s at =
     (cond (not (eqb (numberIn s (at + 1) 2) (bodyLength (getD s at 0)))) (Broken WrongLength)
     (cond (ltb (length s - at - 3) (bodyLength (getD s at 0))) (Broken CutShort)
     (Whole (fieldIn s (getD s at 0) (at + 3)) (at + 3 + bodyLength (getD s at 0)))))))
+
+-- one step from a reading place: past a whole field; a refused one, with "the offset of the field's tag", and the end leave the place where it is
+abbrev pub stepOf : Taken → ℕ → Step
+stepOf (Whole f next) at = record { found = Read f; at = next }
+stepOf (Broken r) at = record { found = Unread r at; at = at }
+stepOf End at = record { found = Nothing; at = at }
+
+abbrev pub stepAt : List ℕ → ℕ → Step
+stepAt s at = stepOf (takeField s at) at
+
+-- what a reader finds, in document 01's numbers: the tag of a field, or a refusal with its place; at the end 0, which is no tag
+abbrev pub ofFound : Found → Numbered
+ofFound (Read f) = accepted (tagOf f)
+ofFound (Unread r place) = refusal r place
+ofFound Nothing = accepted 0
 
 -- "Tasks come first, then sources of both kinds, then links"; "links rise strictly by from, then by to"
 abbrev pub inTurn : Progress → Field → Bool

@@ -68,6 +68,19 @@ pub enum Taken {
     End,
 }
 
+// What a reader finds at its place: a whole field, a refusal with the offset of the field's tag, or the end of the file.
+pub enum Found {
+    Read(Field),
+    Unread(Refusal, usize),
+    Nothing,
+}
+
+// One step of a reader: what it found, and its place after that.
+pub struct Step {
+    pub found: Found,
+    pub at: usize,
+}
+
 // What the fields read so far fix about the next one: the counts, and the ends of the last link.
 pub struct Progress {
     pub tasks: usize,

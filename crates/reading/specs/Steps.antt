@@ -6,6 +6,8 @@ use Rattle.model.specs.declared.Field.{Field}
 use Rattle.model.specs.declared.Refusal.the-variants.{CutShort, TooMany}
 use Rattle.model.specs.declared.Taken.{Taken}
 use Rattle.model.specs.declared.Taken.the-variants.{Whole, Broken, End}
+use Rattle.model.specs.declared.Found.{Found}
+use Rattle.model.specs.declared.Found.the-variants.{Read, Unread, Nothing}
 use Rattle.model.specs.declared.Progress.{Progress}
 use Rattle.model.specs.declared.Check.{Check}
 use Rattle.model.specs.declared.Check.the-variants.{Fine, Unfit}
@@ -25,11 +27,11 @@ checkedTaken p (Whole f next) = ifFine (checkField p f) f next
 checkedTaken p (Broken r) = Broken r
 checkedTaken p End = End
 
--- the answer of a reading that ends at a place: "a refusal carries its number and the offset of the field's tag"
-abbrev pub stoppedAt : Taken → ℕ → Description → Reading
-stoppedAt (Whole f next) at d = refusedReading CutShort at
-stoppedAt (Broken r) at d = refusedReading r at
-stoppedAt End at d = record { outcome = Done; description = d }
+-- the answer of a reading that finds no field more: "a refusal carries its number and the offset of the field's tag"
+abbrev pub stoppedBy : Found → Description → Reading
+stoppedBy (Read f) d = refusedReading CutShort 0
+stoppedBy (Unread r place) d = refusedReading r place
+stoppedBy Nothing d = record { outcome = Done; description = d }
 
 abbrev pub unfitAt : Check → ℕ → Outcome
 unfitAt Fine at = Done

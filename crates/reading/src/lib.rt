@@ -1,50 +1,55 @@
 // All fields of a description file from a place on, and the fields of a record: the refusals 1 to 7 with their places.
 use checks::advanced;
 use checks::check_field;
-use fields::field_at;
 use fields::field_length;
 use fields::field_of;
+use fields::reader::next_at;
 use model::Check;
 use model::Description;
 use model::Field;
+use model::Found;
 use model::Outcome;
 use model::Progress;
 use model::Reading;
 use model::Refusal;
 use model::SourceSlot;
-use model::Taken;
+use model::Step;
 use refusals::blank;
 use refusals::refused_reading;
 ghost use mathlib.Core.Path.{_≡_};
 ghost use mathlib.Core.Bool.{_||_};
 ghost use lib.Dec.{ltb};
-ghost use Rattle.model.specs.Field.{takeField};
+ghost use Rattle.model.specs.Field.{takeField, stepOf};
 ghost use Rattle.model.specs.File.{parseAt};
-ghost use Rattle.reading.specs.Steps.{checkedTaken, stoppedAt, unfitAt, recordChecks};
+ghost use Rattle.reading.specs.Steps.{checkedTaken, stoppedBy, unfitAt, recordChecks};
 
-// The field at a reading place, if it may stand there.
-fn checked_at(s: &[u8], at: usize, p: Progress) -> Taken
-    ensures { λ r. ⌜ r ≡ checkedTaken p (takeField (now (s .entry)) at) ⌝ }
+// The field that a reader at a place gives, if it may stand there, and the place after it.
+fn checked_at(s: &[u8], at: usize, p: Progress) -> Step
+    ensures { λ r. ⌜ r ≡ stepOf (checkedTaken p (takeField (now (s .entry)) at)) at ⌝ }
 {
-    let t = field_at(s, at);
-    let Taken::Whole(f, next) = t else {
-        return t;
+    let step = next_at(s, at);
+    let found = step.found;
+    let Found::Read(f) = found else {
+        return step;
     };
     let c = check_field(p, f);
     match c {
-        Check::Fine => Taken::Whole(f, next),
-        Check::Unfit(r) => Taken::Broken(r),
+        Check::Fine => step,
+        Check::Unfit(r) => Step {
+            found: Found::Unread(r, at),
+            at,
+        },
     }
 }
 
-// The answer of a reading that ends at a place: a refusal with its offset, or the description.
-fn stopped(t: Taken, at: usize, d: Description) -> Reading
-    ensures { λ r. ⌜ r ≡ stoppedAt t at d ⌝ }
+// The answer of a reading that finds no field more: the refusal with its offset, or the description.
+fn stopped(found: Found, d: Description) -> Reading
+    ensures { λ r. ⌜ r ≡ stoppedBy found d ⌝ }
 {
-    match t {
-        Taken::Whole(_, _) => refused_reading(Refusal::CutShort, at),
-        Taken::Broken(r) => refused_reading(r, at),
-        Taken::End => Reading {
+    match found {
+        Found::Read(_) => refused_reading(Refusal::CutShort, 0),
+        Found::Unread(r, place) => refused_reading(r, place),
+        Found::Nothing => Reading {
             outcome: Outcome::Done,
             description: d,
         },
@@ -65,9 +70,10 @@ pub fn parse(s: &[u8], start: usize) -> Reading
     };
     let mut at: usize = start;
     loop {
-        let t = checked_at(s, at, p);
-        let Taken::Whole(f, next) = t else {
-            return stopped(t, at, d);
+        let step = checked_at(s, at, p);
+        let found = step.found;
+        let Found::Read(f) = found else {
+            return stopped(found, d);
         };
         match f {
             Field::OfTask(e) => {
@@ -87,7 +93,7 @@ pub fn parse(s: &[u8], start: usize) -> Reading
             }
         }
         p = advanced(p, f);
-        at = next;
+        at = step.at;
     }
 }
 

@@ -39,16 +39,16 @@ use denote.Triple.Clauses.{ensured, lasts}
 use Rattle.model.specs.File.{readFile}
 use Rattle.model.specs.File.{readFrom}
 use Rattle.files.proofs.Laws.{read-start}
-use Rattle.files.specs.declared.reader.Reader.{Reader}
+use Rattle.fields.specs.declared.reader.Reader.{Reader}
 use Rattle.model.specs.declared.Reading.{Reading}
-use Rattle.files.proofs.reader.Reader as T
-use Rattle.files.proofs.reader.Reader.Laws as T′
+use Rattle.fields.proofs.reader.Reader as T
+use Rattle.fields.proofs.reader.Reader.Laws as T′
 use Rattle.model.proofs.Reading as S
 use Rattle.model.proofs.Reading.Laws as S′
-use Rattle.files.proofs.reader.new as new
-use Rattle.files.proofs.reader.new.Symbol as new-def
-use Rattle.files.proofs.reader.new.Symbol.{name as #files·reader·new}
-use Rattle.files.proofs.reader.new.Met as new-thm
+use Rattle.fields.proofs.reader.new as new
+use Rattle.fields.proofs.reader.new.Symbol as new-def
+use Rattle.fields.proofs.reader.new.Symbol.{name as #fields·reader·new}
+use Rattle.fields.proofs.reader.new.Met as new-thm
 use Rattle.files.proofs.reader.read_from as from-place
 use Rattle.files.proofs.reader.read_from.Symbol as from-def
 use Rattle.files.proofs.reader.read_from.Symbol.{name as #files·reader·read-from}
@@ -120,7 +120,7 @@ module _ {M : Type 1} (𝓤 : URA M) (H : Heap 𝓤) (A : Atoms 𝓤) (W : Given
       suffices ! _ (ends-at 𝓤 H A read.ended stayed (read.clauses 𝓤 H A mem run) W (((κ, tt), (q, tt), tt, (s, tt), (v ∷ [], tt)), tt) u t (tt, tt) (tt, tt)) $ says ! e $
       move ! (1 ∷ []) $ frame ! $ nothing ! $ move ! (2 ∷ 0 ∷ []) $ fjoin ! $ frame ! $ done !
 
-  module _ (C : Calls 𝓤 H) (Λ : Loops 𝓤 H) (fm : FmC 𝓤 H (W .laws) C) (known-new : Triple 𝓤 (C #files·reader·new) (New 𝓤 H A mem run)) (known-from : Triple 𝓤 (C #files·reader·read-from) (From 𝓤 H A mem run)) where
+  module _ (C : Calls 𝓤 H) (Λ : Loops 𝓤 H) (fm : FmC 𝓤 H (W .laws) C) (known-new : Triple 𝓤 (C #fields·reader·new) (New 𝓤 H A mem run)) (known-from : Triple 𝓤 (C #files·reader·read-from) (From 𝓤 H A mem run)) where
     walk : Is (ShrSlice (named 0) κ u8) s (v ∷ []) → ent 𝓤 (onEntry 𝓤 H A read.signature (κ, tt) (q, tt) (s, tt) (v ∷ [], tt)) (WpFn 𝓤 H C Λ code.function (v ∷ []) Post)
     walk p =
         qed W (raw (onEntry 𝓤 H A read.signature (κ, tt) (q, tt) (s, tt) (v ∷ [], tt)) ∷ []) ∵ enter ! C Λ code.function (v ∷ []) _ $
@@ -143,13 +143,13 @@ module _ {M : Type 1} (𝓤 : URA M) (H : Heap 𝓤) (A : Atoms 𝓤) (W : Given
         by ! (exits t u′ (e′ ∙ (ap (λ (x : RefT (List ℕ)). readFrom (now x) (r .at)) (e .0) ∙ ap (readFrom (now s)) (e .1) ∙ read-start (now s)))))))))))))))
 
 module _ {M : Type 1} (𝓤 : URA M) (H : Heap 𝓤) (A : Atoms 𝓤) (W : Given 𝓤 H A) (mem : Memory → SProp 𝓤) (run : Routine → Fun 𝓤) where
-  read-walks : (C : Calls 𝓤 H) (Λ : Loops 𝓤 H) → FmC 𝓤 H (W .laws) C → Triple 𝓤 (C #files·reader·new) (New 𝓤 H A mem run) → Triple 𝓤 (C #files·reader·read-from) (From 𝓤 H A mem run)
+  read-walks : (C : Calls 𝓤 H) (Λ : Loops 𝓤 H) → FmC 𝓤 H (W .laws) C → Triple 𝓤 (C #fields·reader·new) (New 𝓤 H A mem run) → Triple 𝓤 (C #files·reader·read-from) (From 𝓤 H A mem run)
       → Walks 𝓤 H A read.ended stayed (WpFn 𝓤 H C Λ code.function) (read.clauses 𝓤 H A mem run)
   read-walks C Λ fm known-new known-from = walked 𝓤 H A read.ended stayed (read.clauses 𝓤 H A mem run) (WpFn 𝓤 H C Λ code.function) (λ κs. (slice-vals, tt)) (λ κs. (shr-slice-tells (named 0) (κs .0) u8, tt))
       (λ κs qs bounds a g are. via 𝓤 _ (fst∗ 𝓤 _ (emp 𝓤)) (walk 𝓤 H A W mem run (κs .0) (qs .0) (a .0) C Λ fm known-new known-from (are .0)))
 
 read-meets : {M : Type 1} (𝓤 : URA M) (H : Heap 𝓤) (A : Atoms 𝓤) (W : Given 𝓤 H A) (mem : Memory → SProp 𝓤) (run : Routine → Fun 𝓤) (𝓣 : Tables 𝓤 H)
-    → Triple 𝓤 (𝓣 .C #files·reader·new) (New 𝓤 H A mem run) → Triple 𝓤 (𝓣 .C #files·reader·read-from) (From 𝓤 H A mem run)
+    → Triple 𝓤 (𝓣 .C #fields·reader·new) (New 𝓤 H A mem run) → Triple 𝓤 (𝓣 .C #files·reader·read-from) (From 𝓤 H A mem run)
     → Meets 𝓤 H A read.signature (WpFn 𝓤 H (𝓣 .C) (𝓣 .Λ) code.function) (read.spec 𝓤 H A mem run)
 read-meets 𝓤 H A W mem run 𝓣 known-new known-from = walk-meets 𝓤 H A read.ended stayed W (goes-none-slice 𝓤 H A W 1 (0 ∷ []) tt (plain (λ _. u8)) yes, tt) (read.clauses 𝓤 H A mem run) (WpFn 𝓤 H (𝓣 .C) (𝓣 .Λ) code.function) (WpFn-mono 𝓤 H (W .laws) 𝓣 code.function)
     (read-walks 𝓤 H A W mem run (𝓣 .C) (𝓣 .Λ) (fmOf 𝓤 H (W .laws) 𝓣) known-new known-from)
@@ -160,5 +160,5 @@ read-spec 𝓤 H 𝓜 𝓖 𝓡 =
     entered 𝓤 H (tripleOf 𝓤 H (𝓖 .A) read.signature (read.spec 𝓤 H (𝓖 .A) (𝓜 .mem) (𝓡 .run)))
     (tables 𝓤 H 𝓜 𝓡 code.env .C) (tables 𝓤 H 𝓜 𝓡 code.env .Λ) #files·read code.function (code.unfolded 𝓤 H 𝓜 𝓡)
     (read-meets 𝓤 H (𝓖 .A) (givenOf 𝓤 H 𝓜 𝓖) (𝓜 .mem) (𝓡 .run) (tablesOf 𝓤 H 𝓜 (tables 𝓤 H 𝓜 𝓡 code.env))
-    (cited 𝓤 H (New 𝓤 H (𝓖 .A) (𝓜 .mem) (𝓡 .run)) 𝓜 𝓡 code.env #files·reader·new new-def.routine code.calls-files·reader·new (new-thm.met 𝓤 H 𝓜 𝓖 𝓡))
+    (cited 𝓤 H (New 𝓤 H (𝓖 .A) (𝓜 .mem) (𝓡 .run)) 𝓜 𝓡 code.env #fields·reader·new new-def.routine code.calls-fields·reader·new (new-thm.met 𝓤 H 𝓜 𝓖 𝓡))
     (cited 𝓤 H (From 𝓤 H (𝓖 .A) (𝓜 .mem) (𝓡 .run)) 𝓜 𝓡 code.env #files·reader·read-from from-def.routine code.calls-files·reader·read-from (from-thm.met 𝓤 H 𝓜 𝓖 𝓡)))

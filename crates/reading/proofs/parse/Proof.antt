@@ -13,7 +13,7 @@ use Rattle.model.specs.declared.Check.the-variants.{Fine}
 use Rattle.model.specs.Field.{takeField, checkField, withField}
 use Rattle.theory.proofs.JudgeLaws.{Passes, fine-passes}
 use Rattle.model.specs.File.{parseAt}
-use Rattle.reading.proofs.Laws.{fine-taken, ReadsAs, reads-more, reads-stop}
+use Rattle.reading.proofs.Laws.{fine-taken, step-read, ReadsAs, reads-more, reads-stop}
 use Rattle.reading.proofs.parse.Statement.{statement}
 use Rattle.reading.proofs.parse.Tie as tie
 use Rattle.lemmas.proofs.Tests.{cases}
@@ -26,15 +26,15 @@ abbrev μ-loop : tie.MeasureT-loop
 μ-loop s start d₀ p₀ at₀ d p at = length s - at
 
 -- the field that was taken, and that it may stand where it does
-taken-fine : (c : tie.After-known-told Inv-loop μ-loop) → (takeField (c .before .before .before .before .before .before .before .args .s .now) (c .before .before .before .before .loop .at) ≡ Whole (c .before .t .given .0 .0) (c .before .t .given .0 .1 .0)) × (checkField (c .before .before .before .before .loop .p) (c .before .t .given .0 .0) ≡ Fine)
+taken-fine : (c : tie.After-known-told Inv-loop μ-loop) → (takeField (c .before .before .before .before .before .before .before .args .s .now) (c .before .before .before .before .loop .at) ≡ Whole (c .before .found .given .0 .0) (c .before .before .before .checked-at .result .at)) × (checkField (c .before .before .before .before .loop .p) (c .before .found .given .0 .0) ≡ Fine)
 taken-fine c =
-    fine-taken (c .before .before .before .before .loop .p) _ _ _ (sym (c .before .before .before .checked-at .ensures) ∙ c .before .t .given .1)
+    fine-taken (c .before .before .before .before .loop .p) _ _ _ (step-read _ (c .before .before .before .before .loop .at) (c .before .before .before .checked-at .result) (c .before .found .given .0 .0) (c .before .before .before .checked-at .ensures) (c .before .found .given .1))
 
-passes : (c : tie.After-known-told Inv-loop μ-loop) → Passes (c .before .before .before .before .loop .p) (c .before .t .given .0 .0)
-passes c = fine-passes (c .before .before .before .before .loop .p) (c .before .t .given .0 .0) (taken-fine c .1)
+passes : (c : tie.After-known-told Inv-loop μ-loop) → Passes (c .before .before .before .before .loop .p) (c .before .found .given .0 .0)
+passes c = fine-passes (c .before .before .before .before .loop .p) (c .before .found .given .0 .0) (taken-fine c .1)
 
 -- the description after the match has the field
-with-it : (c : tie.At-match2-came Inv-loop μ-loop) → (c .match2 .d ≡ withField (c .before .before .before .before .before .loop .d) (c .before .before .t .given .0 .0)) × (c .match2 .f ≡ c .before .before .t .given .0 .0)
+with-it : (c : tie.At-match2-came Inv-loop μ-loop) → (c .match2 .d ≡ withField (c .before .before .before .before .before .loop .d) (c .before .before .found .given .0 .0)) × (c .match2 .f ≡ c .before .before .found .given .0 .0)
 with-it c =
     let d = c .before .before .before .before .before .loop .d in
     cases (c .match2 .came)
@@ -60,10 +60,10 @@ few-links c =
     link-room (L .p) (L .d) _ (L .inv .0) (rw (c .before .f3 .given .1) at (passes (c .before .before .before)))
 
 -- the reading goes on past the field, within the bytes
-goes-on : (c : tie.After-known-told Inv-loop μ-loop) → (c .before .before .before .before .loop .at < c .before .t .given .0 .1 .0) × (c .before .t .given .0 .1 .0 ≤ length (c .before .before .before .before .before .before .before .args .s .now))
+goes-on : (c : tie.After-known-told Inv-loop μ-loop) → (c .before .before .before .before .loop .at < c .before .before .before .checked-at .result .at) × (c .before .before .before .checked-at .result .at ≤ length (c .before .before .before .before .before .before .before .args .s .now))
 goes-on c =
     let k = take-took _ _ _ _ (taken-fine c .0) in
-    (omega (arith, took-length k, length-field (c .before .t .given .0 .0)), took-inside k)
+    (omega (arith, took-length k, length-field (c .before .found .given .0 .0)), took-inside k)
 
 blank-requires : tie.Need-blank-requires Inv-loop μ-loop
 blank-requires c κs = search needs
@@ -78,8 +78,8 @@ loop-holds c =
 checked-at-requires : tie.Need-checked-at-requires Inv-loop μ-loop
 checked-at-requires c κs = search needs
 
-enum-known-t : tie.Need-enum-known-t Inv-loop μ-loop
-enum-known-t c = search needs
+enum-known-found : tie.Need-enum-known-found Inv-loop μ-loop
+enum-known-found c = search needs
 
 stopped-requires : tie.Need-stopped-requires Inv-loop μ-loop
 stopped-requires c κs = search needs
@@ -89,7 +89,7 @@ returns c =
     let L = (c .before .before .before .loop) in
     L .inv .1
     (c .stopped .result)
-    (rw (c .stopped .ensures) (reads-stop (c .before .before .before .before .before .before .args .s .now) (L .at) (L .p) (L .d) (c .before .before .checked-at .result) (sym (c .before .before .checked-at .ensures)) (c .before .match .keys2)))
+    (rw (c .stopped .ensures) (reads-stop (c .before .before .before .before .before .before .args .s .now) (L .at) (L .p) (L .d) (c .before .before .checked-at .result) (c .before .before .checked-at .ensures) (c .before .match .keys2)))
 
 enum-known-f : tie.Need-enum-known-f Inv-loop μ-loop
 enum-known-f c = search needs
@@ -138,9 +138,9 @@ loop-again c =
     let L = (c .before .before .before .before .before .before .loop) in
     let w = with-it (c .before) in
     let t = taken-fine (c .before .before) in
-    let f = (c .before .before .before .t .given .0 .0) in (
+    let f = (c .before .before .before .found .given .0 .0) in (
       rw (c .advanced .ensures, w .1, w .0) (counts-more (L .p) (L .d) f (L .inv .0)),
-      λ r h. L .inv .1 r (reads-more (c .before .before .before .before .before .before .before .before .before .args .s .now) (L .at) (L .p) (L .d) f (c .before .before .before .t .given .0 .1 .0) r (t .0) (t .1) (rw (c .advanced .ensures, w .1, w .0) at h)),
+      λ r h. L .inv .1 r (reads-more (c .before .before .before .before .before .before .before .before .before .args .s .now) (L .at) (L .p) (L .d) f (c .before .before .before .before .before .checked-at .result .at) r (t .0) (t .1) (rw (c .advanced .ensures, w .1, w .0) at h)),
     )
 
 pub parse-spec : {M : Type 1} → statement M
@@ -152,7 +152,7 @@ parse-spec =
     blank-requires
     loop-holds
     checked-at-requires
-    enum-known-t
+    enum-known-found
     stopped-requires
     returns
     enum-known-f

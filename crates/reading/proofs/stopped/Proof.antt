@@ -9,8 +9,8 @@ enum-told c = search needs
 refused-reading-requires : tie.Need-refused-reading-requires
 refused-reading-requires c κs = search needs
 
-enum-known-t : tie.Need-enum-known-t
-enum-known-t c = search needs
+enum-known-found : tie.Need-enum-known-found
+enum-known-found c = search needs
 
 refused-reading-requires-2 : tie.Need-refused-reading-requires-2
 refused-reading-requires-2 c κs = search needs
@@ -22,7 +22,7 @@ returns : tie.Need-returns
 returns c = rw ((c .before .enum-told .given .1)) (c .refused-reading .ensures)
 
 returns-2 : tie.Need-returns-2
-returns-2 c = rw ((c .before .before .t .given .1)) (c .refused-reading2 .ensures)
+returns-2 c = rw ((c .before .before .found .given .1)) (c .refused-reading2 .ensures)
 
 returns-3 : tie.Need-returns-3
 returns-3 c = rw (c .enum-told2 .given .1)
@@ -33,7 +33,7 @@ stopped-spec =
     (tie.spec
     enum-told
     refused-reading-requires
-    enum-known-t
+    enum-known-found
     refused-reading-requires-2
     enum-told-2
     returns

@@ -43,10 +43,10 @@ use denote.Triple.Walked.{says, Stays, stay-none, walkOf, goes-none, Walks, ends
 use denote.Exit.{yes}
 use denote.Triple.Clauses.{ensured, lasts}
 use Rattle.model.specs.File.{readFrom}
-use Rattle.files.specs.declared.reader.Reader.{Reader}
+use Rattle.fields.specs.declared.reader.Reader.{Reader}
 use Rattle.model.specs.declared.Reading.{Reading}
-use Rattle.files.proofs.reader.Reader as T
-use Rattle.files.proofs.reader.Reader.Laws as T′
+use Rattle.fields.proofs.reader.Reader as T
+use Rattle.fields.proofs.reader.Reader.Laws as T′
 use Rattle.model.proofs.Reading as S
 use Rattle.model.proofs.Reading.Laws as S′
 use Rattle.files.proofs.read_at as step

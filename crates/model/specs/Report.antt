@@ -13,7 +13,7 @@ use Rattle.model.specs.declared.Quote.{Quote}
 use Rattle.model.specs.declared.Quote.the-variants.{Tempo, Unquoted}
 use Rattle.model.specs.declared.Filled.{Filled}
 use Rattle.model.specs.Basics.{joined}
-use Rattle.model.specs.Refusals.{numberOf, onDone}
+use Rattle.model.specs.Refusals.{refusal, onDone}
 use Rattle.model.specs.Graph.{linkAt}
 use Rattle.model.specs.File.{readFile, fillWith, filledBy}
 use Rattle.model.specs.Verdicts.{verdictAt, largestBelow, allHeld}
@@ -100,7 +100,7 @@ linkLines d t = joined (d .«link_count») (λ l. linkLine l (linkAt d l) (verdi
 
 -- `refused 4 at 26`: number and place
 unfoldable pub refusedLine : Refusal → ℕ → List ℕ
-refusedLine r place = lineOf (wRefused ++ (decimal (numberOf r) ++ (wAt ++ decimal place)))
+refusedLine r place = let n = refusal r place in lineOf (wRefused ++ (decimal (n .number) ++ (wAt ++ decimal (n .value))))
 
 -- "with refusal 12 the first line is `tempo none` and verdicts are at 20.0"
 abbrev pub shownTempo : Quote → ℕ

@@ -5,17 +5,32 @@ use borrow.Author.Needs.{needs}
 use Rattle.bench.proofs.main.Statement.{statement}
 use Rattle.bench.proofs.main.Tie as tie
 
-slice-aggregate-read-full : tie.Need-slice-aggregate-read-full
-slice-aggregate-read-full c = search needs
+slice-aggregate-read-input : tie.Need-slice-aggregate-read-input
+slice-aggregate-read-input c = search needs
 
-read-full-requires : tie.Need-read-full-requires
-read-full-requires c κs = search needs
+read-input-requires : tie.Need-read-input-requires
+read-input-requires c κs = search needs
+
+enum-known-n : tie.Need-enum-known-n
+enum-known-n c = search needs
+
+enum-told : tie.Need-enum-told
+enum-told c = search needs
+
+slice-aggregate-fail : tie.Need-slice-aggregate-fail
+slice-aggregate-fail c = search needs
+
+fail-requires : tie.Need-fail-requires
+fail-requires c κs = search needs
+
+returns : tie.Need-returns
+returns c = search needs
 
 array-share-prefix-input : tie.Need-array-share-prefix-input
-array-share-prefix-input c = search needs
+array-share-prefix-input c = rw (c .before .n .given .1) at (c .before .before .before .before .read-input .ensures)
 
 slice-aggregate-put-whole : tie.Need-slice-aggregate-put-whole
-slice-aggregate-put-whole c = search needs
+slice-aggregate-put-whole c = sym (length-take-le _ _ (array-share-prefix-input (c .before)))
 
 slice-aggregate-put-whole-2 : tie.Need-slice-aggregate-put-whole-2
 slice-aggregate-put-whole-2 c = search needs
@@ -26,28 +41,53 @@ put-whole-requires c κs = search needs
 array-share-prefix-page : tie.Need-array-share-prefix-page
 array-share-prefix-page c = search needs
 
-slice-aggregate-write-all : tie.Need-slice-aggregate-write-all
-slice-aggregate-write-all c =
+slice-aggregate-write-output : tie.Need-slice-aggregate-write-output
+slice-aggregate-write-output c =
     let p = c .before .before .put-whole in
     sym (length-take-le (p .result) (p .last .1 .0) (p .ensures .0))
 
-write-all-requires : tie.Need-write-all-requires
-write-all-requires c κs = search needs
+write-output-requires : tie.Need-write-output-requires
+write-output-requires c κs = search needs
 
-returns : tie.Need-returns
-returns c = search needs
+enum-told-2 : tie.Need-enum-told-2
+enum-told-2 c = search needs
+
+enum-told-3 : tie.Need-enum-told-3
+enum-told-3 c = search needs
+
+slice-aggregate-fail-2 : tie.Need-slice-aggregate-fail-2
+slice-aggregate-fail-2 c = search needs
+
+fail-requires-2 : tie.Need-fail-requires-2
+fail-requires-2 c κs = search needs
+
+returns-2 : tie.Need-returns-2
+returns-2 c = search needs
+
+returns-3 : tie.Need-returns-3
+returns-3 c = search needs
 
 pub main-spec : {M : Type 1} → statement M
 main-spec =
     tie.close
     (tie.spec
-    slice-aggregate-read-full
-    read-full-requires
+    slice-aggregate-read-input
+    read-input-requires
+    enum-known-n
+    enum-told
+    slice-aggregate-fail
+    fail-requires
+    returns
     array-share-prefix-input
     slice-aggregate-put-whole
     slice-aggregate-put-whole-2
     put-whole-requires
     array-share-prefix-page
-    slice-aggregate-write-all
-    write-all-requires
-    returns)
+    slice-aggregate-write-output
+    write-output-requires
+    enum-told-2
+    enum-told-3
+    slice-aggregate-fail-2
+    fail-requires-2
+    returns-2
+    returns-3)

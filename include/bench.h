@@ -7,7 +7,7 @@
  *
  * Slices pass as a pointer and a length in bytes. The caller must ensure that each pointer is valid for its length, that nothing
  * else writes those bytes during the call, and that a buffer to be filled overlaps no other argument. No pointer may be null, even
- * where its length is 0: the library takes it for a reference, which the compiler may count on not being null. Pass any byte's
+ * where its length is 0: the library takes it for a reference, and the toolchain promises nothing for a null one. Pass any byte's
  * address instead.
  *
  * No call allocates, keeps a pointer, reads or writes anything but its arguments, or fails otherwise than by its number. There is

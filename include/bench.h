@@ -1,9 +1,23 @@
 /* The bench for C: description files to reports, quotes and runs of ticks.
  *
- * Build the archive with `rt staticlib library` and link target/staticlib/liblibrary.a (x86-64).
- * Slices pass as pointer and length in bytes. The caller must ensure that each pointer is valid for its length (a slice of
- * length 0 still needs a pointer that is not null), and that a buffer to be filled overlaps no other argument.
- * No call allocates, keeps a pointer or fails otherwise than by its number. Refusals are those of the README. */
+ * `rt staticlib library` writes target/staticlib/liblibrary.a (x86-64), which needs memcpy and memset and nothing else.
+ *
+ * Answers: 0 or more is work done; below 0 is a refusal, -(10000 * number + place), in every call alike. The number is one of
+ * enum bench_refusal; the place is the offset of the refused field for 1 to 7, and 0 from 8 on.
+ *
+ * Slices pass as a pointer and a length in bytes. The caller must ensure that each pointer is valid for its length, that nothing
+ * else writes those bytes during the call, and that a buffer to be filled overlaps no other argument. No pointer may be null, even
+ * where its length is 0: the library takes it for a reference, and the toolchain promises nothing for a null one. Pass any byte's
+ * address instead.
+ *
+ * No call allocates, keeps a pointer, reads or writes anything but its arguments, or fails otherwise than by its number. There is
+ * no state outside the arguments, so calls may run at once in several threads and in a handler that interrupts another call.
+ *
+ * Stack: the most that was seen is 37,056 bytes in bench_report, 23,872 in bench_run and 20,960 in bench_quote, on a thread whose
+ * stack was filled with a pattern beforehand, over 399 recorded files, chains of 32 tasks and 200 random files of 32 tasks.
+ * No recursion is deeper than the file has tasks. Allow 64 KB.
+ *
+ * Time: every call ends, and most files take microseconds, but a made-up file can take seconds (docs/BENCHMARKS.md). */
 #ifndef BENCH_H
 #define BENCH_H
 
@@ -14,26 +28,63 @@
 extern "C" {
 #endif
 
-/* The longest report, and the bytes of a machine's record. */
+/* Rises when a call, a number or a layout below changes. */
+#define BENCH_VERSION 1
+
+/* The refusals, as the README explains them. */
+enum bench_refusal {
+    BENCH_CUT_SHORT = 1,
+    BENCH_STRANGE_TAG = 2,
+    BENCH_WRONG_LENGTH = 3,
+    BENCH_OUT_OF_TURN = 4,
+    BENCH_TOO_MANY = 5,
+    BENCH_OFF_SCALE = 6,
+    BENCH_NO_SUCH_END = 7,
+    BENCH_NO_TASK = 8,
+    BENCH_LOOP = 9,
+    BENCH_TOO_HEAVY = 10,
+    BENCH_OFF_KNOB = 11,
+    BENCH_NO_TEMPO = 12,
+    BENCH_SHORT_PAGE = 13,
+    BENCH_TOO_SOON = 14,
+    BENCH_STRANGER = 15,
+    BENCH_FOREIGN_STATE = 16
+};
+
+/* The number and the place of an answer below 0; both are 0 for any other. */
+#define BENCH_NUMBER(answer) ((answer) < 0 ? (int)(-(answer) / 10000) : 0)
+#define BENCH_PLACE(answer) ((answer) < 0 ? (int)(-(answer) % 10000) : 0)
+
+/* The longest accepted file and the longest report, in bytes; the lowest and the highest tempo, in tenths of a beat per minute. */
+#define BENCH_LONGEST_FILE 1872
 #define BENCH_LONGEST_REPORT 11168
+#define BENCH_LOWEST_TEMPO 200
+#define BENCH_HIGHEST_TEMPO 3000
+
+/* A machine's record in 736 bytes, by the offsets of its parts: a byte for each mark, 0 or 1, and four for each number, high byte
+ * first. Task 1, link 1 and source 33 are the first of their parts. */
 #define BENCH_RECORD 736
+#define BENCH_RECORD_AWAKE 0     /* 32 marks: the task is awake */
+#define BENCH_RECORD_USED 32     /* 32 numbers: the ticks that its run has used */
+#define BENCH_RECORD_WAITING 160 /* 256 marks: an event waits on the link */
+#define BENCH_RECORD_DROPPED 416 /* 256 marks: an event was lost on the link */
+#define BENCH_RECORD_AGES 672    /* 16 numbers: the ticks since the source's last event, up to its spacing */
 
 /* Fills the front of `out` with the report of the file and returns how many bytes it has; every byte behind them is as it was.
- * Returns -13 with no byte changed if `out` is shorter than the report. Any bytes whatsoever have a report. */
+ * Any bytes whatsoever have a report, one that tells of a refusal included: the only refusal is 13 (-130000), if `out` is shorter
+ * than the report, and then no byte has changed. */
 int64_t bench_report(const uint8_t *file, size_t file_length, uint8_t *out, size_t out_length);
 
-/* The highest tempo, in tenths of a beat per minute, at which every critical link of the file is held;
- * or -(10000 * number + place) of its refusal, which is 12 (-120000) if there is no such tempo. */
+/* The highest tempo, in tenths of a beat per minute, at which every critical link of the file is held.
+ * Refusals: 1 to 10, and 12 (-120000) if there is no such tempo. */
 int64_t bench_quote(const uint8_t *file, size_t file_length);
 
-/* A run of tick calls on one machine from its idle start, at one tempo (in tenths).
+/* A run of tick calls on one machine from its idle start, at one tempo (in tenths). Returns 0.
  * `calls` has four bytes for each call: the mask of arriving sources, high byte first, bit 0 for source 33; a byte that is not 0
  * if the running task may end now; and one that is not looked at. A rest of fewer than four bytes is ignored.
- * `outcomes` gets a byte for each call: 0 for a tick, else the number of its refusal (14, 15).
- * `record` gets 736 bytes, the machine as the last call left it: 32 awake, 32 times 4 used, 256 waiting, 256 dropped,
- * 16 times 4 ages, numbers high byte first.
- * Returns 0; or -(10000 * number + place) if the file or the tempo is refused, or -130000 if a buffer is short, and then no
- * byte of either buffer has changed.
+ * `outcomes` gets a byte for each call: 0 for a tick, else the number of its refusal (14, 15), which is no tick.
+ * `record` gets BENCH_RECORD bytes, the machine as the last call left it.
+ * Refusals: 1 to 10 for the file, then 11 for the tempo, then 13 if a buffer is short; no byte of either buffer has changed then.
  * Up to the quote, whatever the calls: no critical link is ever marked dropped, and no event from a source on a critical link
  * waits longer than the delay in the report. */
 int64_t bench_run(const uint8_t *file, size_t file_length, uint32_t tempo, const uint8_t *calls, size_t calls_length,

@@ -21,7 +21,7 @@ pub const LONGEST_REPORT: usize = 12_288;
 #[derive(Clone, Copy)]
 pub struct Side {
     pub name: &'static str,
-    /// The report on a file, into a page: the bytes written, or -13.
+    /// The report on a file, into a page: the bytes written, or -(10,000 × number + place).
     pub report: fn(file: &[u8], page: &mut [u8]) -> i64,
     /// The quoted tempo in tenths, or -(10,000 × number + place).
     pub quote: fn(file: &[u8]) -> i64,

@@ -49,7 +49,7 @@ fn report_into(file: &[u8], page: &mut [u8]) -> i64 {
             lines.copy_from_slice(&text);
             text.len() as i64
         }
-        None => -(Word::ShortPage as i64),
+        None => Refusal::of(Word::ShortPage).code(),
     }
 }
 

@@ -1,4 +1,4 @@
-// The figures of document 01 and document 000's printed example, run and compared. A line for each group says how many agree.
+// The figures of document 01, document 000's printed example and published response times, run and compared. A line for each group says how many agree.
 
 use cases::Tally;
 use libc::STDOUT_FILENO;
@@ -30,8 +30,40 @@ fn paper(spacing: u8) -> [u8; 97] {
     file
 }
 
+// Burns and Wellings: runs 3, 3, 5 with spacings 7, 12 and, as published, 20, the highest priority first; each task has a source of its own.
+fn burns_wellings(spacing: u8) -> [u8; 60] {
+    let mut file =
+        *b"\x01\x00\x04\x00\x00\x00\x05\x01\x00\x04\x00\x00\x00\x03\x01\x00\x04\x00\x00\x00\x03\x02\x00\x04\x00\x00\x00\x14\x02\x00\x04\x00\x00\x00\x0c\x02\x00\x04\x00\x00\x00\x07\x04\x00\x03\x21\x01\x01\x04\x00\x03\x22\x02\x01\x04\x00\x03\x23\x03\x01";
+    file[27] = spacing;
+    file
+}
+
+// Lehoczky, Sha and Ding: runs 40, 40, 100 with spacings 100, 150, 350.
+const LEHOCZKY_SHA_DING: [u8; 60] =
+    *b"\x01\x00\x04\x00\x00\x00\x64\x01\x00\x04\x00\x00\x00\x28\x01\x00\x04\x00\x00\x00\x28\x02\x00\x04\x00\x00\x01\x5e\x02\x00\x04\x00\x00\x00\x96\x02\x00\x04\x00\x00\x00\x64\x04\x00\x03\x21\x01\x01\x04\x00\x03\x22\x02\x01\x04\x00\x03\x23\x03\x01";
+
 const PAPER_REPORT: [u8; 187] =
     *b"tempo 300.0\nlink 1 1>2 held order\nlink 2 1>5 held order\nlink 3 2>4 held order\nlink 4 4>3 held order\nlink 5 5>3 held order\nlink 6 5>4 held order\nlink 7 33>1 held 19 of 20\nlink 8 34>2 free\n";
+
+// Independent tasks: delays are the published response times, 3, 6, 20 (doubtful at 20, since not below it) and 40, 80, 300.
+fn published() -> Tally {
+    let t = cases::none();
+    let t = cases::reports(
+        t,
+        &burns_wellings(20),
+        b"tempo none\nlink 1 33>1 doubt of 20\nlink 2 34>2 held 6 of 12\nlink 3 35>3 held 3 of 7\n",
+    );
+    let t = cases::reports(
+        t,
+        &burns_wellings(21),
+        b"tempo 300.0\nlink 1 33>1 held 20 of 21\nlink 2 34>2 held 6 of 12\nlink 3 35>3 held 3 of 7\n",
+    );
+    cases::reports(
+        t,
+        &LEHOCZKY_SHA_DING,
+        b"tempo 300.0\nlink 1 33>1 held 300 of 350\nlink 2 34>2 held 80 of 150\nlink 3 35>3 held 40 of 100\n",
+    )
+}
 
 // A longest run is 1 to 10,000,000.
 fn runs() -> Tally {
@@ -517,6 +549,7 @@ fn main() {
     print_group(b"document 000, report", paper_report());
     print_group(b"document 000, added loads", paper_added());
     print_group(b"document 000, loads", paper_loads());
+    print_group(b"published response times", published());
     print_group(b"P1 to P3", marked_box());
     print_group(b"P4", marked_twin());
     print_group(b"P5", marked_drop());

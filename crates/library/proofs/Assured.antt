@@ -12,10 +12,10 @@ use borrow.Author.Tests.{leb-true, le-ltb, ltb-false}
 use Rattle.model.specs.declared.Quote.{Quote}
 use Rattle.model.specs.declared.Quote.the-variants.{Tempo, Unquoted}
 use Rattle.model.specs.declared.Refusal.{Refusal}
-use Rattle.model.specs.declared.Refusal.the-variants.{CutShort, StrangeTag, WrongLength, OutOfTurn, TooMany, OffScale, NoSuchEnd, NoTask, Loop, TooHeavy, OffKnob, NoTempo, ShortPage, TooSoon, Stranger, ForeignState}
+use Rattle.model.specs.declared.Refusal.the-variants.{ShortPage}
 use Rattle.model.specs.declared.Outcome.{Outcome}
 use Rattle.model.specs.declared.Outcome.the-variants.{Done, Refused}
-use Rattle.model.specs.Refusals.{numberOf}
+use Rattle.model.specs.Refusals.{numberOf, refusal, ofOutcome, ofQuote}
 use Rattle.model.specs.File.{readFile, filledBy}
 use Rattle.model.specs.Verdicts.{quotedFile, onKnob}
 use Rattle.model.specs.Machine.{idle}
@@ -28,7 +28,8 @@ use Rattle.theory.proofs.NumberBytes.{Bytes as AllBytes}
 use Rattle.theory.proofs.QuotedFile.{QuotedFile, quoted-file}
 use Rattle.assurance.proofs.PlainCalls.{plain-calls, plain-assured}
 use Rattle.machine.proofs.RunLaws.{calls-length, codes-length}
-use Rattle.library.specs.Replies.{refusalCode, quoteReply, recordByte, recordBytes, runOutcome, runReply, RunReplied, RunAssured}
+use Rattle.library.specs.Replies.{reply, recordByte, recordBytes, runOutcome, RunReplied, RunAssured}
+use Rattle.library.proofs.Laws.{numbered, reply-refused, reply-done}
 
 -- an answer of 0 or more is no refusal
 abbrev low : ℤ → Bool
@@ -43,34 +44,16 @@ neg-low : (k : ℕ) → 0 < k → low (negℤ (pos k)) ≡ true
 neg-low zero h = absurd (omega arith)
 neg-low (suc k) h = refl
 
-numbered : (r : Refusal) → 1 ≤ numberOf r
-numbered CutShort = omega arith
-numbered StrangeTag = omega arith
-numbered WrongLength = omega arith
-numbered OutOfTurn = omega arith
-numbered TooMany = omega arith
-numbered OffScale = omega arith
-numbered NoSuchEnd = omega arith
-numbered NoTask = omega arith
-numbered Loop = omega arith
-numbered TooHeavy = omega arith
-numbered OffKnob = omega arith
-numbered NoTempo = omega arith
-numbered ShortPage = omega arith
-numbered TooSoon = omega arith
-numbered Stranger = omega arith
-numbered ForeignState = omega arith
-
-refusal-low : (r : Refusal) (p : ℕ) (n : ℕ) → refusalCode r p ≡ pos n → ⊥
-refusal-low r p n e = not-both (neg-low (10000 * numberOf r + p) (omega (arith, numbered r))) (ap low e)
+refusal-low : (r : Refusal) (p : ℕ) (n : ℕ) → reply (refusal r p) ≡ pos n → ⊥
+refusal-low r p n e = not-both (neg-low (10000 * numberOf r + p) (omega (arith, numbered r))) (ap low (reply-refused r p ∙ e))
 
 -- a quote call that answers q of 0 or more has quoted q
-pub quote-told : (x : Quote) (q : ℕ) → quoteReply x ≡ pos q → x ≡ Tempo q
-quote-told (Tempo t) q e = ap Tempo (ap size e)
+pub quote-told : (x : Quote) (q : ℕ) → reply (ofQuote x) ≡ pos q → x ≡ Tempo q
+quote-told (Tempo t) q e = ap Tempo (ap size (reply-done t ∙ e))
 quote-told (Unquoted r p) q e = absurd (refusal-low r p q e)
 
 -- a run call that answers 0 is done, and its tempo is on the knob
-run-done : (o : Outcome) → runReply o ≡ pos 0 → o ≡ Done
+run-done : (o : Outcome) → reply (ofOutcome o) ≡ pos 0 → o ≡ Done
 run-done Done e = refl
 run-done (Refused r p) e = absurd (refusal-low r p 0 e)
 
@@ -95,7 +78,7 @@ enough s t calls outcomes out a e =
 
 -- a run call that answered 0, at a tempo up to what the quote call answered
 pub bench-assured : (s calls outcomes out outcomes′ out′ : List ℕ) (q t : ℕ) (quoted ran : ℤ) → AllBytes s
-    → quoted ≡ quoteReply (quotedFile s) → quoted ≡ pos q → t ≤ q → RunReplied s t calls outcomes out outcomes′ out′ ran → ran ≡ pos 0 → RunAssured s q t calls outcomes′ out′
+    → quoted ≡ reply (ofQuote (quotedFile s)) → quoted ≡ pos q → t ≤ q → RunReplied s t calls outcomes out outcomes′ out′ ran → ran ≡ pos 0 → RunAssured s q t calls outcomes′ out′
 unfolding filledBy recordBytes
 bench-assured s calls outcomes out outcomes′ out′ q t quoted ran b told e high R done =
     let d = readFile s .description in

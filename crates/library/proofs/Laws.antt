@@ -19,10 +19,10 @@ use Rattle.model.specs.declared.Filled.the-variants.{Bytes, Unfilled}
 use Rattle.model.specs.declared.Quote.{Quote}
 use Rattle.model.specs.declared.Quote.the-variants.{Tempo, Unquoted}
 use Rattle.model.specs.declared.Refusal.{Refusal}
-use Rattle.model.specs.declared.Refusal.the-variants.{ShortPage}
+use Rattle.model.specs.declared.Refusal.the-variants.{CutShort, StrangeTag, WrongLength, OutOfTurn, TooMany, OffScale, NoSuchEnd, NoTask, Loop, TooHeavy, OffKnob, NoTempo, ShortPage, TooSoon, Stranger, ForeignState}
 use Rattle.model.specs.declared.Outcome.{Outcome}
 use Rattle.model.specs.declared.Outcome.the-variants.{Done, Refused}
-use Rattle.model.specs.Refusals.{onDone}
+use Rattle.model.specs.Refusals.{numberOf, accepted, refusal, onDone}
 use Rattle.model.specs.File.{readFile, fillWith, judge}
 use Rattle.model.specs.Report.{reportOf, reported}
 use Rattle.model.specs.Verdicts.{quoteOf, quotedFile, largestBelow, allHeld}
@@ -31,7 +31,7 @@ use Rattle.theory.proofs.NumberBytes.{Bytes as AllBytes}
 use Rattle.theory.proofs.FileLength.{read-place}
 use Rattle.theory.proofs.ReadBack.{read-judged}
 use Rattle.machine.proofs.RunLaws.{store-turn}
-use Rattle.library.specs.Replies.{bit, byteIn, recordByte, recordBytes, Puts}
+use Rattle.library.specs.Replies.{reply, bit, byteIn, recordByte, recordBytes, Puts}
 
 -- a number below 2 ^ 32 and its negative, as 64 bits with a sign
 pub pos-fits : (x : ℕ) → x < 2 ^ 32 → SFits w64 (pos x)
@@ -52,6 +52,34 @@ below-fits r x e h = subst (SFits w64) (sym (below-is r x e h)) (neg-fits x h)
 
 pub below : (r : ℤ) (x : ℕ) → r ≡ pos x → x < 2 ^ 32 → toZ w64 (ofZ w64 (pos 0 -ℤ toZ w64 (ofZ w64 r))) ≡ negℤ (pos x)
 below r x e h = toZ-ofZ w64 (pos 0 -ℤ toZ w64 (ofZ w64 r)) (below-fits r x e h) ∙ below-is r x e h
+
+-- the reply to a refusal is its number and place, below 0
+pub numbered : (r : Refusal) → 1 ≤ numberOf r
+numbered CutShort = omega arith
+numbered StrangeTag = omega arith
+numbered WrongLength = omega arith
+numbered OutOfTurn = omega arith
+numbered TooMany = omega arith
+numbered OffScale = omega arith
+numbered NoSuchEnd = omega arith
+numbered NoTask = omega arith
+numbered Loop = omega arith
+numbered TooHeavy = omega arith
+numbered OffKnob = omega arith
+numbered NoTempo = omega arith
+numbered ShortPage = omega arith
+numbered TooSoon = omega arith
+numbered Stranger = omega arith
+numbered ForeignState = omega arith
+
+pub reply-refused : (r : Refusal) (p : ℕ) → negℤ (pos (10000 * numberOf r + p)) ≡ reply (refusal r p)
+unfolding reply
+reply-refused r p = rw (ne-eqb (numberOf r) 0 (λ e. omega (arith, numbered r, e))) refl
+
+-- the reply to work done is its value
+pub reply-done : (n : ℕ) → pos n ≡ reply (accepted n)
+unfolding reply
+reply-done n = refl
 
 -- a number's four bytes
 pub byte-0 : (n k : ℕ) → k ≡ 0 → n / 16777216 % 256 ≡ byteIn n k
@@ -177,3 +205,16 @@ filled-most s out f n h e g = go (ltb (length out) (length (reportOf s))) refl
     go : (b : Bool) → ltb (length out) (length (reportOf s)) ≡ b → n ≤ 11168
     go true q = let e′ : f ≡ Unfilled ShortPage 0 = e ∙ rw q refl in let k : 0 ≡ n = sym (ap count e′) ∙ ap count g in omega arith
     go false q = let e′ : f ≡ Bytes (length (reportOf s)) = e ∙ rw q refl in let k : length (reportOf s) ≡ n = sym (ap count e′) ∙ ap count g in omega arith
+
+-- a report is refused at place 0
+pub filled-place : (s out : List ℕ) (f : Filled) (r : Refusal) (p : ℕ) → f ≡ reported s out → f ≡ Unfilled r p → p ≤ 2128
+unfolding reported fillWith
+filled-place s out f r p e g = go (ltb (length out) (length (reportOf s))) refl
+  where
+    place : Filled → ℕ
+    place (Bytes k) = 0
+    place (Unfilled r p) = p
+
+    go : (b : Bool) → ltb (length out) (length (reportOf s)) ≡ b → p ≤ 2128
+    go true q = let e′ : f ≡ Unfilled ShortPage 0 = e ∙ rw q refl in let k : 0 ≡ p = sym (ap place e′) ∙ ap place g in omega arith
+    go false q = let e′ : f ≡ Bytes (length (reportOf s)) = e ∙ rw q refl in let k : 0 ≡ p = sym (ap place e′) ∙ ap place g in omega arith

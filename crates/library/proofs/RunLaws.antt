@@ -15,6 +15,7 @@ use Rattle.model.specs.declared.Ticked.{Ticked}
 use Rattle.model.specs.declared.Refusal.{Refusal}
 use Rattle.model.specs.declared.Refusal.the-variants.{OffKnob, ShortPage}
 use Rattle.model.specs.declared.Outcome.the-variants.{Done, Refused}
+use Rattle.model.specs.Refusals.{refusal, ofOutcome}
 use Rattle.model.specs.File.{readFile, filledBy}
 use Rattle.model.specs.Verdicts.{judgeAt, onKnob}
 use Rattle.model.specs.Machine.{idle}
@@ -25,7 +26,8 @@ use Rattle.theory.proofs.ReadBack.{read-judged}
 use Rattle.model.specs.Run.{callsIn, page, ranFrom}
 use Rattle.machine.proofs.RunLaws.{calls-length}
 use Rattle.ticks.proofs.Laws.{at-done}
-use Rattle.library.specs.Replies.{refusalCode, recordBytes, runOutcome, runReply, codesAfter, recordAfter}
+use Rattle.library.specs.Replies.{reply, recordBytes, runOutcome, codesAfter, recordAfter}
+use Rattle.library.proofs.Laws.{reply-done}
 
 module _ (s : List ℕ) (x : Reading) (whole : x ≡ readFile s) where
   outcome-is : x .outcome ≡ readFile s .outcome
@@ -67,7 +69,7 @@ module _ (s : List ℕ) (x : Reading) (whole : x ≡ readFile s) where
       run-whole k h = short false false (le-ltb (length out) 736 k) (le-ltb (length outcomes) (length calls / 4) h)
 
     -- what is answered and left
-    pub run-refused : (d : Description) (r : Refusal) (p : ℕ) → runOutcome s t calls outcomes out ≡ Refused r p → (refusalCode r p ≡ runReply (runOutcome s t calls outcomes out)) × (outcomes ≡ codesAfter (runOutcome s t calls outcomes out) d t calls outcomes) × (out ≡ recordAfter (runOutcome s t calls outcomes out) d t calls out)
+    pub run-refused : (d : Description) (r : Refusal) (p : ℕ) → runOutcome s t calls outcomes out ≡ Refused r p → (reply (refusal r p) ≡ reply (ofOutcome (runOutcome s t calls outcomes out))) × (outcomes ≡ codesAfter (runOutcome s t calls outcomes out) d t calls outcomes) × (out ≡ recordAfter (runOutcome s t calls outcomes out) d t calls out)
     run-refused d r p e = (rw e refl, rw e refl, rw e refl)
 
     pub run-machine : (y : Ticked) → length calls / 4 ≤ length outcomes → y ≡ ranFrom (x .description) t (callsIn calls) outcomes → y .machine ≡ left (x .description) t (idle (x .description) t) (callsIn calls)
@@ -75,8 +77,8 @@ module _ (s : List ℕ) (x : Reading) (whole : x ≡ readFile s) where
         ap (λ (k : Ticked). k .machine) e
         ∙ rw (le-ltb (length outcomes) (length (callsIn calls)) (omega (arith, calls-length calls))) refl
 
-    pub run-does : (m : Machine) (codes′ out′ : List ℕ) → runOutcome s t calls outcomes out ≡ Done → m ≡ left (x .description) t (idle (x .description) t) (callsIn calls) → codes′ ≡ filledBy (page (x .description) t (callsIn calls)) outcomes → out′ ≡ recordBytes m ++ drop 736 out → (pos 0 ≡ runReply (runOutcome s t calls outcomes out)) × (codes′ ≡ codesAfter (runOutcome s t calls outcomes out) (readFile s .description) t calls outcomes) × (out′ ≡ recordAfter (runOutcome s t calls outcomes out) (readFile s .description) t calls out)
+    pub run-does : (m : Machine) (codes′ out′ : List ℕ) → runOutcome s t calls outcomes out ≡ Done → m ≡ left (x .description) t (idle (x .description) t) (callsIn calls) → codes′ ≡ filledBy (page (x .description) t (callsIn calls)) outcomes → out′ ≡ recordBytes m ++ drop 736 out → (pos 0 ≡ reply (ofOutcome (runOutcome s t calls outcomes out))) × (codes′ ≡ codesAfter (runOutcome s t calls outcomes out) (readFile s .description) t calls outcomes) × (out′ ≡ recordAfter (runOutcome s t calls outcomes out) (readFile s .description) t calls out)
     run-does m codes′ out′ e f g h =
         let filled : codes′ ≡ filledBy (page (readFile s .description) t (callsIn calls)) outcomes = g ∙ ap (λ (r : Reading). filledBy (page (r .description) t (callsIn calls)) outcomes) whole in
         let stored : out′ ≡ recordBytes (left (readFile s .description) t (idle (readFile s .description) t) (callsIn calls)) ++ drop 736 out = h ∙ ap (λ (k : Machine). recordBytes k ++ drop 736 out) (f ∙ ap (λ (r : Reading). left (r .description) t (idle (r .description) t) (callsIn calls)) whole) in
-        (rw e refl, rw e filled, rw e stored)
+        (rw e (reply-done 0), rw e filled, rw e stored)

@@ -9,16 +9,11 @@ use lib.IntN.{ℤ, pos, negℤ}
 use Rattle.model.specs.declared.Description.{Description}
 use Rattle.model.specs.declared.Machine.{Machine}
 use Rattle.model.specs.declared.Ticked.{Ticked}
-use Rattle.model.specs.declared.Filled.{Filled}
-use Rattle.model.specs.declared.Filled.the-variants.{Bytes, Unfilled}
-use Rattle.model.specs.declared.Quote.{Quote}
-use Rattle.model.specs.declared.Quote.the-variants.{Tempo, Unquoted}
-use Rattle.model.specs.declared.Refusal.{Refusal}
 use Rattle.model.specs.declared.Refusal.the-variants.{ShortPage, OffKnob}
 use Rattle.model.specs.declared.Outcome.{Outcome}
 use Rattle.model.specs.declared.Outcome.the-variants.{Done, Refused}
 use Rattle.model.specs.Basics.{tab}
-use Rattle.model.specs.Refusals.{Numbered, numberOf, refusal, onDone}
+use Rattle.model.specs.Refusals.{Numbered, ofOutcome, onDone}
 use Rattle.model.specs.File.{readFile, filledBy}
 use Rattle.model.specs.Verdicts.{onKnob}
 use Rattle.model.specs.Machine.{idle}
@@ -26,22 +21,9 @@ use Rattle.model.specs.History.{left}
 use Rattle.model.specs.Promise.{Calls, Assured}
 use Rattle.model.specs.Run.{callsIn, codes, page}
 
--- a refusal's number and place in one number below 0
-abbrev pub below0 : Numbered → ℤ
-below0 n = negℤ (pos (10000 * n .number + n .value))
-
-abbrev pub refusalCode : Refusal → ℕ → ℤ
-refusalCode r place = below0 (refusal r place)
-
--- the report: how many bytes it has, or -13
-abbrev pub reportReply : Filled → ℤ
-reportReply (Bytes n) = pos n
-reportReply (Unfilled r place) = negℤ (pos (numberOf r))
-
--- the quote of a file, as one number
-abbrev pub quoteReply : Quote → ℤ
-quoteReply (Tempo t) = pos t
-quoteReply (Unquoted r place) = refusalCode r place
+-- an answer as one number: its value where the work is done, or else the refusal's number and place below 0
+unfoldable pub reply : Numbered → ℤ
+reply n = cond (eqb (n .number) 0) (pos (n .value)) (negℤ (pos (10000 * n .number + n .value)))
 
 -- a machine's record in 736 bytes: 32 awake, 32 times 4 used, 256 waiting, 256 dropped, 16 times 4 ages, numbers high byte first
 abbrev pub bit : Bool → ℕ
@@ -76,9 +58,6 @@ runOutcome s t calls outcomes out =
     (Refused OffKnob 0))
     Refused
 
-abbrev pub runReply : Outcome → ℤ
-runReply o = onDone o (pos 0) refusalCode
-
 abbrev pub codesAfter : Outcome → Description → ℕ → List ℕ → List ℕ → List ℕ
 codesAfter o d t calls outcomes = onDone o (filledBy (page d t (callsIn calls)) outcomes) (λ r place. outcomes)
 
@@ -88,7 +67,7 @@ recordAfter o d t calls out =
 
 -- what a run answers, and what it leaves in the buffers of outcomes and of the record
 pub record RunReplied (s : List ℕ) (t : ℕ) (calls outcomes out outcomes′ out′ : List ℕ) (r : ℤ) : Type 0 where
-  pub answer : r ≡ runReply (runOutcome s t calls outcomes out)
+  pub answer : r ≡ reply (ofOutcome (runOutcome s t calls outcomes out))
   pub codes : outcomes′ ≡ codesAfter (runOutcome s t calls outcomes out) (readFile s .description) t calls outcomes
   pub bytes : out′ ≡ recordAfter (runOutcome s t calls outcomes out) (readFile s .description) t calls out
 

@@ -14,10 +14,11 @@ ghost use Prim.Native.Nat.{_+_, _*_, _/_, _%_, _<_, _≤_};
 ghost use mathlib.Core.List.{_++_};
 ghost use lib.ListN.{length, getD, drop};
 ghost use lib.IntN.{pos, negℤ};
+ghost use Rattle.model.specs.Refusals.{refusal, ofFilled, ofQuote};
 ghost use Rattle.model.specs.File.{readFile};
 ghost use Rattle.model.specs.Verdicts.{quotedFile};
 ghost use Rattle.model.specs.Report.{reported, pageReported};
-ghost use Rattle.library.specs.Replies.{refusalCode, reportReply, quoteReply, bit, byteIn, recordBytes, Puts, RunReplied};
+ghost use Rattle.library.specs.Replies.{reply, bit, byteIn, recordBytes, Puts, RunReplied};
 
 // x itself.
 fn positive(x: u32) -> i64
@@ -36,7 +37,7 @@ fn negative(x: u32) -> i64
 // A refusal's number and place in one number.
 fn refusal_code(why: Refusal, place: usize) -> i64
     requires { ⌜ place ≤ 2128 ⌝ }
-    ensures { λ r. ⌜ r ≡ refusalCode why place ⌝ }
+    ensures { λ r. ⌜ r ≡ reply (refusal why place) ⌝ }
 {
     let number = number_of(why);
     negative((10000 * number + place) as u32)
@@ -94,22 +95,22 @@ fn put_record(m: Machine, out: &mut [u8])
     put_numbers(&m.ages, out, 672);
 }
 
-// The report of a file into a buffer: its length, or -13 and no byte changed.
+// The report of a file into a buffer: its length, or the refusal 13 and no byte changed.
 #[no_mangle]
 pub extern "C" fn bench_report(file: &[u8], out: &mut [u8]) -> i64
-    ensures { λ r. ⌜ (r ≡ reportReply (reported (now (file .entry)) (now (out .entry)))) × (now (out .exit) ≡ pageReported (now (file .entry)) (now (out .entry))) ⌝ }
+    ensures { λ r. ⌜ (r ≡ reply (ofFilled (reported (now (file .entry)) (now (out .entry))))) × (now (out .exit) ≡ pageReported (now (file .entry)) (now (out .entry))) ⌝ }
 {
     let filled = report::report(file, &mut *out);
     match filled {
         Filled::Bytes(n) => positive(n as u32),
-        Filled::Unfilled(why, _) => negative(number_of(why) as u32),
+        Filled::Unfilled(why, place) => refusal_code(why, place),
     }
 }
 
 // The highest tempo of a file in tenths, or its refusal.
 #[no_mangle]
 pub extern "C" fn bench_quote(file: &[u8]) -> i64
-    ensures { λ r. ⌜ r ≡ quoteReply (quotedFile (now (file .entry))) ⌝ }
+    ensures { λ r. ⌜ r ≡ reply (ofQuote (quotedFile (now (file .entry)))) ⌝ }
 {
     let quote = quotes::quote_file(file);
     match quote {

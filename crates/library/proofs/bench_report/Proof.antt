@@ -1,15 +1,13 @@
 -- `bench_report` meets its contract. Assumes nothing.
-use Rattle.refusals.proofs.Laws.{number-most}
-use Rattle.library.proofs.Laws.{filled-most}
+use Rattle.library.proofs.Laws.{filled-most, filled-place, reply-done}
 use mathlib.Core.Path.{sym, ap, _∙_}
 use mir.Syntax.{w64}
 use mir.ValLaws.{toZ-ofZ}
-use Prim.Native.Nat.{ℕ}
 use native.Mathlib.Omega.{arith}
-use lib.IntN.{pos, negℤ}
+use Rattle.model.specs.Refusals.{ofFilled}
 use Rattle.model.specs.declared.Filled.{Filled}
 use Rattle.report.proofs.ReportLaws.{report-length}
-use Rattle.library.specs.Replies.{reportReply}
+use Rattle.library.specs.Replies.{reply}
 use borrow.Author.Needs.{needs}
 use Rattle.library.proofs.bench_report.Statement.{statement}
 use Rattle.library.proofs.bench_report.Tie as tie
@@ -29,26 +27,20 @@ positive-requires c κs = search needs
 enum-known-filled-2 : tie.Need-enum-known-filled-2
 enum-known-filled-2 c = search needs
 
-number-of-requires : tie.Need-number-of-requires
-number-of-requires c κs = search needs
-
-cast-negative : tie.Need-cast-negative
-cast-negative c = omega (arith, c .number-of .ensures, number-most (c .before .before .filled2 .given .0 .0))
-
-negative-requires : tie.Need-negative-requires
-negative-requires c κs = search needs
+refusal-code-requires : tie.Need-refusal-code-requires
+refusal-code-requires c κs = let w = c .before .filled2 .given in filled-place (c .before .before .before .before .before .before .before .before .before .args .file .now) (c .before .before .before .before .before .before .before .before .before .args .out .now) (c .before .before .before .before .before .report .result) (w .0 .0) (w .0 .1 .0) (c .before .before .before .before .before .report .ensures .0) (w .1)
 
 same-length : tie.Need-same-length
 same-length c = search needs
 
 returns : tie.Need-returns
-returns c = (toZ-ofZ w64 (c .positive .result) (record { sfits = c .positive .ok }) ∙ c .positive .ensures ∙ ap (λ (f : Filled). reportReply f) (sym (c .before .before .filled .given .1) ∙ c .before .before .before .before .before .before .report .ensures .0), c .before .before .before .before .before .before .report .ensures .1)
+returns c = (toZ-ofZ w64 (c .positive .result) (record { sfits = c .positive .ok }) ∙ c .positive .ensures ∙ reply-done (c .before .before .filled .given .0 .0) ∙ ap (λ (f : Filled). reply (ofFilled f)) (sym (c .before .before .filled .given .1) ∙ c .before .before .before .before .before .before .report .ensures .0), c .before .before .before .before .before .before .report .ensures .1)
 
 same-length-2 : tie.Need-same-length-2
 same-length-2 c = search needs
 
 returns-2 : tie.Need-returns-2
-returns-2 c = (toZ-ofZ w64 (c .negative .result) (record { sfits = c .negative .ok }) ∙ c .negative .ensures ∙ ap (λ (n : ℕ). negℤ (pos n)) (c .before .number-of .ensures) ∙ ap (λ (f : Filled). reportReply f) (sym (c .before .before .before .filled2 .given .1) ∙ c .before .before .before .before .before .before .before .report .ensures .0), c .before .before .before .before .before .before .before .report .ensures .1)
+returns-2 c = (toZ-ofZ w64 (c .refusal-code .result) (record { sfits = c .refusal-code .ok }) ∙ c .refusal-code .ensures ∙ ap (λ (f : Filled). reply (ofFilled f)) (sym (c .before .before .filled2 .given .1) ∙ c .before .before .before .before .before .before .report .ensures .0), c .before .before .before .before .before .before .report .ensures .1)
 
 pub bench-report-spec : {M : Type 1} → statement M
 bench-report-spec =
@@ -59,9 +51,7 @@ bench-report-spec =
     cast-positive
     positive-requires
     enum-known-filled-2
-    number-of-requires
-    cast-negative
-    negative-requires
+    refusal-code-requires
     same-length
     returns
     same-length-2

@@ -1,5 +1,6 @@
 -- `refusal_code` meets its contract: the number is at most 16 and the place at most 2,128. Assumes nothing.
 use Rattle.refusals.proofs.Laws.{number-most}
+use Rattle.library.proofs.Laws.{reply-refused}
 use mathlib.Core.Path.{ap, _∙_}
 use Prim.Native.Nat.{ℕ, _+_, _*_}
 use native.Mathlib.Omega.{arith}
@@ -26,7 +27,7 @@ negative-requires : tie.Need-negative-requires
 negative-requires c κs = search needs
 
 returns : tie.Need-returns
-returns c = toZ-ofZ w64 (c .negative .result) (record { sfits = c .negative .ok }) ∙ c .negative .ensures ∙ ap (λ (n : ℕ). negℤ (pos (10000 * n + c .before .before .args .place))) (c .before .number-of .ensures)
+returns c = toZ-ofZ w64 (c .negative .result) (record { sfits = c .negative .ok }) ∙ c .negative .ensures ∙ ap (λ (n : ℕ). negℤ (pos (10000 * n + c .before .before .args .place))) (c .before .number-of .ensures) ∙ reply-refused (c .before .before .args .why) (c .before .before .args .place)
 
 pub refusal-code-spec : {M : Type 1} → statement M
 refusal-code-spec =

@@ -2,17 +2,21 @@
 use Prim.Native.Nat.{ℕ, zero, suc, _+_, _-_, _*_, _/_, _≤_, _<_}
 use mathlib.Core.Path.{_≡_, refl, sym, ap, _∙_}
 use mathlib.Core.List.{List}
+use mathlib.Core.Bool.{Bool, true, false, cond}
 use native.Mathlib.Omega.{arith}
 use native.Mathlib.Numerals.{add-one}
-use native.Mathlib.Nat.{div-mul-le-self, mul-le-mul-left, mul-le-mul, zero-add, zero-mul, add-mul, mul-add, div-eq-of-lt, div-lt-iff-lt-mul, le-div-iff-mul-le, add-mul-div-right}
-use lib.ListN.{getD, length}
+use native.Mathlib.Nat.{div-mul-le-self, mul-le-mul-left, mul-le-mul, zero-add, zero-mul, add-mul, mul-add, div-eq-of-lt, div-lt-iff-lt-mul, le-div-iff-mul-le, add-mul-div-right, mul-div-cancel}
+use lib.ListN.{getD, length, set, replicate, length-set, length-replicate, getD-replicate}
+use lib.Seq.{getD-set-same, getD-set-other}
+use lib.Dec.{ltb}
 use Rattle.model.specs.Basics.{sumN}
-use Rattle.model.specs.Delays.{spacings, settle}
+use Rattle.model.specs.Delays.{spacings, Settled, unchanged, reached, settle}
 use Rattle.lemmas.proofs.Tests.{Cmp, less, same, more, cmp, at-or-not}
-use Rattle.theory.proofs.Levels.{reachOf, rising, never-unchanged}
-use Rattle.theory.proofs.Rounds.{settle-full, settle-same, settle-next, spacings-some, spacings-mono}
-use Rattle.lemmas.proofs.Range.{sumN-le}
-use Rattle.rounds.specs.Level.{LevelOn, roundIn, reachIn, shareIn, endOf, Counted, moreBy, CountsOn}
+use Rattle.theory.proofs.Levels.{reachOf}
+use Rattle.theory.proofs.Jumps.{flowing, counting, flow-below}
+use Rattle.theory.proofs.Rounds.{settle-fixed, settle-least, settle-finds, never-reached, spacings-some, spacings-mono}
+use Rattle.lemmas.proofs.Range.{sumN-le, le-sumN}
+use Rattle.rounds.specs.Level.{LevelOn, roundIn, reachIn, endOf, Counted, moreBy, CountsOn, LowerBound, RoundAt, ShareOf, Shares}
 
 less-quotient : (q d m : ℕ) → 1 ≤ m → q * m ≤ d + (m - 1) → q ≤ d
 less-quotient q d m p h = go (cmp q (suc d))
@@ -101,14 +105,14 @@ load-adds : (load p d m end : ℕ) → 1 ≤ m → p ≤ d → (0 < load → end
 load-adds zero p d m end o h e = omega (arith, zero-mul (spacings p m), zero-mul (moreBy d end m), zero-mul (spacings d m))
 load-adds (suc load) p d m end o h e = sym (mul-add (suc load) (spacings p m) (moreBy d end m)) ∙ ap (λ x. suc load * x) (counted-on p d m end o h (e (omega arith)))
 
--- the loop of a round after one at p: the first u sources are counted on to d
-pub record Halfway (loads gaps : List ℕ) (n p d : ℕ) (ends : List ℕ) (u sum : ℕ) : Type 0 where
+-- the loop of a round after one at p that came to a sum before: the first u sources are counted on to d
+pub record Halfway (loads gaps : List ℕ) (n p d before : ℕ) (ends : List ℕ) (u sum : ℕ) : Type 0 where
   pub done : Counted loads gaps u d ends
   pub left : (k : ℕ) → u ≤ k → k < n → 0 < getD loads k 0 → getD ends k 0 ≡ endOf gaps p k
-  pub total : sum + roundIn 0 loads gaps u p ≡ d + roundIn 0 loads gaps u d
+  pub total : sum + roundIn 0 loads gaps u p ≡ before + roundIn 0 loads gaps u d
 
-module _ (loads gaps : List ℕ) (n p d : ℕ) where
-  pub halfway-none : (ends : List ℕ) → Counted loads gaps n p ends → Halfway loads gaps n p d ends 0 d
+module _ (loads gaps : List ℕ) (n p d before : ℕ) where
+  pub halfway-none : (ends : List ℕ) → Counted loads gaps n p ends → Halfway loads gaps n p d before ends 0 before
   halfway-none ends c =
       record {
         done = record { sized = c .sized; at = λ k q y. absurd (omega arith) };
@@ -116,7 +120,7 @@ module _ (loads gaps : List ℕ) (n p d : ℕ) where
         total = omega (arith, round-none 0 loads gaps n p, round-none 0 loads gaps n d);
       }
 
-  pub halfway-more : (ends after : List ℕ) (u sum r : ℕ) → LevelOn 0 loads gaps n → p ≤ d → u < n → CountsOn (getD loads u 0) (getD gaps u 0) d ends u sum after r → Halfway loads gaps n p d ends u sum → Halfway loads gaps n p d after (u + 1) r
+  pub halfway-more : (ends after : List ℕ) (u sum r : ℕ) → LevelOn 0 loads gaps n → p ≤ d → u < n → CountsOn (getD loads u 0) (getD gaps u 0) d ends u sum after r → Halfway loads gaps n p d before ends u sum → Halfway loads gaps n p d before after (u + 1) r
   halfway-more ends after u sum r g h q c w =
       let e : 0 < getD loads u 0 → getD ends u 0 ≡ endOf gaps p u = w .left u (omega arith) q in
       let long : u < length ends = omega (arith, w .done .sized, g .few) in
@@ -131,7 +135,7 @@ module _ (loads gaps : List ℕ) (n p d : ℕ) where
         total = omega (arith, c .total, w .total, round-more 0 loads gaps n p u, round-more 0 loads gaps n d u, load-adds (getD loads u 0) p d (getD gaps u 0) (getD ends u 0) (g .gap-some u q) h e);
       }
 
-  pub halfway-done : (ends : List ℕ) (sum start : ℕ) → d ≡ roundIn start loads gaps n p → Halfway loads gaps n p d ends n sum → sum ≡ roundIn start loads gaps n d
+  pub halfway-done : (ends : List ℕ) (sum start : ℕ) → before ≡ roundIn start loads gaps n p → Halfway loads gaps n p d before ends n sum → sum ≡ roundIn start loads gaps n d
   unfolding roundIn
   halfway-done ends sum start e w = omega (arith, e, w .total)
 
@@ -145,67 +149,137 @@ pub round-in-start : (start : ℕ) (loads gaps : List ℕ) (n d : ℕ) → start
 unfolding roundIn
 round-in-start start loads gaps n d = omega arith
 
--- the loop of a level: what is left to work out from d on, for every bound on the rounds that is enough
-abbrev pub ReachFrom : (ℕ → ℕ) → ℕ → ℕ → ℕ → Type 0
-ReachFrom next limit d r = (f : ℕ) → limit < d + f → r ≡ reachOf (settle f next limit d) limit
+-- lower bounds of the fixed points: the start, and the round at a lower bound
+pub lower-start : (start : ℕ) (loads gaps : List ℕ) (n : ℕ) → LowerBound start loads gaps n start
+lower-start start loads gaps n L e = omega (arith, round-in-start start loads gaps n L)
 
-pub reach-full : (next : ℕ → ℕ) (limit d : ℕ) → limit ≤ d → ReachFrom next limit d limit
-unfolding settle
-reach-full next limit d h zero b = refl
-reach-full next limit d h (suc f) b = rw (settle-full f next limit d h)
+pub lower-round : (start : ℕ) (loads gaps : List ℕ) (n d : ℕ) → LevelOn start loads gaps n → LowerBound start loads gaps n d → LowerBound start loads gaps n (roundIn start loads gaps n d)
+lower-round start loads gaps n d g b L e = omega (arith, round-in-mono start loads gaps n g d L (b L e))
 
-pub reach-same : (next : ℕ → ℕ) (limit d : ℕ) → d < limit → next d ≡ d → ReachFrom next limit d d
-reach-same next limit d h e zero b = absurd (omega arith)
-reach-same next limit d h e (suc f) b = rw (settle-same f next limit d h e)
+-- the loop of a level ends at a lower bound of the fixed points
+module _ (start : ℕ) (loads gaps : List ℕ) (n limit d : ℕ) (g : LevelOn start loads gaps n) (b : LowerBound start loads gaps n d) where
+  abbrev next : ℕ → ℕ
+  next = roundIn start loads gaps n
 
-pub reach-next : (next : ℕ → ℕ) (limit d r : ℕ) → d < limit → (next d ≡ d → ⊥) → d ≤ next d → ReachFrom next limit (next d) r → ReachFrom next limit d r
-reach-next next limit d r h e m k zero b = absurd (omega arith)
-reach-next next limit d r h e m k (suc f) b = rw (settle-next f next limit d h e) (k f (further (cmp (next d) d)))
-  where
-    further : Cmp (next d) d → limit < next d + f
-    further (less x) = absurd (omega arith)
-    further (same x) = absurd (e x)
-    further (more x) = omega arith
+  abbrev rounds : Settled
+  rounds = settle (suc limit) next limit start
 
--- where the next round reaches the limit, so does d or what comes after it
-pub reach-over : (next : ℕ → ℕ) (limit d : ℕ) → d ≤ next d → limit ≤ next d → ReachFrom next limit d limit
-reach-over next limit d m h = go (cmp d limit)
-  where
-    go : Cmp d limit → ReachFrom next limit d limit
-    go (less p) = reach-next next limit d limit p (λ e. omega arith) m (reach-full next limit (next d) h)
-    go (same p) = reach-full next limit d (omega arith)
-    go (more p) = reach-full next limit d (omega arith)
-
-pub reach-done : (start : ℕ) (loads gaps : List ℕ) (n limit r : ℕ) → ReachFrom (roundIn start loads gaps n) limit start r → r ≡ reachIn start loads gaps n limit
-unfolding reachIn
-reach-done start loads gaps n limit r h = h (suc limit) (omega arith)
-
--- the loop of the shares
-module _ (k : ℕ) (loads gaps : List ℕ) where
-  pub share-none : 0 ≡ shareIn k loads gaps 0
-  unfolding shareIn sumN
-  share-none = refl
-
-  pub share-more : (u : ℕ) → shareIn k loads gaps (u + 1) ≡ shareIn k loads gaps u + getD loads u 0 * k / getD gaps u 0
-  unfolding shareIn sumN
-  share-more u = rw (add-one, sumN, zero-add)
-
-  pub share-grows : (u n : ℕ) → u ≤ n → shareIn k loads gaps u ≤ shareIn k loads gaps n
-  unfolding shareIn sumN
-  share-grows u zero p = let e : u ≡ 0 = omega arith in rw e (omega arith)
-  share-grows u (suc n) p = go (cmp u (suc n)) (share-grows u n)
+  -- one that a round does not raise is where the rounds come to
+  pub reach-fixed : start ≤ d → d ≤ limit → next d ≤ d → d ≡ reachIn start loads gaps n limit
+  unfolding reachIn
+  reach-fixed s m h = go rounds refl
     where
-      go : Cmp u (suc n) → (u ≤ n → shareIn k loads gaps u ≤ shareIn k loads gaps n) → shareIn k loads gaps u ≤ shareIn k loads gaps (suc n)
-      go (less r) ih = omega (arith, ih (omega arith))
-      go (same r) ih = rw r (omega arith)
-      go (more r) ih = absurd (omega arith)
+      full : rounds ≡ reached → Cmp d limit → d ≡ limit
+      full e (less l) = let (D, x) = settle-finds next (round-in-mono start loads gaps n g) limit (suc limit) start d s (round-in-start start loads gaps n start) h l (omega arith) in absurd (never-reached (sym e ∙ x))
+      full e (same l) = l
+      full e (more l) = absurd (omega arith)
 
--- a saturated level reaches every limit
-pub saturated-reach : (k start : ℕ) (loads gaps : List ℕ) (n limit : ℕ) → LevelOn start loads gaps n → k < shareIn k loads gaps n → limit ≡ reachIn start loads gaps n limit
-unfolding reachIn shareIn roundIn
-saturated-reach k start loads gaps n limit g h =
-    sym (never-unchanged (suc limit) (λ d. start + sumN (λ u. getD loads u 0 * spacings d (getD gaps u 0)) 0 n) limit start
-    (λ D. omega (arith, rising (λ u. getD loads u 0) (λ u. getD gaps u 0) 0 n k (λ u p q. g .gap-some u (omega arith)) h D)))
+      go : (r : Settled) → rounds ≡ r → d ≡ reachOf r limit
+      go (unchanged D) e =
+          omega
+          (arith, b D (settle-fixed (suc limit) next limit start D e .0), settle-least next (round-in-mono start loads gaps n g) limit (suc limit) start D d s h e)
+      go reached e = full e (cmp d limit)
+
+  -- where its round reaches the limit, they come to the limit
+  pub reach-over : limit ≤ next d → limit ≡ reachIn start loads gaps n limit
+  unfolding reachIn
+  reach-over h = go rounds refl
+    where
+      go : (r : Settled) → rounds ≡ r → limit ≡ reachOf r limit
+      go (unchanged D) e =
+          let f = settle-fixed (suc limit) next limit start D e in
+          absurd (omega (arith, lower-round start loads gaps n d g b D (f .0), f .1))
+      go reached e = refl
+
+-- the shares: none is worked out, and one more is
+pub shares-none : (start : ℕ) (loads gaps : List ℕ) (n : ℕ) → LevelOn start loads gaps n → Shares loads gaps n (replicate 16 0)
+shares-none start loads gaps n g =
+    record {
+      sized = length-replicate {A = ℕ} 16 0;
+      at = λ u p. let e : getD (replicate {A = ℕ} 16 0) u 0 ≡ 0 = getD-replicate {A = ℕ} 16 u 0 0 (omega (arith, g .few)) in
+          record { part = rw e (omega (arith, zero-mul (getD gaps u 0))); most = rw e (omega arith) };
+    }
+
+pub shares-more : (loads gaps : List ℕ) (n : ℕ) (shares : List ℕ) (u v : ℕ) → u < 16 → ShareOf (getD loads u 0) (getD gaps u 0) v → Shares loads gaps n shares → Shares loads gaps n (set shares u v)
+shares-more loads gaps n shares u v p s h =
+    record {
+      sized = length-set shares u v ∙ h .sized;
+      at = λ k q. at-or-not (λ k. k < n → ShareOf (getD loads k 0) (getD gaps k 0) (getD (set shares u v) k 0)) u k
+          (λ q. rw (getD-set-same shares u v 0 (omega (arith, h .sized))) s)
+          (λ ne q. rw (getD-set-other shares u k v 0 ne) (h .at k q)) q;
+    }
+
+-- what a source brings by its counted firings
+pub counted-part : (start : ℕ) (loads gaps : List ℕ) (n d : ℕ) (ends : List ℕ) → LevelOn start loads gaps n → Counted loads gaps n d ends → (u : ℕ) → u < n → getD loads u 0 * (getD ends u 0 / getD gaps u 0) ≡ getD loads u 0 * spacings d (getD gaps u 0)
+counted-part start loads gaps n d ends g c u p = go (getD loads u 0) (c .at u p)
+  where
+    go : (load : ℕ) → (0 < load → getD ends u 0 ≡ endOf gaps d u) → load * (getD ends u 0 / getD gaps u 0) ≡ load * spacings d (getD gaps u 0)
+    go zero e = zero-mul (getD ends u 0 / getD gaps u 0) ∙ sym (zero-mul (spacings d (getD gaps u 0)))
+    go (suc load) e =
+        ap (λ x. suc load * x)
+        (ap (λ x. x / getD gaps u 0) (e (omega arith)) ∙ mul-div-cancel (spacings d (getD gaps u 0)) {n = getD gaps u 0} (g .gap-some u p))
+
+pub part-most : (start : ℕ) (loads gaps : List ℕ) (n : ℕ) (ends : List ℕ) → LevelOn start loads gaps n → RoundAt start loads gaps n ends → (u : ℕ) → u < n → getD loads u 0 * (getD ends u 0 / getD gaps u 0) ≤ 1000000000
+unfolding roundIn
+part-most start loads gaps n ends g r u p =
+    omega
+    (arith, counted-part start loads gaps n (r .place) ends g (r .counted) u p, le-sumN (λ u. getD loads u 0 * spacings (r .place) (getD gaps u 0)) 0 n u (omega arith) (omega arith), r .most)
+
+-- one of two, or else 0, is at most that one
+pub first-most : (b : Bool) (x : ℕ) → cond b x 0 ≤ x
+first-most true x = omega arith
+first-most false x = omega arith
+
+pub second-most : (b : Bool) (x : ℕ) → cond b 0 x ≤ x
+second-most true x = omega arith
+second-most false x = omega arith
+
+-- the loop of a flow: the sources below u whose firings end before far are taken as flow
+module _ (start : ℕ) (loads gaps : List ℕ) (n : ℕ) (ends shares : List ℕ) (far : ℕ) where
+  abbrev load : ℕ → ℕ
+  load u = getD loads u 0
+
+  abbrev gap : ℕ → ℕ
+  gap u = getD gaps u 0
+
+  abbrev share : ℕ → ℕ
+  share u = getD shares u 0
+
+  abbrev flows : ℕ → Bool
+  flows u = ltb (getD ends u 0) far
+
+  unfoldable pub flowTo : ℕ → ℕ
+  flowTo u = sumN (flowing flows share) 0 u
+
+  unfoldable pub restTo : ℕ → ℕ → ℕ
+  restTo d u = start + sumN (counting flows load gap d) 0 u
+
+  pub flow-none-yet : 0 ≡ flowTo 0
+  unfolding flowTo sumN
+  flow-none-yet = refl
+
+  pub rest-none-yet : (d : ℕ) → start ≡ restTo d 0
+  unfolding restTo sumN
+  rest-none-yet d = omega arith
+
+  pub flow-more : (u : ℕ) → flowTo (u + 1) ≡ flowTo u + cond (flows u) (share u) 0
+  unfolding flowTo sumN
+  flow-more u = rw (add-one, sumN, zero-add)
+
+  pub rest-more : (d u : ℕ) → restTo d (u + 1) ≡ restTo d u + cond (flows u) 0 (load u * spacings d (gap u))
+  unfolding restTo sumN
+  rest-more d u = rw (add-one, sumN, zero-add) (omega arith)
+
+  -- the rest is at most the round
+  pub rest-most : (d : ℕ) → restTo d n ≤ roundIn start loads gaps n d
+  unfolding restTo roundIn
+  rest-most d = omega (arith, sumN-le (counting flows load gap d) (λ u. load u * spacings d (gap u)) 0 n (λ u p q. second-most (flows u) (load u * spacings d (gap u))))
+
+  -- every fixed point holds the rest and the flow
+  pub flow-lower : (d L : ℕ) → LevelOn start loads gaps n → Shares loads gaps n shares → d ≤ L → roundIn start loads gaps n L ≡ L → 8589934592 * restTo d n + flowTo n * L ≤ 8589934592 * L
+  unfolding restTo flowTo roundIn
+  flow-lower d L g s h e =
+      flow-below load gap share 0 n 8589934592 (λ u p q. g .gap-some u (omega arith)) (λ u p q. s .at u (omega arith) .part) flows start d L h e
 
 pub level-any : (start : ℕ) (loads gaps : List ℕ) (n : ℕ) → LevelOn start loads gaps n → LevelOn 0 loads gaps n
 level-any start loads gaps n g =

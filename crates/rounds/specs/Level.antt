@@ -39,16 +39,44 @@ pub record CountsOn (load gap d : ℕ) (ends : List ℕ) (u sum : ℕ) (after : 
   pub here : u < length ends → getD after u 0 ≡ getD ends u 0 + moreBy d (getD ends u 0) gap * gap
   pub others : (k : ℕ) → (k ≡ u → ⊥) → getD after k 0 ≡ getD ends k 0
 
--- a round after the one that gave d from p: it is worked out by the firings that d has beyond those counted for p
-abbrev pub NextRound : List ℕ → List ℕ → ℕ → ℕ → List ℕ → List ℕ → ℕ → Type 0
-NextRound loads gaps n d ends after r =
-    (start p : ℕ) → p ≤ d → Counted loads gaps n p ends → d ≡ roundIn start loads gaps n p
+-- a round at d after one that gave sum at p: it is worked out by the firings that d has beyond those counted for p
+abbrev pub NextRound : List ℕ → List ℕ → ℕ → ℕ → ℕ → List ℕ → List ℕ → ℕ → Type 0
+NextRound loads gaps n d sum ends after r =
+    (start p : ℕ) → p ≤ d → Counted loads gaps n p ends → sum ≡ roundIn start loads gaps n p
     → (r ≡ roundIn start loads gaps n d) × Counted loads gaps n d after
+
+-- no fixed point of the level, which a round leaves unchanged, is below d
+abbrev pub LowerBound : ℕ → List ℕ → List ℕ → ℕ → ℕ → Type 0
+LowerBound start loads gaps n d = (L : ℕ) → roundIn start loads gaps n L ≡ L → d ≤ L
+
+-- a place that no fixed point is below, with the firings of every source counted, whose round is on the scale
+pub record RoundAt (start : ℕ) (loads gaps : List ℕ) (n : ℕ) (ends : List ℕ) : Type 0 where
+  pub place : ℕ
+  pub counted : Counted loads gaps n place ends
+  pub some : 1 ≤ roundIn start loads gaps n place
+  pub most : roundIn start loads gaps n place ≤ 1000000000
+  pub lower : LowerBound start loads gaps n place
+
+-- a share of a tick in parts of 2 ^ 33: at most load / gap
+pub record ShareOf (load gap share : ℕ) : Type 0 where
+  pub part : share * gap ≤ load * 8589934592
+  pub most : share ≤ 8589934593
+
+-- the shares of n sources
+pub record Shares (loads gaps : List ℕ) (n : ℕ) (shares : List ℕ) : Type 0 where
+  pub sized : length shares ≡ 16
+  pub at : (u : ℕ) → u < n → ShareOf (getD loads u 0) (getD gaps u 0) (getD shares u 0)
+
+-- a lower bound of every length L ≥ 1 that holds a rest and a flow, in parts of 2 ^ 33 for each tick; at most the limit
+pub record FlowEnd (rest flow limit r : ℕ) : Type 0 where
+  pub lower : (L : ℕ) → 1 ≤ L → 8589934592 * rest + flow * L ≤ 8589934592 * L → r ≤ L
+  pub most : r ≤ limit
+
+-- a lower bound of the fixed points, at most the limit
+pub record Jump (start : ℕ) (loads gaps : List ℕ) (n limit r : ℕ) : Type 0 where
+  pub lower : LowerBound start loads gaps n r
+  pub most : r ≤ limit
 
 -- where its rounds come to
 unfoldable pub reachIn : ℕ → List ℕ → List ℕ → ℕ → ℕ → ℕ
 reachIn start loads gaps n limit = reachOf (settle (suc limit) (roundIn start loads gaps n) limit start) limit
-
--- the load per tick in parts of k
-unfoldable pub shareIn : ℕ → List ℕ → List ℕ → ℕ → ℕ
-shareIn k loads gaps n = sumN (λ u. getD loads u 0 * k / getD gaps u 0) 0 n

@@ -1,11 +1,12 @@
 // The rounds that work out how long a task's level may stay busy.
 
 ghost use mathlib.Core.Path.{_≡_};
-ghost use mathlib.Core.Bool.{true};
-ghost use Prim.Native.Nat.{_+_, _*_, _≤_, _<_};
+ghost use mathlib.Core.Bool.{cond};
+ghost use Prim.Native.Nat.{_+_, _*_, _/_, _≤_, _<_};
+ghost use lib.Dec.{ltb};
 ghost use lib.ListN.{length};
 ghost use Rattle.model.specs.Delays.{spacings};
-ghost use Rattle.rounds.specs.Level.{LevelOn, roundIn, reachIn, shareIn, Counted, CountsOn, NextRound};
+ghost use Rattle.rounds.specs.Level.{LevelOn, roundIn, reachIn, Counted, CountsOn, NextRound, RoundAt, ShareOf, Shares, FlowEnd, Jump};
 
 // How many spacings of m ticks a stretch of d ticks holds: rounded up, and at least 1.
 pub fn spacings_in(d: u64, m: u64) -> u64
@@ -68,12 +69,19 @@ fn count_on(load: u64, gap: u64, d: u64, ends: &mut [u64; 16], u: usize, sum: u6
     sum + load * count
 }
 
-// A round after one that came to d: what the level may bring in a stretch of d ticks.
-fn next_reach(loads: &[u64; 16], gaps: &[u32; 16], n: usize, d: u64, ends: &mut [u64; 16]) -> u64
-    requires { ⌜ LevelOn 0 (now loads) (now gaps) n × (d ≤ 1000000000) ⌝ }
-    ensures { λ r. ⌜ NextRound (now (loads .entry)) (now (gaps .entry)) n d (now (ends .entry)) (now (ends .exit)) r ⌝ }
+// A round at d after one that came to a sum: what the level may bring in a stretch of d ticks.
+fn next_reach(
+    loads: &[u64; 16],
+    gaps: &[u32; 16],
+    n: usize,
+    d: u64,
+    before: u64,
+    ends: &mut [u64; 16],
+) -> u64
+    requires { ⌜ LevelOn 0 (now loads) (now gaps) n × (d ≤ 1000000000) × (before ≤ 1000000000) ⌝ }
+    ensures { λ r. ⌜ NextRound (now (loads .entry)) (now (gaps .entry)) n d before (now (ends .entry)) (now (ends .exit)) r ⌝ }
 {
-    let mut sum = d;
+    let mut sum = before;
     let mut u: usize = 0;
     while u < n {
         sum = count_on(loads[u], gaps[u] as u64, d, ends, u, sum);
@@ -82,35 +90,126 @@ fn next_reach(loads: &[u64; 16], gaps: &[u32; 16], n: usize, d: u64, ends: &mut 
     sum
 }
 
-// Whether the level is loaded by more than one tick for each tick, so that every round raises d.
-pub fn saturated(loads: &[u64; 16], gaps: &[u32; 16], n: usize) -> bool
-    requires { ⌜ LevelOn 0 (now loads) (now gaps) n ⌝ }
-    ensures { λ r. ⌜ (r ≡ true → 8589934592 < shareIn 8589934592 (now (loads .entry)) (now (gaps .entry)) n) ⌝ }
+// A source's share of each tick in parts of 2^33, rounded down; all shares above a tick count alike.
+fn share_of(load: u64, gap: u64) -> u64
+    requires { ⌜ (load ≤ 1000000000) × (1 ≤ gap) ⌝ }
+    ensures { λ r. ⌜ ShareOf load gap r ⌝ }
 {
-    let mut sum: u64 = 0;
+    let share = load * 8589934592 / gap;
+    if 8589934592 < share {
+        return 8589934593;
+    }
+    share
+}
+
+// The shares of all sources, worked out after 32 rounds and never again: most levels settle in fewer.
+fn fill_shares(loads: &[u64; 16], gaps: &[u32; 16], n: usize, rounds: u64, shares: &mut [u64; 16])
+    requires { ⌜ LevelOn 0 (now loads) (now gaps) n × Shares (now loads) (now gaps) n (now shares) ⌝ }
+    ensures { λ _. ⌜ Shares (now (loads .entry)) (now (gaps .entry)) n (now (shares .exit)) ⌝ }
+{
+    if rounds != 32 {
+        return;
+    }
     let mut u: usize = 0;
     while u < n {
-        sum = sum + loads[u] * 8589934592 / gaps[u] as u64;
-        if 8589934592 < sum {
-            return true;
-        }
+        shares[u] = share_of(loads[u], gaps[u] as u64);
         u += 1;
     }
-    false
 }
 
-// The same, asked after 32 rounds and never again: most levels settle in fewer.
-fn hopeless(loads: &[u64; 16], gaps: &[u32; 16], n: usize, rounds: u64) -> bool
-    requires { ⌜ LevelOn 0 (now loads) (now gaps) n ⌝ }
-    ensures { λ r. ⌜ (r ≡ true → 8589934592 < shareIn 8589934592 (now (loads .entry)) (now (gaps .entry)) n) ⌝ }
+// A source as a flow: its share, if the firings counted end before a far place.
+fn flow_of(share: u64, end: u64, far: u64) -> u64
+    ensures { λ r. ⌜ r ≡ cond (ltb end far) share 0 ⌝ }
 {
-    if rounds == 32 {
-        return saturated(loads, gaps, n);
+    if end < far {
+        return share;
     }
-    false
+    0
 }
 
-// Where the rounds come to below a limit: the d that one leaves unchanged, or else the limit.
+// Any other source: what its counted firings bring.
+fn rest_of(load: u64, gap: u64, end: u64, far: u64) -> u64
+    requires { ⌜ (1 ≤ gap) × (load * (end / gap) ≤ 1000000000) ⌝ }
+    ensures { λ r. ⌜ r ≡ cond (ltb end far) 0 (load * (end / gap)) ⌝ }
+{
+    if end < far {
+        return 0;
+    }
+    load * (end / gap)
+}
+
+// The least length that a rest and a flow fill, rounded up; the limit where none does, or a lesser one.
+fn flow_end(rest: u64, flow: u64, limit: u64) -> u64
+    requires { ⌜ (rest ≤ 1000000000) × (flow ≤ 137438953488) ⌝ }
+    ensures { λ r. ⌜ FlowEnd rest flow limit r ⌝ }
+{
+    if 8589934592 <= flow {
+        if 8589934592 < flow + rest {
+            return limit;
+        }
+        return 0;
+    }
+    let bound = (8589934592 * rest + (8589934592 - flow - 1)) / (8589934592 - flow);
+    if limit < bound {
+        return limit;
+    }
+    bound
+}
+
+// A lower bound of the level's fixed points: the sources whose firings end before a far place taken as a steady flow.
+fn flow_bound(
+    start: u64,
+    loads: &[u64; 16],
+    gaps: &[u32; 16],
+    n: usize,
+    ends: &[u64; 16],
+    shares: &[u64; 16],
+    far: u64,
+    limit: u64,
+) -> u64
+    requires { ⌜ LevelOn start (now loads) (now gaps) n × RoundAt start (now loads) (now gaps) n (now ends) × Shares (now loads) (now gaps) n (now shares) ⌝ }
+    ensures { λ r. ⌜ Jump start (now (loads .entry)) (now (gaps .entry)) n limit r ⌝ }
+{
+    let mut rest = start;
+    let mut flow: u64 = 0;
+    let mut u: usize = 0;
+    while u < n {
+        let end = ends[u];
+        rest = rest + rest_of(loads[u], gaps[u] as u64, end, far);
+        flow = flow + flow_of(shares[u], end, far);
+        u += 1;
+    }
+    flow_end(rest, flow, limit)
+}
+
+// Where the next round is worked out: at the sum of the last one, and after 32 rounds at the best bound that a flow gives.
+fn jumped(
+    start: u64,
+    loads: &[u64; 16],
+    gaps: &[u32; 16],
+    n: usize,
+    ends: &[u64; 16],
+    shares: &[u64; 16],
+    sum: u64,
+    rounds: u64,
+    limit: u64,
+) -> u64
+    requires { ⌜ LevelOn start (now loads) (now gaps) n × RoundAt start (now loads) (now gaps) n (now ends) × Shares (now loads) (now gaps) n (now shares) × Jump start (now loads) (now gaps) n limit sum ⌝ }
+    ensures { λ r. ⌜ Jump start (now (loads .entry)) (now (gaps .entry)) n limit r × (sum ≤ r) ⌝ }
+{
+    if rounds < 32 {
+        return sum;
+    }
+    let mut far = sum;
+    let mut next = flow_bound(start, loads, gaps, n, ends, shares, far, limit);
+    while far < next {
+        far = next;
+        next = flow_bound(start, loads, gaps, n, ends, shares, far, limit);
+    }
+    far
+}
+
+// Where the rounds come to below a limit: the least d that one leaves unchanged, or else the limit.
 pub fn level_reach(start: u64, loads: &[u64; 16], gaps: &[u32; 16], n: usize, limit: u64) -> u64
     requires { ⌜ LevelOn start (now loads) (now gaps) n × (limit ≤ 1000000000) ⌝ }
     ensures { λ r. ⌜ r ≡ reachIn start (now (loads .entry)) (now (gaps .entry)) n limit ⌝ }
@@ -119,18 +218,17 @@ pub fn level_reach(start: u64, loads: &[u64; 16], gaps: &[u32; 16], n: usize, li
         return limit;
     }
     let mut ends = [0u64; 16];
+    let mut shares = [0u64; 16];
     let mut d = start;
-    let mut next = first_reach(start, loads, gaps, n, &mut ends);
+    let mut sum = first_reach(start, loads, gaps, n, &mut ends);
     let mut rounds: u64 = 0;
-    while next < limit {
-        if next == d {
+    while sum < limit {
+        if sum <= d {
             return d;
         }
-        if hopeless(loads, gaps, n, rounds) {
-            return limit;
-        }
-        d = next;
-        next = next_reach(loads, gaps, n, d, &mut ends);
+        fill_shares(loads, gaps, n, rounds, &mut shares);
+        d = jumped(start, loads, gaps, n, &ends, &shares, sum, rounds, limit);
+        sum = next_reach(loads, gaps, n, d, sum, &mut ends);
         rounds += 1;
     }
     limit

@@ -1,11 +1,11 @@
--- One working out for all links into a task: the rounds for (i, j) differ only in where they stop; and a level that is loaded
--- beyond what time allows is settled with no round. Assumes nothing.
+-- One working out for all links into a task: the rounds for (i, j) differ only in where they stop; and document 000's test (6) for
+-- a level that is loaded beyond what time allows. Assumes nothing.
 use Prim.Native.Nat.{ℕ, zero, suc, _+_, _-_, _*_, _/_, _≤_, _<_, max}
 use mathlib.Core.Path.{_≡_, refl, sym, ap, _∙_}
 use mathlib.Core.Bool.{cond}
 use mathlib.Core.Logic.{_⊎_, inl, inr}
 use native.Mathlib.Omega.{arith}
-use native.Mathlib.Nat.{div-mul-le-self, div-le-self, lt-div-mul-add, mul-le-mul-left, mul-le-mul-right, zero-add, lt-of-mul-lt-mul-left}
+use native.Mathlib.Nat.{lt-div-mul-add, mul-le-mul-left, mul-le-mul-right, zero-add}
 use lib.Dec.{ltb}
 use borrow.Author.Tests.{lt-ltb, le-ltb, ne-eqb}
 use Rattle.model.specs.declared.Description.{Description}
@@ -96,44 +96,6 @@ spacings-cover d m p =
     let q : ℕ = (d + (m - 1)) / m in
     let a : q ≤ max 1 q = omega arith in
     omega (arith, lt-div-mul-add {a = d + (m - 1)} {b = m} p, mul-le-mul-right m a)
-
--- a level whose load per tick is above 1, in parts of K rounded down: every round raises D
-module _ (w gap : ℕ → ℕ) (a n K : ℕ) (g : Each (λ u. 1 ≤ gap u) a n) where
-  abbrev share : ℕ → ℕ
-  share u = w u * K / gap u
-
-  part-of : (D u : ℕ) → a ≤ u → u < a + n → D * share u ≤ K * (w u * spacings D (gap u))
-  part-of D u p q =
-      let c : ℕ = spacings D (gap u) in
-      let x : D * share u ≤ c * gap u * share u = mul-le-mul-right (share u) (spacings-cover D (gap u) (g u p q)) in
-      let y : c * (share u * gap u) ≤ c * (w u * K) = mul-le-mul-left c (div-mul-le-self (w u * K) (gap u)) in
-      omega arith
-
-  some-of : (D u : ℕ) → share u ≤ K * (w u * spacings D (gap u))
-  some-of D u =
-      omega
-      (arith, div-le-self (w u * K) (gap u), mul-le-mul-left (w u * K) (spacings-some D (gap u)))
-
-  strict : (D R B : ℕ) → D * B ≤ K * R → D * suc K ≤ D * B → K < K * R → K * D < K * R
-  strict zero R B big up one = omega arith
-  strict (suc D) R B big up one = omega arith
-
-  pub rising : K < sumN (λ u. w u * K / gap u) a n → (D : ℕ) → D < sumN (λ u. w u * spacings D (gap u)) a n
-  rising h D =
-      let f : ℕ → ℕ = λ u. w u * spacings D (gap u) in
-      let all : sumN (λ u. D * share u) a n ≤ sumN (λ u. K * f u) a n = sumN-le (λ u. D * share u) (λ u. K * f u) a n (part-of D) in
-      let some : sumN share a n ≤ sumN (λ u. K * f u) a n = sumN-le share (λ u. K * f u) a n (λ u p q. some-of D u) in
-      let big : D * sumN share a n ≤ K * sumN f a n = omega (arith, sumN-mul D share a n, sumN-mul K f a n) in
-      let one : K < K * sumN f a n = omega (arith, sumN-mul K f a n) in
-      lt-of-mul-lt-mul-left K {m = D} {n = sumN f a n} (strict D (sumN f a n) (sumN share a n) big (mul-le-mul-left D h) one)
-
--- so no D is left unchanged
-pub never-unchanged : (n : ℕ) (next : ℕ → ℕ) (limit d : ℕ) → ((D : ℕ) → D < next D) → reachOf (settle n next limit d) limit ≡ limit
-never-unchanged n next limit d up = go (settle n next limit d) refl
-  where
-    go : (r : Settled) → settle n next limit d ≡ r → reachOf r limit ≡ limit
-    go (unchanged D) e = absurd (omega (arith, up D, settle-fixed n next limit d D e .0))
-    go reached e = refl
 
 -- a factor of a number that is not 0
 some-factor : (m g P : ℕ) → m * g ≡ P → 1 ≤ P → 1 ≤ m

@@ -7,6 +7,7 @@ pub mod QuotedFile
 pub mod Walk
 pub mod Order
 pub mod Levels
+pub mod Jumps
 pub mod NumberBytes
 pub mod FieldLaws
 pub mod RecordLaws

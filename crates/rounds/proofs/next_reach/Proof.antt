@@ -10,14 +10,14 @@ use Rattle.rounds.proofs.next_reach.Statement.{statement}
 use Rattle.rounds.proofs.next_reach.Tie as tie
 
 abbrev Inv-loop : tie.InvT-loop
-Inv-loop loads gaps n d ends₀ sum₀ u₀ ends sum u =
-    (u ≤ n) × (sum ≤ 1000000000 + u * 1000000000000000000) × ((p : ℕ) → p ≤ d → Counted loads gaps n p ends₀ → Halfway loads gaps n p d ends u sum)
+Inv-loop loads gaps n d before ends₀ sum₀ u₀ ends sum u =
+    (u ≤ n) × (sum ≤ 1000000000 + u * 1000000000000000000) × ((p : ℕ) → p ≤ d → Counted loads gaps n p ends₀ → Halfway loads gaps n p d before ends u sum)
 
 abbrev μ-loop : tie.MeasureT-loop
-μ-loop loads gaps n d ends₀ sum₀ u₀ ends sum u = n - u
+μ-loop loads gaps n d before ends₀ sum₀ u₀ ends sum u = n - u
 
 loop-holds : tie.Need-loop-holds Inv-loop μ-loop
-loop-holds c = let a = c .args in (omega arith, omega (arith, c .pre .1), λ p h q. halfway-none (a .loads .now) (a .gaps .now) (a .n) p (a .d) (a .ends .now) q)
+loop-holds c = let a = c .args in (omega arith, omega (arith, c .pre .2), λ p h q. halfway-none (a .loads .now) (a .gaps .now) (a .n) p (a .d) (a .before) (a .ends .now) q)
 
 mul-count-on : tie.Need-mul-count-on Inv-loop μ-loop
 mul-count-on c = omega (arith, c .before .before .pre .0 .few)
@@ -63,7 +63,7 @@ loop-again c =
     let part = mul-le-mul (g .load-most (L .u) (omega arith)) (more-most (a .d) (getD (L .ends) (L .u) 0) m (g .gap-some (L .u) (omega arith)) (S .pre .1)) in (
       omega arith,
       omega (arith, c .count-on .ensures .total, part, L .inv .1),
-      λ p h q. halfway-more (a .loads .now) (a .gaps .now) (a .n) p (a .d) (L .ends) _ (L .u) (L .sum) (c .count-on .result) g h (omega arith) (c .count-on .ensures) (L .inv .2 p h q),
+      λ p h q. halfway-more (a .loads .now) (a .gaps .now) (a .n) p (a .d) (a .before) (L .ends) _ (L .u) (L .sum) (c .count-on .result) g h (omega arith) (c .count-on .ensures) (L .inv .2 p h q),
     )
 
 returns : tie.Need-returns Inv-loop μ-loop
@@ -72,8 +72,8 @@ returns c =
     let L = c .before .loop in
     let e : L .u ≡ a .n = omega (arith, L .inv .0) in
     λ start p h q z.
-    let w : Halfway (a .loads .now) (a .gaps .now) (a .n) p (a .d) (L .ends) (a .n) (L .sum) = rw e at (L .inv .2 p h q) in
-    (halfway-done (a .loads .now) (a .gaps .now) (a .n) p (a .d) (L .ends) (L .sum) start z w, w .done)
+    let w : Halfway (a .loads .now) (a .gaps .now) (a .n) p (a .d) (a .before) (L .ends) (a .n) (L .sum) = rw e at (L .inv .2 p h q) in
+    (halfway-done (a .loads .now) (a .gaps .now) (a .n) p (a .d) (a .before) (L .ends) (L .sum) start z w, w .done)
 
 pub next-reach-spec : {M : Type 1} → statement M
 next-reach-spec =

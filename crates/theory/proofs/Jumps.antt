@@ -7,8 +7,9 @@ use native.Mathlib.Omega.{arith}
 use native.Mathlib.Nat.{mul-le-mul-left, mul-le-mul-right, div-lt-iff-lt-mul}
 use Rattle.model.specs.Basics.{sumN}
 use Rattle.model.specs.Delays.{spacings}
+use Rattle.lemmas.proofs.Tests.{Cmp, less, same, more, cmp}
 use Rattle.lemmas.proofs.Range.{Each, sumN-le, sumN-add, sumN-mul}
-use Rattle.theory.proofs.Rounds.{spacings-mono}
+use Rattle.theory.proofs.Rounds.{spacings-some, spacings-mono}
 use Rattle.theory.proofs.Levels.{spacings-cover}
 
 -- the share of a source that is taken as flow
@@ -50,6 +51,27 @@ module _ (w gap share : ℕ → ℕ) (a n K : ℕ) (g : Each (λ u. 1 ≤ gap u)
         sumN-mul K f a n,
         ap (λ z. K * z) e,
       )
+
+  -- a level whose shares sum to more than K, loaded by more than one tick for each tick, has no fixed point
+  pub overloaded-none : K < sumN share a n → (S L : ℕ) → S + sumN (λ u. w u * spacings L (gap u)) a n ≡ L → ⊥
+  overloaded-none h S L e = go (cmp L 0)
+    where
+      f : ℕ → ℕ
+      f u = w u * spacings L (gap u)
+
+      one-of : (u : ℕ) → a ≤ u → u < a + n → share u ≤ K * f u
+      one-of u p q =
+          omega
+          (arith, mul-le-mul-left (share u) (g u p q), s u p q, mul-le-mul-left (w u * K) (spacings-some L (gap u)))
+
+      go : Cmp L 0 → ⊥
+      go (less r) = omega arith
+      go (same r) =
+          let z : sumN f a n ≡ 0 = omega arith in
+          omega (arith, sumN-le share (λ u. K * f u) a n one-of, sumN-mul K f a n, ap (λ x. K * x) z)
+      go (more r) =
+          let x : K * (S + sumN (counting (λ u. true) w gap L) a n) + sumN share a n * L ≤ K * L = flow-below (λ u. true) S L L (omega arith) e in
+          omega (arith, mul-le-mul-right L h)
 
 -- with q below K, L is at least K × B / (K - q), rounded up
 pub flow-bound : (K B q L : ℕ) → q < K → K * B + q * L ≤ K * L → (K * B + (K - q - 1)) / (K - q) ≤ L

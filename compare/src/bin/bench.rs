@@ -55,11 +55,10 @@ fn main() {
 /// Files with slow levels. The last are the slowest: a report that is given up goes on beside what follows.
 fn slow_files() -> Vec<(&'static str, Vec<u8>)> {
     vec![
-        ("loaded by 1 exactly", generate::exactly_one().bytes()),
         ("one level (2, 3, 7, 43, 1807, 3290000)", generate::level_1807().bytes()),
         ("ten such levels", generate::ten_levels().bytes()),
         ("the worst level found", generate::one_level(&generate::worst_level()).bytes()),
-        ("32 tasks, at most of them that level", generate::many_levels(&generate::worst_level()).bytes()),
+        ("many like it (32 tasks)", generate::many_levels(&generate::worst_of_many()).bytes()),
     ]
 }
 
@@ -95,6 +94,7 @@ fn cases() -> Vec<Case> {
         quote("reading refused at the last field, full", refused_late(&full)),
         report("report, dense (2^30 paths)", generate::dense().bytes()),
         report("report, hostile (10^9 bare rounds)", generate::hostile().bytes()),
+        report("report, loaded by 1 exactly (3, 3, 3)", generate::exactly_one().bytes()),
         ticks("tick, small", small),
         ticks("tick, typical", typical),
         ticks("tick, full", full),

@@ -6,9 +6,7 @@ use std::path::Path;
 use std::time::Instant;
 use std::{fs, io};
 
-const USAGE: &str = "usage: worst [--seed S] [--tries N] [--out DIR]";
-const DEFAULT_SEED: u64 = 1;
-const DEFAULT_TRIES: u64 = 5_000;
+const USAGE: &str = "usage: worst [--seed S] [--tries N] [--load L] [--out DIR]";
 /// The widest spacing, so that the rounds may go on for longest.
 const LIMIT: u64 = 1_000_000_000;
 const SOURCES: usize = 16;
@@ -25,40 +23,50 @@ const UNITS: [u64; 6] = [2, 3, 7, 43, 1_807, 3_290_000];
 const WHOLE: u128 = 1 << 64;
 
 fn main() -> io::Result<()> {
-    let Some((seed, tries, out)) = arguments() else {
+    let Some(arguments) = arguments() else {
         eprintln!("{USAGE}");
         std::process::exit(2);
     };
-    let worst = search(&mut Random::new(seed), tries);
+    let worst = search(&mut Random::new(arguments.seed), arguments.tries, arguments.load);
     tell(&worst);
-    out.map_or(Ok(()), |folder| write(Path::new(&folder), &worst))
+    arguments.out.map_or(Ok(()), |folder| write(Path::new(&folder), &worst))
 }
 
-fn arguments() -> Option<(u64, u64, Option<String>)> {
-    let (mut seed, mut tries, mut out) = (DEFAULT_SEED, DEFAULT_TRIES, None);
+struct Arguments {
+    seed: u64,
+    tries: u64,
+    /// The load of the critical source.
+    load: u64,
+    out: Option<String>,
+}
+
+fn arguments() -> Option<Arguments> {
+    let mut chosen = Arguments { seed: 1, tries: 1_000, load: 1, out: None };
     let mut arguments = std::env::args().skip(1);
     while let Some(name) = arguments.next() {
         let value = arguments.next()?;
         match name.as_str() {
-            "--seed" => seed = value.parse().ok()?,
-            "--tries" => tries = value.parse().ok()?,
-            "--out" => out = Some(value),
+            "--seed" => chosen.seed = value.parse().ok()?,
+            "--tries" => chosen.tries = value.parse().ok()?,
+            "--load" => chosen.load = value.parse().ok()?,
+            "--out" => chosen.out = Some(value),
             _ => return None,
         }
     }
-    Some((seed, tries, out))
+    Some(chosen)
 }
 
 /// Climbs from random levels and from the worst known, again and again, and returns the one with the most rounds.
-fn search(random: &mut Random, tries: u64) -> Level {
+fn search(random: &mut Random, tries: u64, load: u64) -> Level {
     let pairs = Pairs::new();
-    let mut best = generate::worst_level();
+    let mut best = if load == 1 { generate::worst_level() } else { generate::worst_of_many() };
+    best.sources[0].0 = load;
     let mut most = best.jumping(MOST_JUMPING).rounds;
-    let (mut here, mut height) = (anew(&pairs, random), 0);
+    let (mut here, mut height) = (anew(load, &pairs, random), 0);
     let mut failed = 0;
     for _ in 0..tries {
         if failed > PATIENCE {
-            here = if random.chance(30) { best.clone() } else { anew(&pairs, random) };
+            here = if random.chance(30) { best.clone() } else { anew(load, &pairs, random) };
             height = likely_rounds(&here);
             failed = 0;
         }
@@ -93,8 +101,8 @@ fn likely_rounds(level: &Level) -> u64 {
 }
 
 /// A level of the unit fractions, of random sources, or of sources of about one spacing, with a sum just below 1.
-fn anew(pairs: &Pairs, random: &mut Random) -> Level {
-    let mut sources = vec![(1, LIMIT)];
+fn anew(load: u64, pairs: &Pairs, random: &mut Random) -> Level {
+    let mut sources = vec![(load, LIMIT)];
     match random.below(4) {
         0 => sources.extend(UNITS.iter().map(|&spacing| (1, spacing))),
         1 => {
@@ -104,7 +112,7 @@ fn anew(pairs: &Pairs, random: &mut Random) -> Level {
             }
         }
         _ => {
-            for _ in 0..random.within(5..=SOURCES as u32 - 1) {
+            for _ in 0..random.within(5..=SOURCES as u32 - 2) {
                 sources.push(pairs.pool[random.index(pairs.pool.len())]);
             }
         }
@@ -153,7 +161,7 @@ struct Pairs {
 impl Pairs {
     fn new() -> Pairs {
         let pool: Vec<(u64, u64)> =
-            (10..80).flat_map(|spacing| (1..=spacing / 8).map(move |load| (load, spacing))).collect();
+            (10..160).flat_map(|spacing| (1..=spacing / 8).map(move |load| (load, spacing))).collect();
         let places = 0..pool.len();
         let mut sums: Vec<(f64, usize, usize)> = places
             .flat_map(|one| (0..=one).map(move |other| (one, other)))

@@ -31,6 +31,26 @@ const WORST: [(u64, u64); 16] = [
     (1, 41),
 ];
 
+/// The same for the level that stands for many.
+const WORST_OF_MANY: [(u64, u64); 16] = [
+    (15, 1_000_000_000),
+    (5, 89),
+    (10, 113),
+    (1, 35),
+    (2, 159),
+    (2, 129),
+    (4, 122),
+    (27, 60),
+    (5, 142),
+    (11, 152),
+    (6, 115),
+    (4, 144),
+    (7, 158),
+    (1, 78),
+    (7, 141),
+    (3, 139),
+];
+
 /// One level: a critical source of the widest spacing beside the five and a sixth, all to task 1.
 pub fn level_1807() -> Draft {
     let spacings = [WIDEST].into_iter().chain(UNITS).chain([SIXTH]);
@@ -54,6 +74,11 @@ pub fn ten_levels() -> Draft {
 pub fn exactly_one() -> Draft {
     let sources = [WIDEST, 3, 3, 3].map(Fixed);
     Draft::new(&[1], &sources, &[[33, 1, 1], [34, 1, 0], [35, 1, 0], [36, 1, 0]])
+}
+
+/// The same where the critical source has a load of 15, about the mean of many levels.
+pub fn worst_of_many() -> Level {
+    Level { limit: WIDEST.into(), sources: WORST_OF_MANY.to_vec() }
 }
 
 /// The level with the most rounds that `worst` has found.
@@ -126,7 +151,7 @@ mod tests {
             ("ten-levels", ten_levels()),
             ("exactly-one", exactly_one()),
             ("worst-level", one_level(&worst_level())),
-            ("worst-32", many_levels(&worst_level())),
+            ("worst-32", many_levels(&worst_of_many())),
         ];
         for (name, draft) in samples {
             let path = format!("../samples/{name}.bin");
@@ -137,9 +162,10 @@ mod tests {
     /// The levels of the files are the given one, but for the load of the critical source.
     #[test]
     fn levels_are_the_given_one() {
-        let level = worst_level();
-        let given: Vec<u64> = level.sources.iter().map(|&(load, _)| load).collect();
-        for (draft, levels) in [(one_level(&level), 1), (many_levels(&level), 29)] {
+        let (one, many) = (worst_level(), worst_of_many());
+        for (draft, level) in [(one_level(&one), one), (many_levels(&many), many)] {
+            let given: Vec<u64> = level.sources.iter().map(|&(load, _)| load).collect();
+            let levels = draft.links.iter().filter(|link| link[2] == 1).count();
             let plan = Plan::read(&draft.bytes()).unwrap_or_else(|refusal| panic!("{refusal:?}"));
             for task in 0..levels {
                 let loads = &plan.loads.level(task)[TASKS..];

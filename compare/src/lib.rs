@@ -6,6 +6,7 @@
 pub mod generate;
 pub mod library;
 pub mod plain;
+pub mod rounds;
 pub mod vectors;
 
 /// Bytes of a machine record: 32 awake, 32 × 4 used, 256 waiting, 256 dropped, 16 × 4 ages.

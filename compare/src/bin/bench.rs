@@ -4,6 +4,8 @@
 use compare::generate::{self, Draft};
 use compare::{LONGEST_REPORT, RECORD_BYTES, Side, library, plain};
 use std::hint::black_box;
+use std::sync::mpsc;
+use std::thread;
 use std::time::{Duration, Instant};
 
 /// Timings of which the median is told. Sides take turns, so that a slow moment meets both.
@@ -13,6 +15,8 @@ const REPETITIONS: usize = 101;
 const REPETITION: Duration = Duration::from_micros(400);
 /// A case with slow calls ends after about this long, with three repetitions or more.
 const PATIENCE: Duration = Duration::from_secs(3);
+/// A report on slow levels is timed once, and not waited for longer than this.
+const GIVE_UP: Duration = Duration::from_secs(60);
 const TICKS: usize = 100_000;
 const TEMPO: u32 = 1_200;
 
@@ -37,6 +41,41 @@ fn main() {
         let times = medians(&mut case, &sides);
         print_line(&case, &times);
     }
+    println!("\ntime of one report on levels that take many rounds\n");
+    print_head(&sides);
+    for (name, file) in slow_files() {
+        let timed: Vec<_> = sides.iter().map(|side| time_once(*side, &file)).collect();
+        let mut answers = timed.iter().flatten().map(|(_, answer)| answer);
+        let first = answers.next();
+        assert!(answers.all(|answer| Some(answer) == first), "{name}: answers differ");
+        print_slow(name, &timed);
+    }
+}
+
+/// Files with slow levels. The last are the slowest: a report that is given up goes on beside what follows.
+fn slow_files() -> Vec<(&'static str, Vec<u8>)> {
+    vec![
+        ("one level (2, 3, 7, 43, 1807, 3290000)", generate::level_1807().bytes()),
+        ("ten such levels", generate::ten_levels().bytes()),
+        ("the worst level found", generate::one_level(&generate::worst_level()).bytes()),
+        ("many like it (32 tasks)", generate::many_levels(&generate::worst_of_many()).bytes()),
+    ]
+}
+
+/// The time of a report in nanoseconds, and the report; none if it takes too long.
+fn time_once(side: Side, file: &[u8]) -> Option<(f64, Vec<u8>)> {
+    let file = file.to_vec();
+    let (sender, receiver) = mpsc::channel();
+    thread::spawn(move || {
+        let mut page = vec![0; LONGEST_REPORT];
+        let start = Instant::now();
+        let written = (side.report)(&file, &mut page);
+        let time = start.elapsed().as_nanos() as f64;
+        page.truncate(usize::try_from(written).unwrap_or(0));
+        // Nobody listens once it is given up.
+        let _ = sender.send((time, page));
+    });
+    receiver.recv_timeout(GIVE_UP).ok()
 }
 
 fn cases() -> Vec<Case> {
@@ -55,6 +94,7 @@ fn cases() -> Vec<Case> {
         quote("reading refused at the last field, full", refused_late(&full)),
         report("report, dense (2^30 paths)", generate::dense().bytes()),
         report("report, hostile (10^9 bare rounds)", generate::hostile().bytes()),
+        report("report, loaded by 1 exactly (3, 3, 3)", generate::exactly_one().bytes()),
         ticks("tick, small", small),
         ticks("tick, typical", typical),
         ticks("tick, full", full),
@@ -173,10 +213,23 @@ fn print_line(case: &Case, times: &[f64]) {
     println!();
 }
 
+fn print_slow(name: &str, timed: &[Option<(f64, Vec<u8>)>]) {
+    print!("{name:<46}");
+    for once in timed {
+        let given_up = || format!("> {} s", GIVE_UP.as_secs());
+        print!("{:>12}", once.as_ref().map_or_else(given_up, |(time, _)| words(*time)));
+    }
+    if let [Some((plain, _)), Some((proved, _))] = timed {
+        print!("{:>17.4}", proved / plain);
+    }
+    println!();
+}
+
 fn words(nanoseconds: f64) -> String {
     match nanoseconds {
         time if time < 1e3 => format!("{time:.1} ns"),
         time if time < 1e6 => format!("{:.2} µs", time / 1e3),
-        time => format!("{:.2} ms", time / 1e6),
+        time if time < 1e9 => format!("{:.2} ms", time / 1e6),
+        time => format!("{:.2} s", time / 1e9),
     }
 }

@@ -1,0 +1,251 @@
+//! `worst`: a seeded search for the level with the most rounds, jumps and all, and files that have it.
+
+use compare::generate::{self, Random};
+use compare::rounds::{Level, Outcome};
+use std::path::Path;
+use std::time::Instant;
+use std::{fs, io};
+
+const USAGE: &str = "usage: worst [--seed S] [--tries N] [--load L] [--out DIR]";
+/// The widest spacing, so that the rounds may go on for longest.
+const LIMIT: u64 = 1_000_000_000;
+const SOURCES: usize = 16;
+/// A level is followed no further than this, with jumps and without.
+const MOST_JUMPING: u64 = 100_000_000;
+const MOST_PLAIN: u64 = 400_000_000;
+/// Tries in a row without a worse level before the search begins anew.
+const PATIENCE: u32 = 400;
+
+/// Unit fractions that leave next to nothing of 1.
+const UNITS: [u64; 6] = [2, 3, 7, 43, 1_807, 3_290_000];
+
+/// The scale of shares in the search: one tick for each tick.
+const WHOLE: u128 = 1 << 64;
+
+fn main() -> io::Result<()> {
+    let Some(arguments) = arguments() else {
+        eprintln!("{USAGE}");
+        std::process::exit(2);
+    };
+    let worst = search(&mut Random::new(arguments.seed), arguments.tries, arguments.load);
+    tell(&worst);
+    arguments.out.map_or(Ok(()), |folder| write(Path::new(&folder), &worst))
+}
+
+struct Arguments {
+    seed: u64,
+    tries: u64,
+    /// The load of the critical source.
+    load: u64,
+    out: Option<String>,
+}
+
+fn arguments() -> Option<Arguments> {
+    let mut chosen = Arguments { seed: 1, tries: 1_000, load: 1, out: None };
+    let mut arguments = std::env::args().skip(1);
+    while let Some(name) = arguments.next() {
+        let value = arguments.next()?;
+        match name.as_str() {
+            "--seed" => chosen.seed = value.parse().ok()?,
+            "--tries" => chosen.tries = value.parse().ok()?,
+            "--load" => chosen.load = value.parse().ok()?,
+            "--out" => chosen.out = Some(value),
+            _ => return None,
+        }
+    }
+    Some(chosen)
+}
+
+/// Climbs from random levels and from the worst known, again and again, and returns the one with the most rounds.
+fn search(random: &mut Random, tries: u64, load: u64) -> Level {
+    let pairs = Pairs::new();
+    let mut best = if load == 1 { generate::worst_level() } else { generate::worst_of_many() };
+    best.sources[0].0 = load;
+    let mut most = best.jumping(MOST_JUMPING).rounds;
+    let (mut here, mut height) = (anew(load, &pairs, random), 0);
+    let mut failed = 0;
+    for _ in 0..tries {
+        if failed > PATIENCE {
+            here = if random.chance(30) { best.clone() } else { anew(load, &pairs, random) };
+            height = likely_rounds(&here);
+            failed = 0;
+        }
+        let near = neighbour(&here, &pairs, random);
+        let reached = likely_rounds(&near);
+        failed = if reached > height { 0 } else { failed + 1 };
+        if reached < height {
+            continue;
+        }
+        (here, height) = (near, reached);
+        if height > most + most / 50 {
+            height = here.jumping(MOST_JUMPING).rounds;
+            if height > most {
+                (best, most) = (here.clone(), height);
+                eprintln!("{most} {}", words(&best));
+            }
+        }
+    }
+    best
+}
+
+/// The rounds that a level takes, reckoned from its pace if they are many.
+fn likely_rounds(level: &Level) -> u64 {
+    const FEW: u64 = 1_000;
+    const SOME: u64 = 20_000;
+    let some = level.jumping(SOME);
+    if some.rounds < SOME {
+        return some.rounds;
+    }
+    let stretch = some.reached - level.jumping(FEW).reached;
+    SOME + (SOME - FEW) * (level.limit - some.reached) / stretch.max(1)
+}
+
+/// A level of the unit fractions, of random sources, or of sources of about one spacing, with a sum just below 1.
+fn anew(load: u64, pairs: &Pairs, random: &mut Random) -> Level {
+    let mut sources = vec![(load, LIMIT)];
+    match random.below(4) {
+        0 => sources.extend(UNITS.iter().map(|&spacing| (1, spacing))),
+        1 => {
+            for _ in 0..random.within(1..=9) {
+                let spacing = random.scaled(2..=20_000);
+                sources.push((random.scaled(1..=spacing).into(), spacing.into()));
+            }
+        }
+        _ => {
+            for _ in 0..random.within(5..=SOURCES as u32 - 2) {
+                sources.push(pairs.pool[random.index(pairs.pool.len())]);
+            }
+        }
+    }
+    let mut level = Level { limit: LIMIT, sources };
+    while free(&level) <= 0 && level.sources.len() > 1 {
+        level.sources.pop();
+    }
+    level.sources.push((random.scaled(1..=100).into(), LIMIT));
+    let last = level.sources.len() - 1;
+    fill(&mut level, last, random);
+    level
+}
+
+/// A level that differs in some sources.
+fn neighbour(level: &Level, pairs: &Pairs, random: &mut Random) -> Level {
+    let mut near = level.clone();
+    if near.sources.len() > 4 && random.chance(70) {
+        pairs.renew(&mut near, random);
+        return near;
+    }
+    for _ in 0..random.within(1..=3) {
+        let place = random.index(near.sources.len() - 1) + 1;
+        match random.below(10) {
+            0 if near.sources.len() < SOURCES => {
+                near.sources.push((random.scaled(1..=1_000).into(), random.scaled(2..=10_000_000).into()));
+            }
+            1 if near.sources.len() > 3 => {
+                near.sources.swap_remove(place);
+            }
+            2..=5 => near.sources[place].0 = nudged(near.sources[place].0, random).min(10_000_000),
+            _ => near.sources[place].1 = nudged(near.sources[place].1, random).min(LIMIT),
+        }
+    }
+    let place = random.index(near.sources.len() - 1) + 1;
+    fill(&mut near, place, random);
+    near
+}
+
+/// Sources of about one spacing, and two of them by the sum of their shares.
+struct Pairs {
+    pool: Vec<(u64, u64)>,
+    sums: Vec<(f64, usize, usize)>,
+}
+
+impl Pairs {
+    fn new() -> Pairs {
+        let pool: Vec<(u64, u64)> =
+            (10..160).flat_map(|spacing| (1..=spacing / 8).map(move |load| (load, spacing))).collect();
+        let places = 0..pool.len();
+        let mut sums: Vec<(f64, usize, usize)> = places
+            .flat_map(|one| (0..=one).map(move |other| (one, other)))
+            .map(|(one, other)| (share(pool[one]) + share(pool[other]), one, other))
+            .collect();
+        sums.sort_by(|one, other| one.0.total_cmp(&other.0));
+        Pairs { pool, sums }
+    }
+
+    /// Replaces three sources so that the sum comes close to 1, by a distance of a random size.
+    fn renew(&self, level: &mut Level, random: &mut Random) {
+        for _ in 0..3 {
+            let place = random.index(level.sources.len() - 1) + 1;
+            level.sources.swap_remove(place);
+        }
+        if level.sources.len() + 4 <= SOURCES && random.chance(20) {
+            level.sources.push(self.pool[random.index(self.pool.len())]);
+        }
+        let spare = 1e-9 * 2f64.powi(random.below(12) as i32);
+        let left = 1.0 - level.sources.iter().map(|&source| share(source)).sum::<f64>() - spare;
+        let closest = |&third: &(u64, u64)| {
+            let sum = left - share(third);
+            let place = self.sums.partition_point(|pair| pair.0 <= sum);
+            let (pair, one, other) = *self.sums[..place].last()?;
+            Some((sum - pair, [third, self.pool[one], self.pool[other]]))
+        };
+        let found = self.pool.iter().filter_map(closest).min_by(|one, other| one.0.total_cmp(&other.0));
+        level.sources.extend(found.map(|(_, three)| three).into_iter().flatten());
+    }
+}
+
+fn share((load, spacing): (u64, u64)) -> f64 {
+    load as f64 / spacing as f64
+}
+
+/// A number near, by one or by a fraction.
+fn nudged(number: u64, random: &mut Random) -> u64 {
+    let reach = if random.chance(50) { 2 } else { 1 + (number >> random.within(0..=6)) };
+    (number + random.below(2 * reach + 1)).saturating_sub(reach).max(1)
+}
+
+/// What the sources leave of each tick, in units of 1 / `WHOLE`.
+fn free(level: &Level) -> i128 {
+    let share = |&(load, spacing): &(u64, u64)| ((u128::from(load) * WHOLE) / u128::from(spacing)) as i128;
+    WHOLE as i128 - level.sources.iter().map(share).sum::<i128>()
+}
+
+/// Gives a source about the narrowest spacing that leaves the sum below 1.
+fn fill(level: &mut Level, place: usize, random: &mut Random) {
+    let (load, spacing) = level.sources[place];
+    level.sources[place].0 = 0;
+    let left = free(level);
+    level.sources[place] = (load, spacing);
+    if left > 0 {
+        let narrowest = u128::from(load) * WHOLE / left as u128 + 1;
+        let wider = if random.chance(70) { 0 } else { random.scaled(0..=1_000) };
+        level.sources[place].1 = (narrowest + u128::from(wider)).min(LIMIT.into()) as u64;
+    }
+}
+
+fn words(level: &Level) -> String {
+    let sources = level.sources.iter().map(|(load, spacing)| format!("{load}/{spacing}"));
+    sources.collect::<Vec<_>>().join(" ")
+}
+
+fn tell(level: &Level) {
+    println!("{} (load/spacing, the critical source first)", words(level));
+    println!("with jumps: {}", timed(level, |level| level.jumping(u64::MAX)));
+    println!("without:    {}", timed(level, |level| level.plain(MOST_PLAIN)));
+}
+
+fn timed(level: &Level, settle: impl Fn(&Level) -> Outcome) -> String {
+    let start = Instant::now();
+    let outcome = settle(level);
+    let end = match outcome {
+        Outcome { delay: Some(delay), .. } => format!("delay {delay}"),
+        Outcome { reached, .. } => format!("no delay up to {reached}"),
+    };
+    format!("{} rounds, {end}, in {:.2} s", outcome.rounds, start.elapsed().as_secs_f64())
+}
+
+/// Writes the level as one, and as often as 32 tasks can have it.
+fn write(folder: &Path, level: &Level) -> io::Result<()> {
+    fs::create_dir_all(folder)?;
+    fs::write(folder.join("worst-level.bin"), generate::one_level(level).bytes())?;
+    fs::write(folder.join("worst-32.bin"), generate::many_levels(level).bytes())
+}

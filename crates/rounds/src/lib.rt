@@ -138,7 +138,7 @@ fn rest_of(load: u64, gap: u64, end: u64, far: u64) -> u64
     load * (end / gap)
 }
 
-// The least length that a rest and a flow fill, rounded up; the limit where none does, or a lesser one.
+// The least length that holds a rest and a flow, 2^33 × rest / (2^33 - flow) rounded up; the limit where that is less, or no length does.
 fn flow_end(rest: u64, flow: u64, limit: u64) -> u64
     requires { ⌜ (rest ≤ 1000000000) × (flow ≤ 137438953488) ⌝ }
     ensures { λ r. ⌜ FlowEnd rest flow limit r ⌝ }

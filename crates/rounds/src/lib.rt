@@ -182,7 +182,8 @@ fn flow_bound(
     flow_end(rest, flow, limit)
 }
 
-// Where the next round is worked out: at the sum of the last one, and after 32 rounds at the best bound that a flow gives.
+// Where the next round is worked out: at the sum of the last one, and after 32 rounds, in each eighth, at the best bound that a flow gives. A jump costs some
+// rounds, and where none pays they are as few.
 fn jumped(
     start: u64,
     loads: &[u64; 16],
@@ -198,6 +199,9 @@ fn jumped(
     ensures { λ r. ⌜ Jump start (now (loads .entry)) (now (gaps .entry)) n limit r × (sum ≤ r) ⌝ }
 {
     if rounds < 32 {
+        return sum;
+    }
+    if rounds % 8 != 0 {
         return sum;
     }
     let mut far = sum;

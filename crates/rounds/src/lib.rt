@@ -182,8 +182,8 @@ fn flow_bound(
     flow_end(rest, flow, limit)
 }
 
-// Where the next round is worked out: at the sum of the last one, and after 32 rounds, in each eighth, at the best bound that a flow gives. A jump costs some
-// rounds, and where none pays they are as few.
+// Where the next round is worked out: at the sum of the last one, and after 32 rounds, in each eighth, at the best bound that a flow gives. A jump costs as much
+// as some rounds, and on some levels none pays.
 fn jumped(
     start: u64,
     loads: &[u64; 16],

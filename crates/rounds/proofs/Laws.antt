@@ -11,12 +11,12 @@ use lib.Seq.{getD-set-same, getD-set-other}
 use lib.Dec.{ltb}
 use Rattle.model.specs.Basics.{sumN}
 use Rattle.model.specs.Delays.{spacings, Settled, unchanged, reached, settle}
-use Rattle.lemmas.proofs.Tests.{Cmp, less, same, more, cmp, at-or-not}
+use Rattle.lemmas.proofs.Tests.{Cmp, less, same, more, cmp, at-or-not, not-both}
 use Rattle.theory.proofs.Levels.{reachOf}
 use Rattle.theory.proofs.Jumps.{flowing, counting, flow-below}
 use Rattle.theory.proofs.Rounds.{settle-fixed, settle-least, settle-finds, never-reached, spacings-some, spacings-mono}
 use Rattle.lemmas.proofs.Range.{sumN-le, le-sumN}
-use Rattle.rounds.specs.Level.{LevelOn, roundIn, reachIn, endOf, Counted, moreBy, CountsOn, LowerBound, RoundAt, ShareOf, Shares}
+use Rattle.rounds.specs.Level.{LevelOn, roundIn, reachIn, endOf, Counted, moreBy, CountsOn, LowerBound, RoundAt, ShareOf, Shares, OpenAt, ReachedBy}
 
 less-quotient : (q d m : ℕ) → 1 ≤ m → q * m ≤ d + (m - 1) → q ≤ d
 less-quotient q d m p h = go (cmp q (suc d))
@@ -284,3 +284,10 @@ module _ (start : ℕ) (loads gaps : List ℕ) (n : ℕ) (ends shares : List ℕ
 pub level-any : (start : ℕ) (loads gaps : List ℕ) (n : ℕ) → LevelOn start loads gaps n → LevelOn 0 loads gaps n
 level-any start loads gaps n g =
     record { few = g .few; start-most = omega arith; load-most = g .load-most; gap-some = g .gap-some; gap-most = g .gap-most }
+
+-- answers: settled, and open
+pub settled-at : (start : ℕ) (loads gaps : List ℕ) (n limit d : ℕ) → d ≡ reachIn start loads gaps n limit → ReachedBy start loads gaps n limit (record { place = d; settled = true })
+settled-at start loads gaps n limit d e = record { done = λ _. e; unsettled = λ f. absurd (not-both refl f) }
+
+pub open-at : (start : ℕ) (loads gaps : List ℕ) (n limit d : ℕ) → OpenAt start loads gaps n limit d → ReachedBy start loads gaps n limit (record { place = d; settled = false })
+open-at start loads gaps n limit d o = record { done = λ f. absurd (not-both f refl); unsettled = λ _. o }

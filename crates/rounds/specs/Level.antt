@@ -2,10 +2,12 @@
 use Prim.Native.Nat.{ℕ, suc, _+_, _-_, _*_, _/_, _≤_, _<_}
 use mathlib.Core.Path.{_≡_}
 use mathlib.Core.List.{List}
+use mathlib.Core.Bool.{true, false}
 use lib.ListN.{getD, length}
 use Rattle.model.specs.Basics.{sumN}
 use Rattle.model.specs.Delays.{spacings, settle}
 use Rattle.theory.proofs.Levels.{reachOf}
+use Rattle.rounds.specs.declared.Reached.{Reached}
 
 -- n sources, with loads and spacings from the scale
 pub record LevelOn (start : ℕ) (loads gaps : List ℕ) (n : ℕ) : Type 0 where
@@ -80,3 +82,14 @@ pub record Jump (start : ℕ) (loads gaps : List ℕ) (n limit r : ℕ) : Type 0
 -- where its rounds come to
 unfoldable pub reachIn : ℕ → List ℕ → List ℕ → ℕ → ℕ → ℕ
 reachIn start loads gaps n limit = reachOf (settle (suc limit) (roundIn start loads gaps n) limit start) limit
+
+-- a place below the limit that no fixed point is below
+pub record OpenAt (start : ℕ) (loads gaps : List ℕ) (n limit place : ℕ) : Type 0 where
+  pub lower : LowerBound start loads gaps n place
+  pub least : start ≤ place
+  pub most : place < limit
+
+-- settled where the rounds come to, or open at a place on the way
+pub record ReachedBy (start : ℕ) (loads gaps : List ℕ) (n limit : ℕ) (r : Reached) : Type 0 where
+  pub done : r .settled ≡ true → r .place ≡ reachIn start loads gaps n limit
+  pub unsettled : r .settled ≡ false → OpenAt start loads gaps n limit (r .place)

@@ -6,7 +6,7 @@ ghost use Prim.Native.Nat.{_+_, _*_, _/_, _≤_, _<_};
 ghost use lib.Dec.{ltb};
 ghost use lib.ListN.{length};
 ghost use Rattle.model.specs.Delays.{spacings};
-ghost use Rattle.rounds.specs.Level.{LevelOn, roundIn, reachIn, Counted, CountsOn, NextRound, RoundAt, ShareOf, Shares, FlowEnd, Jump};
+ghost use Rattle.rounds.specs.Level.{LevelOn, roundIn, reachIn, Counted, CountsOn, NextRound, RoundAt, ShareOf, Shares, FlowEnd, Jump, ReachedBy};
 
 // How many spacings of m ticks a stretch of d ticks holds: rounded up, and at least 1.
 pub fn spacings_in(d: u64, m: u64) -> u64
@@ -32,7 +32,7 @@ fn end_of(load: u64, count: u64, gap: u64) -> u64
 }
 
 // The first round: what the level may bring in a stretch of its start, with the firings of every source counted.
-fn first_reach(
+pub fn first_reach(
     start: u64,
     loads: &[u64; 16],
     gaps: &[u32; 16],
@@ -70,7 +70,7 @@ fn count_on(load: u64, gap: u64, d: u64, ends: &mut [u64; 16], u: usize, sum: u6
 }
 
 // A round at d after one that came to a sum: what the level may bring in a stretch of d ticks.
-fn next_reach(
+pub fn next_reach(
     loads: &[u64; 16],
     gaps: &[u32; 16],
     n: usize,
@@ -103,7 +103,7 @@ fn share_of(load: u64, gap: u64) -> u64
 }
 
 // The shares of all sources, worked out after 32 rounds and never again: most levels settle in fewer.
-fn fill_shares(loads: &[u64; 16], gaps: &[u32; 16], n: usize, rounds: u64, shares: &mut [u64; 16])
+pub fn fill_shares(loads: &[u64; 16], gaps: &[u32; 16], n: usize, rounds: u64, shares: &mut [u64; 16])
     requires { ⌜ LevelOn 0 (now loads) (now gaps) n × Shares (now loads) (now gaps) n (now shares) ⌝ }
     ensures { λ _. ⌜ Shares (now (loads .entry)) (now (gaps .entry)) n (now (shares .exit)) ⌝ }
 {
@@ -184,7 +184,7 @@ fn flow_bound(
 
 // Where the next round is worked out: at the sum of the last one, and after 32 rounds, in each eighth, at the best bound that a flow gives. A jump costs as much
 // as some rounds, and on some levels none pays.
-fn jumped(
+pub fn jumped(
     start: u64,
     loads: &[u64; 16],
     gaps: &[u32; 16],
@@ -213,13 +213,19 @@ fn jumped(
     far
 }
 
-// Where the rounds come to below a limit: the least d that one leaves unchanged, or else the limit.
-pub fn level_reach(start: u64, loads: &[u64; 16], gaps: &[u32; 16], n: usize, limit: u64) -> u64
+// Where rounds stand: settled at the least d that one leaves unchanged, or at the limit; or at a place that no fixed point is below.
+pub struct Reached {
+    pub place: u64,
+    pub settled: bool,
+}
+
+// Where the first rounds below a limit come to; most levels settle in them.
+pub fn few_rounds(start: u64, loads: &[u64; 16], gaps: &[u32; 16], n: usize, limit: u64) -> Reached
     requires { ⌜ LevelOn start (now loads) (now gaps) n × (limit ≤ 1000000000) ⌝ }
-    ensures { λ r. ⌜ r ≡ reachIn start (now (loads .entry)) (now (gaps .entry)) n limit ⌝ }
+    ensures { λ r. ⌜ ReachedBy start (now (loads .entry)) (now (gaps .entry)) n limit r ⌝ }
 {
     if limit <= start {
-        return limit;
+        return Reached { place: limit, settled: true };
     }
     let mut ends = [0u64; 16];
     let mut shares = [0u64; 16];
@@ -228,12 +234,15 @@ pub fn level_reach(start: u64, loads: &[u64; 16], gaps: &[u32; 16], n: usize, li
     let mut rounds: u64 = 0;
     while sum < limit {
         if sum <= d {
-            return d;
+            return Reached { place: d, settled: true };
+        }
+        if 256 <= rounds {
+            return Reached { place: d, settled: false };
         }
         fill_shares(loads, gaps, n, rounds, &mut shares);
         d = jumped(start, loads, gaps, n, &ends, &shares, sum, rounds, limit);
         sum = next_reach(loads, gaps, n, d, sum, &mut ends);
         rounds += 1;
     }
-    limit
+    Reached { place: limit, settled: true }
 }

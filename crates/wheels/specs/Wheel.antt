@@ -9,6 +9,7 @@ use lib.ListN.{getD, length}
 use Rattle.model.specs.Basics.{sumN}
 use Rattle.model.specs.Delays.{spacings}
 use Rattle.rounds.specs.Level.{LevelOn, LowerBound, roundIn}
+use Rattle.wheels.specs.declared.tables.Built.{Built}
 
 -- the load of source u, if it is on wheel k
 unfoldable pub partAt : List ℕ → List ℕ → ℕ → ℕ → ℕ
@@ -41,6 +42,10 @@ Sifted loads gaps wheels periods n count =
 pub record PartOf (loads wheels : List ℕ) (n k : ℕ) (part : List ℕ) : Type 0 where
   pub sized : length part ≡ 16
   pub at : (u : ℕ) → u < n → getD part u 0 ≡ partAt loads wheels k u
+
+-- loads that may be on a wheel
+abbrev pub Light : List ℕ → List ℕ → ℕ → Type 0
+Light part gaps n = (u : ℕ) → u < n → (getD part u 0 ≤ 2097151) × (getD part u 0 ≤ getD gaps u 0)
 
 -- the sources of wheel k waste at least low in a stretch of z
 abbrev pub Wastes : List ℕ → List ℕ → List ℕ → ℕ → ℕ → ℕ → ℕ → Type 0
@@ -92,6 +97,23 @@ pub record Lowered (place entries many : ℕ) (table after : List ℕ) : Type 0 
   pub own : (i : ℕ) → getD after (place + i) 0 ≤ getD table (place + i) 0
   pub next : (i : ℕ) → i + many < entries → getD after (place + i) 0 ≤ getD table (place + i + many) 0
   pub before : (x : ℕ) → x < place → getD after x 0 ≡ getD table x 0
+
+-- one wheel's table at a place: filled for one block, then lowered for two, for four, for eight
+pub record PutWheel (part gaps : List ℕ) (n flow block entries place : ℕ) (table after : List ℕ) : Type 0 where
+  pub one : List ℕ
+  pub two : List ℕ
+  pub four : List ℕ
+  pub filled : Filled part gaps n flow block entries place table one
+  pub to-two : Lowered place entries 1 one two
+  pub to-four : Lowered place entries 2 two four
+  pub to-eight : Lowered place entries 4 four after
+
+-- the tables of as many wheels as there is room for, and what their flow leaves of each tick
+pub record BuiltOn (loads gaps wheels : List ℕ) (n : ℕ) (periods : List ℕ) (block : ℕ) (places table : List ℕ) (r : Built) : Type 0 where
+  pub placed : Placed periods places block (r .count)
+  pub on : WheelsOn loads gaps wheels n block periods places table (r .count)
+  pub leaves : 4398046511104 ≤ flowOn loads gaps wheels n (r .count) + 512 * r .slope
+  pub most : r .slope ≤ 8589934592
 
 -- what no sources of the first few wheels bring from a place on is at least a rest
 abbrev pub RestFrom : ℕ → List ℕ → List ℕ → List ℕ → ℕ → ℕ → ℕ → ℕ → Type 0

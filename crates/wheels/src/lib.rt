@@ -1,1 +1,4 @@
-// How far a level reaches.
+// How far a level reaches: a few plain rounds first, and where they do not settle, rounds between stretches that cannot have a fixed point.
+
+mod stretches;
+mod tables;

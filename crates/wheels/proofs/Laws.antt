@@ -1,0 +1,90 @@
+-- Laws of sources on wheels: parts of a round, flows, wastes and their tables, and stretches without a fixed point. Assumes nothing.
+use Prim.Native.Nat.{ℕ, zero, suc, _+_, _-_, _*_, _/_, _%_, _≤_, _<_, max}
+use mathlib.Core.Path.{_≡_, refl, sym, ap, _∙_}
+use mathlib.Core.List.{List}
+use mathlib.Core.Bool.{Bool, true, false, cond}
+use native.Mathlib.Omega.{arith}
+use native.Mathlib.Nat.{zero-add, add-assoc, zero-mul, zero-div, mul-le-mul-left, mul-le-mul-right, div-mul-le-self, div-add-mod', lt-div-mul-add, add-mul-div-right, le-div-iff-mul-le, mod-lt}
+use lib.ListN.{getD, length}
+use lib.Dec.{eqb, ltb}
+use borrow.Author.Tests.{eq-eqb, ne-eqb, lt-ltb, le-ltb}
+use Rattle.model.specs.Basics.{sumN}
+use Rattle.model.specs.Delays.{spacings}
+use Rattle.lemmas.proofs.Tests.{Cmp, less, same, more, cmp}
+use Rattle.lemmas.proofs.Range.{Each, sumN-le, sumN-add, sumN-mul, sumN-cong}
+use Rattle.theory.proofs.Rounds.{spacings-some, spacings-mono}
+use Rattle.theory.proofs.Levels.{spacings-cover}
+use Rattle.rounds.specs.Level.{LevelOn, LowerBound, roundIn}
+use Rattle.wheels.specs.Wheel.{partAt, partIn, partFlow, leftIn, Kept, Sifted, PartOf, Wastes, Covers, Placed, WheelsOn, flowOn, Turned, wasteOn, Filled, Lowered, RestFrom}
+
+-- a source on a wheel has the load that it has, and any other none
+pub part-on : (loads wheels : List ℕ) (k u : ℕ) → getD wheels u 0 ≡ k → partAt loads wheels k u ≡ getD loads u 0
+unfolding partAt
+part-on loads wheels k u e = rw (eq-eqb (getD wheels u 0) k e)
+
+pub part-off : (loads wheels : List ℕ) (k u : ℕ) → (getD wheels u 0 ≡ k → ⊥) → partAt loads wheels k u ≡ 0
+unfolding partAt
+part-off loads wheels k u e = rw (ne-eqb (getD wheels u 0) k e)
+
+-- a load on a wheel is small, and no more than its spacing
+pub part-small : (loads gaps wheels periods : List ℕ) (n count k u : ℕ) → Sifted loads gaps wheels periods n count → k < count → u < n → (partAt loads wheels k u ≤ 2097151) × (partAt loads wheels k u ≤ getD gaps u 0)
+part-small loads gaps wheels periods n count k u s h p = go (cmp (getD wheels u 0) k)
+  where
+    go : Cmp (getD wheels u 0) k → (partAt loads wheels k u ≤ 2097151) × (partAt loads wheels k u ≤ getD gaps u 0)
+    go (less r) = omega (arith, part-off loads wheels k u (λ e. omega arith))
+    go (same r) =
+        let kept = s u p (omega arith) in
+        omega (arith, part-on loads wheels k u r, kept .small, kept .light)
+    go (more r) = omega (arith, part-off loads wheels k u (λ e. omega arith))
+
+-- a source whose load is at most its spacing brings at most one load more than the stretch is long
+pub part-light : (load gap p : ℕ) → 1 ≤ gap → load ≤ gap → load * spacings p gap ≤ load + p
+unfolding spacings
+part-light load gap p o h = go ((p + (gap - 1)) / gap) (div-mul-le-self (p + (gap - 1)) gap)
+  where
+    go : (q : ℕ) → q * gap ≤ p + (gap - 1) → load * max 1 q ≤ load + p
+    go zero r = omega arith
+    go (suc q) r =
+        let e : max 1 (suc q) ≡ suc q = omega arith in
+        omega (arith, ap (λ x. load * x) e, mul-le-mul-right q h)
+
+-- a sum is at most as many times what no term is above
+sum-most : (f : ℕ → ℕ) (c n : ℕ) → ((k : ℕ) → k < n → f k ≤ c) → sumN f 0 n ≤ n * c
+unfolding sumN
+sum-most f c zero h = omega arith
+sum-most f c (suc n) h = rw zero-add (omega (arith, h n (omega arith), sum-most f c n (λ k p. h k (omega arith))))
+
+-- a round of small loads over a short stretch is on the scale
+pub round-light : (part gaps : List ℕ) (n p : ℕ) → LevelOn 0 part gaps n → ((u : ℕ) → u < n → (getD part u 0 ≤ 2097151) × (getD part u 0 ≤ getD gaps u 0)) → p ≤ 8388608 → roundIn 0 part gaps n p ≤ 1000000000
+unfolding roundIn
+round-light part gaps n p g s h =
+    omega
+    (arith, g .few, sum-most (λ u. getD part u 0 * spacings p (getD gaps u 0)) 10485759 n (λ u q. omega (arith, s u q .0, part-light (getD part u 0) (getD gaps u 0) p (g .gap-some u q) (s u q .1))))
+
+-- what sources on no wheel bring never falls
+pub left-mono : (start : ℕ) (loads gaps wheels : List ℕ) (n count p z : ℕ) → LevelOn start loads gaps n → p ≤ z → leftIn start loads gaps wheels n count p ≤ leftIn start loads gaps wheels n count z
+unfolding leftIn
+left-mono start loads gaps wheels n count p z g h =
+    let w : ℕ → ℕ = λ u. cond (ltb (getD wheels u 0) count) 0 (getD loads u 0) in
+    omega
+    (arith, sumN-le (λ u. w u * spacings p (getD gaps u 0)) (λ u. w u * spacings z (getD gaps u 0)) 0 n (λ u a b. mul-le-mul-left (w u) (spacings-mono p z (getD gaps u 0) (g .gap-some u (omega arith)) h)))
+
+-- a steady flow is never above what its source brings
+flow-source : (w gap z : ℕ) → 1 ≤ gap → z * (w * 4398046511104 / gap) ≤ 4398046511104 * (w * spacings z gap)
+flow-source w gap z o =
+    let c : ℕ = spacings z gap in
+    let f : ℕ = w * 4398046511104 / gap in
+    omega (arith, mul-le-mul-right f (spacings-cover z gap o), mul-le-mul-left c (div-mul-le-self (w * 4398046511104) gap))
+
+-- the sources of a wheel waste at least 0
+pub flow-any : (start : ℕ) (loads gaps wheels : List ℕ) (n k z : ℕ) → LevelOn start loads gaps n → Wastes loads gaps wheels n k 0 z
+unfolding partFlow partIn
+flow-any start loads gaps wheels n k z g =
+    let f : ℕ → ℕ = λ u. partAt loads wheels k u * 4398046511104 / getD gaps u 0 in
+    let x : ℕ → ℕ = λ u. partAt loads wheels k u * spacings z (getD gaps u 0) in
+    omega (
+      arith,
+      sumN-le (λ u. z * f u) (λ u. 4398046511104 * x u) 0 n (λ u p q. flow-source (partAt loads wheels k u) (getD gaps u 0) z (g .gap-some u (omega arith))),
+      sumN-mul z f 0 n,
+      sumN-mul 4398046511104 x 0 n,
+    )

@@ -88,3 +88,72 @@ flow-any start loads gaps wheels n k z g =
       sumN-mul z f 0 n,
       sumN-mul 4398046511104 x 0 n,
     )
+
+-- a source that is on no wheel below k is on wheel k, or on none below the next
+part-or-left : (w k a c : ℕ) → cond (ltb w k) 0 a * c ≡ cond (eqb w k) a 0 * c + cond (ltb w (suc k)) 0 a * c
+part-or-left w k a c = go (cmp w k)
+  where
+    go : Cmp w k → cond (ltb w k) 0 a * c ≡ cond (eqb w k) a 0 * c + cond (ltb w (suc k)) 0 a * c
+    go (less r) = rw (lt-ltb w k r, ne-eqb w k (λ e. omega arith), lt-ltb w (suc k) (omega arith)) (omega arith)
+    go (same r) = rw (le-ltb w k (omega arith), eq-eqb w k r, lt-ltb w (suc k) (omega arith)) (omega arith)
+    go (more r) = rw (le-ltb w k (omega arith), ne-eqb w k (λ e. omega arith), le-ltb w (suc k) r) (omega arith)
+
+left-more : (start : ℕ) (loads gaps wheels : List ℕ) (n k z : ℕ) → leftIn start loads gaps wheels n k z ≡ partIn loads gaps wheels n k z + leftIn start loads gaps wheels n (suc k) z
+unfolding leftIn partIn partAt
+left-more start loads gaps wheels n k z =
+    let w : ℕ → ℕ = λ u. getD wheels u 0 in
+    let c : ℕ → ℕ = λ u. spacings z (getD gaps u 0) in
+    let a : ℕ → ℕ = λ u. cond (ltb (w u) k) 0 (getD loads u 0) * c u in
+    let b : ℕ → ℕ = λ u. cond (eqb (w u) k) (getD loads u 0) 0 * c u in
+    let l : ℕ → ℕ = λ u. cond (ltb (w u) (suc k)) 0 (getD loads u 0) * c u in
+    omega (arith, sumN-cong a (λ u. b u + l u) 0 n (λ u p q. part-or-left (w u) k (getD loads u 0) (c u)), sumN-add b l 0 n)
+
+left-all : (start : ℕ) (loads gaps wheels : List ℕ) (n z : ℕ) → leftIn start loads gaps wheels n 0 z ≡ roundIn start loads gaps n z
+unfolding leftIn roundIn
+left-all start loads gaps wheels n z =
+    ap (λ x. start + x) (sumN-cong (λ u. cond (ltb (getD wheels u 0) 0) 0 (getD loads u 0) * spacings z (getD gaps u 0)) (λ u. getD loads u 0 * spacings z (getD gaps u 0)) 0 n (λ u p q. rw (le-ltb (getD wheels u 0) 0 (omega arith))))
+
+-- the parts of the first few wheels and what is left are the round
+pub parts-left : (start : ℕ) (loads gaps wheels : List ℕ) (n count z : ℕ) → sumN (λ k. partIn loads gaps wheels n k z) 0 count + leftIn start loads gaps wheels n count z ≡ roundIn start loads gaps n z
+unfolding sumN
+parts-left start loads gaps wheels n zero z = omega (arith, left-all start loads gaps wheels n z)
+parts-left start loads gaps wheels n (suc count) z =
+    rw (zero-add count) (omega (arith, left-more start loads gaps wheels n count z, parts-left start loads gaps wheels n count z))
+
+-- the round of a part is what the wheel brings
+part-whole : (loads gaps wheels part : List ℕ) (n k z : ℕ) → PartOf loads wheels n k part → roundIn 0 part gaps n z ≡ partIn loads gaps wheels n k z
+unfolding roundIn partIn
+part-whole loads gaps wheels part n k z o =
+    omega
+    (arith, sumN-cong (λ u. getD part u 0 * spacings z (getD gaps u 0)) (λ u. partAt loads wheels k u * spacings z (getD gaps u 0)) 0 n (λ u a b. ap (λ x. x * spacings z (getD gaps u 0)) (o .at u (omega arith))))
+
+-- a table that is filled for the part of a wheel covers it block by block
+pub covers-one : (start : ℕ) (loads gaps wheels part : List ℕ) (n k block entries place : ℕ) (table after : List ℕ) → LevelOn start loads gaps n → PartOf loads wheels n k part → Filled part gaps n (partFlow loads gaps wheels n k) block entries place table after → Covers loads gaps wheels n k block 1 place entries after
+covers-one start loads gaps wheels part n k block entries place table after g o f i z h p q =
+    go (getD after (place + i) 0) (f .at i z (omega arith) p q)
+  where
+    go : (low : ℕ) → (0 < low → 268435456 * low + partFlow loads gaps wheels n k * z ≤ 4398046511104 * roundIn 0 part gaps n z) → Wastes loads gaps wheels n k low z
+    go zero y = flow-any start loads gaps wheels n k z g
+    go (suc low) y = omega (arith, y (omega arith), part-whole loads gaps wheels part n k z o)
+
+-- a table each of whose entries is lowered to one that far on covers twice as far
+pub covers-more : (loads gaps wheels : List ℕ) (n k block many place entries : ℕ) (table after : List ℕ) → Covers loads gaps wheels n k block many place entries table → Lowered place entries many table after → 1 ≤ many → Covers loads gaps wheels n k block (many + many) place entries after
+covers-more loads gaps wheels n k block many place entries table after c l o i z h p q = go (cmp ((i + many) * block) z)
+  where
+    near : z ≤ (i + many) * block → Wastes loads gaps wheels n k (getD after (place + i) 0) z
+    near r = omega (arith, c i z (omega arith) p r, l .own i)
+
+    far : (i + many) * block < z → Wastes loads gaps wheels n k (getD after (place + i) 0) z
+    far r =
+        let e : getD table (place + i + many) 0 ≡ getD table (place + (i + many)) 0 = ap (λ x. getD table x 0) (add-assoc place i many) in
+        omega (arith, c (i + many) z (omega arith) r (omega arith), l .next i (omega arith), e)
+
+    go : Cmp ((i + many) * block) z → Wastes loads gaps wheels n k (getD after (place + i) 0) z
+    go (less r) = far r
+    go (same r) = near (omega arith)
+    go (more r) = near (omega arith)
+
+-- a table with the same entries covers the same
+pub covers-kept : (loads gaps wheels : List ℕ) (n k block many place entries : ℕ) (table after : List ℕ) → Covers loads gaps wheels n k block many place entries table → 1 ≤ many → ((x : ℕ) → x < place + entries → getD after x 0 ≡ getD table x 0) → Covers loads gaps wheels n k block many place entries after
+covers-kept loads gaps wheels n k block many place entries table after c o e i z h p q =
+    omega (arith, c i z h p q, e (place + i) (omega arith))

@@ -157,3 +157,75 @@ covers-more loads gaps wheels n k block many place entries table after c l o i z
 pub covers-kept : (loads gaps wheels : List ℕ) (n k block many place entries : ℕ) (table after : List ℕ) → Covers loads gaps wheels n k block many place entries table → 1 ≤ many → ((x : ℕ) → x < place + entries → getD after x 0 ≡ getD table x 0) → Covers loads gaps wheels n k block many place entries after
 covers-kept loads gaps wheels n k block many place entries table after c o e i z h p q =
     omega (arith, c i z h p q, e (place + i) (omega arith))
+
+-- a stretch that is longer by whole turns holds as many spacings more
+spacings-turn : (z m t : ℕ) → 1 ≤ m → 1 ≤ z → spacings (z + t * m) m ≡ spacings z m + t
+unfolding spacings
+spacings-turn z m t o h =
+    let e : z + t * m + (m - 1) ≡ z + (m - 1) + t * m = omega arith in
+    omega
+    (arith, ap (λ x. x / m) e ∙ add-mul-div-right (z + (m - 1)) t {z = m} o, le-div-iff-mul-le {k = m} {x = 1} {y = z + (m - 1)} o .1 (omega arith))
+
+-- in whole turns a source brings at least its flow
+turn-source : (w m P q z : ℕ) → 1 ≤ m → 1 ≤ z → (0 < w → P % m ≡ 0) → q * P * (w * 4398046511104 / m) + 4398046511104 * (w * spacings z m) ≤ 4398046511104 * (w * spacings (z + q * P) m)
+turn-source zero m P q z o h e =
+    let f : zero * 4398046511104 / m ≡ 0 = ap (λ x. x / m) (zero-mul 4398046511104) ∙ zero-div m in
+    rw f (omega (arith, zero-mul (spacings z m)))
+turn-source (suc w) m P q z o h e =
+    let t : ℕ = P / m in
+    let f : ℕ = suc w * 4398046511104 / m in
+    let r : P ≡ t * m = omega (arith, div-add-mod' P m, e (omega arith)) in
+    let x : z + q * P ≡ z + q * t * m = omega (arith, ap (λ x. q * x) r) in
+    let y : spacings (z + q * P) m ≡ spacings z m + q * t = ap (λ x. spacings x m) x ∙ spacings-turn z m (q * t) o h in
+    let a : q * P * f ≡ q * t * (f * m) = omega (arith, ap (λ x. q * x * f) r) in
+    let b : q * t * (f * m) ≤ q * t * (suc w * 4398046511104) = mul-le-mul-left (q * t) (div-mul-le-self (suc w * 4398046511104) m) in
+    let c : suc w * spacings (z + q * P) m ≡ suc w * (spacings z m + q * t) = ap (λ x. suc w * x) y in
+    rw c (omega arith)
+
+-- a source with a load on a wheel has a spacing that divides the period
+on-whole : (loads gaps wheels periods : List ℕ) (n count k u : ℕ) → Sifted loads gaps wheels periods n count → k < count → u < n → 0 < partAt loads wheels k u → getD periods k 0 % getD gaps u 0 ≡ 0
+on-whole loads gaps wheels periods n count k u s h p l = go (cmp (getD wheels u 0) k)
+  where
+    go : Cmp (getD wheels u 0) k → getD periods k 0 % getD gaps u 0 ≡ 0
+    go (less r) = absurd (omega (arith, part-off loads wheels k u (λ e. omega arith)))
+    go (same r) = ap (λ x. getD periods x 0 % getD gaps u 0) (sym r) ∙ s u p (omega arith) .whole
+    go (more r) = absurd (omega (arith, part-off loads wheels k u (λ e. omega arith)))
+
+-- a stretch that is longer by whole turns of a wheel wastes no less
+pub wastes-period : (start : ℕ) (loads gaps wheels periods : List ℕ) (n count k : ℕ) → LevelOn start loads gaps n → Sifted loads gaps wheels periods n count → k < count → (low z q : ℕ) → 1 ≤ z → Wastes loads gaps wheels n k low z → Wastes loads gaps wheels n k low (z + q * getD periods k 0)
+unfolding partFlow partIn
+wastes-period start loads gaps wheels periods n count k g s h low z q o w =
+    let P : ℕ = getD periods k 0 in
+    let f : ℕ → ℕ = λ u. partAt loads wheels k u * 4398046511104 / getD gaps u 0 in
+    let x : ℕ → ℕ = λ u. partAt loads wheels k u * spacings z (getD gaps u 0) in
+    let y : ℕ → ℕ = λ u. partAt loads wheels k u * spacings (z + q * P) (getD gaps u 0) in
+    omega (
+      arith,
+      sumN-le (λ u. q * P * f u + 4398046511104 * x u) (λ u. 4398046511104 * y u) 0 n (λ u a b. turn-source (partAt loads wheels k u) (getD gaps u 0) P q z (g .gap-some u (omega arith)) o (on-whole loads gaps wheels periods n count k u s h (omega arith))),
+      sumN-add (λ u. q * P * f u) (λ u. 4398046511104 * x u) 0 n,
+      sumN-mul (q * P) f 0 n,
+      sumN-mul 4398046511104 x 0 n,
+      sumN-mul 4398046511104 y 0 n,
+    )
+
+-- a quotient does not fall
+quotient-mono : (x y m : ℕ) → 1 ≤ m → x ≤ y → x / m ≤ y / m
+quotient-mono x y m o h = le-div-iff-mul-le o .1 (omega (arith, div-mul-le-self x m))
+
+-- what the entry says where a stretch begins is wasted in every stretch that ends within seven blocks
+pub wastes-seen : (start : ℕ) (loads gaps wheels : List ℕ) (n block : ℕ) (periods places table : List ℕ) (count k : ℕ) → LevelOn start loads gaps n → WheelsOn loads gaps wheels n block periods places table count → Placed periods places block count → k < count → 1 ≤ block → (D L : ℕ) → 1 ≤ D → D ≤ L → L ≤ D + 7 * block → Wastes loads gaps wheels n k (getD table (getD places k 0 + (D - 1) % getD periods k 0 / block) 0) L
+wastes-seen start loads gaps wheels n block periods places table count k g w l h o D L d a b =
+    let P : ℕ = getD periods k 0 in
+    let y : ℕ = (D - 1) % P in
+    let q : ℕ = (D - 1) / P in
+    let i : ℕ = y / block in
+    let z : ℕ = y + 1 + (L - D) in
+    let low : ℕ = getD table (getD places k 0 + i) 0 in
+    let some : 1 ≤ P = l .some k h in
+    let below : y < P = mod-lt (D - 1) some in
+    let room : i + 8 ≤ P / block + 8 = omega (arith, quotient-mono y P block o (omega arith)) in
+    let from : i * block < z = omega (arith, div-mul-le-self y block) in
+    let upto : z ≤ (i + 8) * block = omega (arith, lt-div-mul-add {a = y} {b = block} o) in
+    let e : z + q * P ≡ L = omega (arith, div-add-mod' (D - 1) P) in
+    let v : Wastes loads gaps wheels n k low (z + q * P) = wastes-period start loads gaps wheels periods n count k g (w .sifted) h low z q (omega arith) (w .covers k h i z room from upto) in
+    rw e at v

@@ -229,3 +229,43 @@ wastes-seen start loads gaps wheels n block periods places table count k g w l h
     let e : z + q * P ≡ L = omega (arith, div-add-mod' (D - 1) P) in
     let v : Wastes loads gaps wheels n k low (z + q * P) = wastes-period start loads gaps wheels periods n count k g (w .sifted) h low z q (omega arith) (w .covers k h i z room from upto) in
     rw e at v
+
+-- in a stretch that ends within seven blocks the first few wheels waste together what their entries say
+wastes-all : (start : ℕ) (loads gaps wheels : List ℕ) (n block : ℕ) (periods places table turns : List ℕ) (count D L : ℕ) → LevelOn start loads gaps n → WheelsOn loads gaps wheels n block periods places table count → Placed periods places block count → 1 ≤ block → 1 ≤ D → Turned periods count D turns → D ≤ L → L ≤ D + 7 * block → 268435456 * wasteOn block places table turns count + flowOn loads gaps wheels n count * L ≤ 4398046511104 * sumN (λ k. partIn loads gaps wheels n k L) 0 count
+unfolding wasteOn
+wastes-all start loads gaps wheels n block periods places table turns count D L g w l o d t a b =
+    let low : ℕ → ℕ = λ k. getD table (getD places k 0 + getD turns k 0 / block) 0 in
+    let f : ℕ → ℕ = partFlow loads gaps wheels n in
+    let x : ℕ → ℕ = λ k. partIn loads gaps wheels n k L in
+    omega (
+      arith,
+      sumN-le (λ k. 268435456 * low k + L * f k) (λ k. 4398046511104 * x k) 0 count each,
+      sumN-add (λ k. 268435456 * low k) (λ k. L * f k) 0 count,
+      sumN-mul 268435456 low 0 count,
+      sumN-mul L f 0 count,
+      sumN-mul 4398046511104 x 0 count,
+    )
+  where
+    each : Each (λ k. 268435456 * getD table (getD places k 0 + getD turns k 0 / block) 0 + L * partFlow loads gaps wheels n k ≤ 4398046511104 * partIn loads gaps wheels n k L) 0 count
+    each k p q =
+        let h : k < count = omega arith in
+        rw (t .at k h) (omega (arith, wastes-seen start loads gaps wheels n block periods places table count k g w l h o D L d a b))
+
+-- the wastes and the rest leave no fixed point within seven blocks
+pub stretch-free : (start : ℕ) (loads gaps wheels : List ℕ) (n block : ℕ) (periods places table turns : List ℕ) (count D slope rest : ℕ) → LevelOn start loads gaps n → WheelsOn loads gaps wheels n block periods places table count → Placed periods places block count → 1 ≤ block → 1 ≤ D → Turned periods count D turns → 4398046511104 ≤ flowOn loads gaps wheels n count + 512 * slope → RestFrom start loads gaps wheels n count D rest → slope * (D + 7 * block) < 8589934592 * rest + 524288 * wasteOn block places table turns count → LowerBound start loads gaps n D → LowerBound start loads gaps n (D + 7 * block)
+stretch-free start loads gaps wheels n block periods places table turns count D slope rest g w l o d t s r h b L e = go (cmp L (D + 7 * block))
+  where
+    go : Cmp L (D + 7 * block) → D + 7 * block ≤ L
+    go (less p) =
+        let q : D ≤ L = b L e in
+        let end : L ≤ D + 7 * block = omega arith in
+        absurd (omega (
+          arith,
+          wastes-all start loads gaps wheels n block periods places table turns count D L g w l o d t q end,
+          parts-left start loads gaps wheels n count L,
+          r L q,
+          mul-le-mul-right L s,
+          mul-le-mul-left slope end,
+        ))
+    go (same p) = omega arith
+    go (more p) = omega arith

@@ -1,21 +1,21 @@
 -- Laws of sources on wheels: parts of a round, flows, wastes and their tables, and stretches without a fixed point. Assumes nothing.
 use Prim.Native.Nat.{ℕ, zero, suc, _+_, _-_, _*_, _/_, _%_, _≤_, _<_, max}
-use mathlib.Core.Path.{_≡_, refl, sym, ap, _∙_}
+use mathlib.Core.Path.{_≡_, sym, ap, _∙_}
 use mathlib.Core.List.{List}
-use mathlib.Core.Bool.{Bool, true, false, cond}
+use mathlib.Core.Bool.{cond}
 use native.Mathlib.Omega.{arith}
 use native.Mathlib.Nat.{zero-add, add-assoc, zero-mul, zero-div, mul-le-mul-left, mul-le-mul-right, div-mul-le-self, div-add-mod', lt-div-mul-add, add-mul-div-right, le-div-iff-mul-le, mod-lt}
-use lib.ListN.{getD, length}
+use lib.ListN.{getD}
 use lib.Dec.{eqb, ltb}
 use borrow.Author.Tests.{eq-eqb, ne-eqb, lt-ltb, le-ltb}
 use Rattle.model.specs.Basics.{sumN}
 use Rattle.model.specs.Delays.{spacings}
 use Rattle.lemmas.proofs.Tests.{Cmp, less, same, more, cmp}
 use Rattle.lemmas.proofs.Range.{Each, sumN-le, sumN-add, sumN-mul, sumN-cong}
-use Rattle.theory.proofs.Rounds.{spacings-some, spacings-mono}
+use Rattle.theory.proofs.Rounds.{spacings-mono}
 use Rattle.theory.proofs.Levels.{spacings-cover}
 use Rattle.rounds.specs.Level.{LevelOn, LowerBound, roundIn}
-use Rattle.wheels.specs.Wheel.{partAt, partIn, partFlow, leftIn, Kept, Sifted, PartOf, Wastes, Covers, Placed, WheelsOn, flowOn, Turned, wasteOn, Filled, Lowered, RestFrom}
+use Rattle.wheels.specs.Wheel.{partAt, partIn, partFlow, leftIn, Sifted, PartOf, Wastes, Covers, Placed, WheelsOn, flowOn, Turned, wasteOn, Filled, Lowered, RestFrom}
 
 -- a source on a wheel has the load that it has, and any other none
 pub part-on : (loads wheels : List ℕ) (k u : ℕ) → getD wheels u 0 ≡ k → partAt loads wheels k u ≡ getD loads u 0
@@ -98,6 +98,7 @@ part-or-left w k a c = go (cmp w k)
     go (same r) = rw (le-ltb w k (omega arith), eq-eqb w k r, lt-ltb w (suc k) (omega arith)) (omega arith)
     go (more r) = rw (le-ltb w k (omega arith), ne-eqb w k (λ e. omega arith), le-ltb w (suc k) r) (omega arith)
 
+-- what is left by k wheels is the next wheel's part and what it leaves
 left-more : (start : ℕ) (loads gaps wheels : List ℕ) (n k z : ℕ) → leftIn start loads gaps wheels n k z ≡ partIn loads gaps wheels n k z + leftIn start loads gaps wheels n (suc k) z
 unfolding leftIn partIn partAt
 left-more start loads gaps wheels n k z =
@@ -108,6 +109,7 @@ left-more start loads gaps wheels n k z =
     let l : ℕ → ℕ = λ u. cond (ltb (w u) (suc k)) 0 (getD loads u 0) * c u in
     omega (arith, sumN-cong a (λ u. b u + l u) 0 n (λ u p q. part-or-left (w u) k (getD loads u 0) (c u)), sumN-add b l 0 n)
 
+-- what no wheels leave is the round
 left-all : (start : ℕ) (loads gaps wheels : List ℕ) (n z : ℕ) → leftIn start loads gaps wheels n 0 z ≡ roundIn start loads gaps n z
 unfolding leftIn roundIn
 left-all start loads gaps wheels n z =

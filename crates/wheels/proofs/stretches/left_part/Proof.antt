@@ -16,7 +16,7 @@ mul-result : tie.Need-mul-result
 mul-result c = search needs
 
 returns-2 : tie.Need-returns-2
-returns-2 c = rw (le-ltb _ _ (@if1@ .left)) refl
+returns-2 c = rw (le-ltb _ _ (c .if1 .left)) refl
 
 pub left-part-spec : {M : Type 1} → statement M
 left-part-spec = tie.close (tie.spec returns div-result mul-result returns-2)

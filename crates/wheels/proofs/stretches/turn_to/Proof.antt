@@ -1,57 +1,54 @@
+-- `turn_to` meets its contract: the first k wheels stand where d is. Assumes nothing.
+use Prim.Native.Nat.{ℕ, _≤_, _<_, _-_, _%_}
+use mathlib.Core.Path.{_≡_, refl, _∙_}
+use lib.ListN.{getD, length, length-set}
+use Rattle.lemmas.proofs.Table.{stored}
+use native.Mathlib.Omega.{arith}
 use Rattle.wheels.proofs.stretches.turn_to.Statement.{statement}
 use Rattle.wheels.proofs.stretches.turn_to.Tie as tie
-use Rattle.wheels.proofs.stretches.turn_to.Reads as reads
-use Rattle.wheels.proofs.stretches.turn_to.Lts as lts
 
 abbrev Inv-loop : tie.InvT-loop
-Inv-loop periods count d turns₀ k₀ turns k = ?
+Inv-loop periods count d turns₀ k₀ turns k = (k ≤ count) × (length turns ≡ 16) × ((j : ℕ) → j < k → getD turns j 0 ≡ (d - 1) % getD periods j 0)
 
 abbrev μ-loop : tie.MeasureT-loop
-μ-loop periods count d turns₀ k₀ turns k = ?
+μ-loop periods count d turns₀ k₀ turns k = count - k
 
--- src/stretches.rt:50:5
 loop-holds : tie.Need-loop-holds Inv-loop μ-loop
-loop-holds c = ?
+loop-holds c = (omega arith, c .pre .3, λ j p. absurd (omega arith))
 
--- src/stretches.rt:51:21
 sub-turns : tie.Need-sub-turns Inv-loop μ-loop
-sub-turns c = ?
+sub-turns c = omega arith
 
--- src/stretches.rt:51:30
 mul-turns : tie.Need-mul-turns Inv-loop μ-loop
-mul-turns c = ?
+mul-turns c = omega arith
 
--- src/stretches.rt:51:30
 element-copy-out-turns : tie.Need-element-copy-out-turns Inv-loop μ-loop
-element-copy-out-turns c = ?
+element-copy-out-turns c = omega arith
 
--- src/stretches.rt:51:20
 rem-turns : tie.Need-rem-turns Inv-loop μ-loop
-rem-turns c = ?
+rem-turns c = omega (arith, c .before .before .before .pre .1 (c .before .before .loop .k) (omega arith))
 
--- src/stretches.rt:51:9
 mul-turns-2 : tie.Need-mul-turns-2 Inv-loop μ-loop
-mul-turns-2 c = ?
+mul-turns-2 c = omega arith
 
--- src/stretches.rt:51:9
 element-write-turns : tie.Need-element-write-turns Inv-loop μ-loop
-element-write-turns c = ?
+element-write-turns c = omega arith
 
--- src/stretches.rt:52:9
 add-k : tie.Need-add-k Inv-loop μ-loop
-add-k c = ?
+add-k c = omega arith
 
--- src/stretches.rt:50:5
 loop-less : tie.Need-loop-less Inv-loop μ-loop
-loop-less c = ?
+loop-less c = omega arith
 
--- src/stretches.rt:50:5
 loop-again : tie.Need-loop-again Inv-loop μ-loop
-loop-again c = ?
+loop-again c =
+    let a = c .before .before .before .args in
+    let L = c .before .before .loop in
+    let v = (a .d - 1) % getD (a .periods .now) (L .k) 0 in
+    (omega arith, length-set (L .turns) (L .k) v ∙ L .inv .1, stored (λ j x. x ≡ (a .d - 1) % getD (a .periods .now) j 0) 0 (L .turns) (L .k) v (omega (arith, L .inv .1)) (L .inv .2) refl)
 
--- src/stretches.rt:45:1
 returns : tie.Need-returns Inv-loop μ-loop
-returns c = ?
+returns c = let L = c .before .loop in record { sized = L .inv .1; at = λ k p. L .inv .2 k (omega arith) }
 
 pub turn-to-spec : {M : Type 1} → statement M
 turn-to-spec =

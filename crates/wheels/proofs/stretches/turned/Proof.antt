@@ -1,26 +1,23 @@
+-- `turned` meets its contract: a remainder, found without a division where it can be. Assumes nothing.
 use borrow.Author.Needs.{needs}
+use Prim.Native.Nat.{_+_}
+use Rattle.wheels.proofs.Steps.{turn-near, turn-once}
+use native.Mathlib.Omega.{arith}
 use Rattle.wheels.proofs.stretches.turned.Statement.{statement}
 use Rattle.wheels.proofs.stretches.turned.Tie as tie
-use Rattle.wheels.proofs.stretches.turned.Reads as reads
-use Rattle.wheels.proofs.stretches.turned.Lts as lts
 
--- src/stretches.rt:61:15
 add-far : tie.Need-add-far
 add-far c = search needs
 
--- src/stretches.rt:63:9
 returns : tie.Need-returns
-returns c = ?
+returns c = turn-near (c .before .args .turn + c .before .args .width) (c .before .args .period) (omega arith)
 
--- src/stretches.rt:67:9
 returns-2 : tie.Need-returns-2
-returns-2 c = ?
+returns-2 c = turn-once (c .before .before .args .turn + c .before .before .args .width) (c .before .before .args .period) (omega arith) (omega arith)
 
--- src/stretches.rt:69:5
 rem-result : tie.Need-rem-result
 rem-result c = search needs
 
--- src/stretches.rt:57:1
 returns-3 : tie.Need-returns-3
 returns-3 c = search needs
 

@@ -1,74 +1,63 @@
+-- `waste_on` meets its contract: the sum of the first k wheels' entries. Assumes nothing.
+use Prim.Native.Nat.{ℕ, _≤_, _<_, _+_, _-_, _*_, _/_, _^_}
+use mathlib.Core.Path.{_≡_, ap}
+use lib.ListN.{getD}
+use Rattle.wheels.specs.Wheel.{wasteOn}
+use Rattle.wheels.proofs.Steps.{waste-none, waste-more}
+use native.Mathlib.Omega.{arith}
 use Rattle.wheels.proofs.stretches.waste_on.Statement.{statement}
 use Rattle.wheels.proofs.stretches.waste_on.Tie as tie
-use Rattle.wheels.proofs.stretches.waste_on.Reads as reads
-use Rattle.wheels.proofs.stretches.waste_on.Lts as lts
-use Rattle.wheels.proofs.stretches.block_at.Reads as block-at-reads
 
 abbrev Inv-loop : tie.InvT-loop
-Inv-loop table places turns count shift sum₀ k₀ sum k = ?
+Inv-loop table places turns count shift sum₀ k₀ sum k = (k ≤ count) × (sum ≡ wasteOn (2 ^ shift) places table turns k) × (sum ≤ k * 4294967295)
 
 abbrev μ-loop : tie.MeasureT-loop
-μ-loop table places turns count shift sum₀ k₀ sum k = ?
+μ-loop table places turns count shift sum₀ k₀ sum k = count - k
 
--- src/stretches.rt:105:5
 loop-holds : tie.Need-loop-holds Inv-loop μ-loop
-loop-holds c = ?
+loop-holds c = let a = c .args in (omega arith, waste-none (2 ^ a .shift) (a .places .now) (a .table .now) (a .turns .now), omega arith)
 
--- src/stretches.rt:106:18
 mul-at : tie.Need-mul-at Inv-loop μ-loop
-mul-at c = ?
+mul-at c = omega arith
 
--- src/stretches.rt:106:18
 element-copy-out-at : tie.Need-element-copy-out-at Inv-loop μ-loop
-element-copy-out-at c = ?
+element-copy-out-at c = omega arith
 
--- src/stretches.rt:106:39
 mul-block-at : tie.Need-mul-block-at Inv-loop μ-loop
-mul-block-at c = ?
+mul-block-at c = omega arith
 
--- src/stretches.rt:106:39
 element-copy-out-block-at : tie.Need-element-copy-out-block-at Inv-loop μ-loop
-element-copy-out-block-at c = ?
+element-copy-out-block-at c = omega arith
 
--- src/stretches.rt:106:30
 block-at-requires : tie.Need-block-at-requires Inv-loop μ-loop
-block-at-requires c κs = ?
+block-at-requires c κs = c .before .before .before .before .pre .1
 
--- src/stretches.rt:106:18
 add-at : tie.Need-add-at Inv-loop μ-loop
-add-at c = ?
+add-at c = omega arith
 
--- src/stretches.rt:107:21
 mul-sum : tie.Need-mul-sum Inv-loop μ-loop
-mul-sum c = ?
+mul-sum c = omega arith
 
--- src/stretches.rt:107:21
 element-copy-out-sum : tie.Need-element-copy-out-sum Inv-loop μ-loop
-element-copy-out-sum c = ?
+element-copy-out-sum c = omega arith
 
--- src/stretches.rt:107:21
 cast-sum : tie.Need-cast-sum Inv-loop μ-loop
-cast-sum c = ?
+cast-sum c = omega arith
 
--- src/stretches.rt:107:15
 add-sum : tie.Need-add-sum Inv-loop μ-loop
-add-sum c = ?
+add-sum c = omega arith
 
--- src/stretches.rt:108:9
 add-k : tie.Need-add-k Inv-loop μ-loop
-add-k c = ?
+add-k c = omega arith
 
--- src/stretches.rt:105:5
 loop-less : tie.Need-loop-less Inv-loop μ-loop
-loop-less c = ?
+loop-less c = omega arith
 
--- src/stretches.rt:105:5
 loop-again : tie.Need-loop-again Inv-loop μ-loop
-loop-again c = ?
+loop-again c = omega arith
 
--- src/stretches.rt:93:1
 returns : tie.Need-returns Inv-loop μ-loop
-returns c = ?
+returns c = omega arith
 
 pub waste-on-spec : {M : Type 1} → statement M
 waste-on-spec =

@@ -1,74 +1,67 @@
+-- `spread` meets its contract: the first i entries are lowered. Assumes nothing.
+use Prim.Native.Nat.{ℕ, _≤_, _<_, _+_, _-_}
+use mathlib.Core.Path.{_≡_}
+use Rattle.wheels.proofs.Steps.{Lowering, lowering-none, lowering-more}
+use native.Mathlib.Omega.{arith}
 use Rattle.wheels.proofs.tables.spread.Statement.{statement}
 use Rattle.wheels.proofs.tables.spread.Tie as tie
-use Rattle.wheels.proofs.tables.spread.Reads as reads
-use Rattle.wheels.proofs.tables.spread.Lts as lts
-use Rattle.wheels.proofs.tables.smaller.Reads as smaller-reads
 
 abbrev Inv-loop : tie.InvT-loop
-Inv-loop place entries many table₀ i₀ table i = ?
+Inv-loop place entries many table₀ i₀ table i = (i ≤ entries) × Lowering place many i table₀ table
 
 abbrev μ-loop : tie.MeasureT-loop
-μ-loop place entries many table₀ i₀ table i = ?
+μ-loop place entries many table₀ i₀ table i = entries - i
 
--- src/tables.rt:210:5
 loop-holds : tie.Need-loop-holds Inv-loop μ-loop
-loop-holds c = ?
+loop-holds c = (omega arith, lowering-none (c .args .place) (c .args .many) (c .args .table .now) (c .pre .3))
 
--- src/tables.rt:210:11
 add-loop : tie.Need-add-loop Inv-loop μ-loop
-add-loop c = ?
+add-loop c = omega arith
 
--- src/tables.rt:211:18
 add-at : tie.Need-add-at Inv-loop μ-loop
-add-at c = ?
+add-at c = omega arith
 
--- src/tables.rt:212:29
 mul-smaller : tie.Need-mul-smaller Inv-loop μ-loop
-mul-smaller c = ?
+mul-smaller c = omega arith
 
--- src/tables.rt:212:29
 element-copy-out-smaller : tie.Need-element-copy-out-smaller Inv-loop μ-loop
-element-copy-out-smaller c = ?
+element-copy-out-smaller c = omega arith
 
--- src/tables.rt:212:46
 add-smaller : tie.Need-add-smaller Inv-loop μ-loop
-add-smaller c = ?
+add-smaller c = omega arith
 
--- src/tables.rt:212:40
 mul-smaller-2 : tie.Need-mul-smaller-2 Inv-loop μ-loop
-mul-smaller-2 c = ?
+mul-smaller-2 c = omega arith
 
--- src/tables.rt:212:40
 element-copy-out-smaller-2 : tie.Need-element-copy-out-smaller-2 Inv-loop μ-loop
-element-copy-out-smaller-2 c = ?
+element-copy-out-smaller-2 c = omega arith
 
--- src/tables.rt:212:21
 smaller-requires : tie.Need-smaller-requires Inv-loop μ-loop
-smaller-requires c κs = ?
+smaller-requires c κs = tt
 
--- src/tables.rt:212:9
 mul-table : tie.Need-mul-table Inv-loop μ-loop
-mul-table c = ?
+mul-table c = omega arith
 
--- src/tables.rt:212:9
 element-write-table : tie.Need-element-write-table Inv-loop μ-loop
-element-write-table c = ?
+element-write-table c = omega (arith, c .before .before .before .before .loop .inv .1 .sized)
 
--- src/tables.rt:213:9
 add-i : tie.Need-add-i Inv-loop μ-loop
-add-i c = ?
+add-i c = omega arith
 
--- src/tables.rt:210:5
 loop-less : tie.Need-loop-less Inv-loop μ-loop
-loop-less c = ?
+loop-less c = omega arith
 
--- src/tables.rt:210:5
 loop-again : tie.Need-loop-again Inv-loop μ-loop
-loop-again c = ?
+loop-again c =
+    let a = c .before .before .before .before .before .args in
+    let L = c .before .before .before .before .loop in
+    (omega arith, lowering-more (a .place) (a .many) (L .i) (c .smaller .result) (a .table .now) (L .table) (omega arith) (L .inv .1) (c .smaller .ensures .0) (c .smaller .ensures .1))
 
--- src/tables.rt:205:1
 returns : tie.Need-returns Inv-loop μ-loop
-returns c = ?
+returns c =
+    let L = c .before .loop in
+    let x = L .inv .1 in
+    record { sized = x .sized; own = x .own; next = λ i p. x .next i (omega arith); before = x .below }
 
 pub spread-spec : {M : Type 1} → statement M
 spread-spec =

@@ -19,7 +19,7 @@ mul-whole : tie.Need-mul-whole
 mul-whole c = search needs
 
 mul-gone : tie.Need-mul-gone
-mul-gone c = let a = @start@ .args in let h : a .flow * a .place ≤ 4398046511104 * 2097152 = mul-le-mul (omega arith) (omega arith) in omega arith
+mul-gone c = let a = c .before .before .before .args in let h : a .flow * a .place ≤ 4398046511104 * 2097152 = mul-le-mul {n₁ = a .flow} {m₁ = a .place} {n₂ = 4398046511104} {m₂ = 2097152} (omega arith) (omega arith) in omega arith
 
 returns-4 : tie.Need-returns-4
 returns-4 c = search needs

@@ -1,1 +1,2 @@
 // How far a level reaches.
+pub mod plan;

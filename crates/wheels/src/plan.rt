@@ -1,7 +1,7 @@
 // Which sources of a level go together on a wheel, and each wheel's period: a common multiple of their spacings.
 
 ghost use mathlib.Core.Path.{_≡_};
-ghost use Prim.Native.Nat.{_≤_, _-_};
+ghost use Prim.Native.Nat.{ℕ, _≤_, _-_};
 ghost use lib.ListN.{length};
 
 // The greatest common divisor of two numbers.
@@ -45,7 +45,7 @@ fn larger(a: u64, b: u64) -> u64 {
     a
 }
 
-// The period that a wheel has with a source besides; 0 if the source is on a wheel, brings nothing or more than its spacing holds, or makes the period too long.
+// The period that a wheel has with a source besides; 0 if the source cannot join: it is on a wheel, has no load or one above its spacing, or the period is too long.
 fn joined(load: u64, gap: u32, wheel: usize, period: u64, most: u64) -> u64
     requires { ⌜ (period ≤ 1048576) × (most ≤ 1048576) ⌝ }
     ensures { λ r. ⌜ r ≤ most ⌝ }
@@ -86,8 +86,7 @@ fn worth(load: u64, gap: u32, wheel: usize, period: u64, most: u64) -> u64
 
 // The best source so far, when one more is looked at.
 fn better(best: usize, high: u64, u: usize, value: u64) -> usize
-    requires { ⌜ (best ≤ 16) × (u ≤ 16) ⌝ }
-    ensures { λ r. ⌜ r ≤ 16 ⌝ }
+    ensures { λ r. ⌜ ((n : ℕ) → best ≤ n → u ≤ n → r ≤ n) ⌝ }
 {
     if high < value {
         return u;
@@ -95,7 +94,7 @@ fn better(best: usize, high: u64, u: usize, value: u64) -> usize
     best
 }
 
-// The source to join a wheel next, or 16 for none.
+// The source to join a wheel next, or n for none.
 fn choice(
     loads: &[u64; 16],
     gaps: &[u32; 16],
@@ -105,9 +104,9 @@ fn choice(
     most: u64,
 ) -> usize
     requires { ⌜ (n ≤ 16) × (period ≤ 1048576) × (most ≤ 1048576) ⌝ }
-    ensures { λ r. ⌜ r ≤ 16 ⌝ }
+    ensures { λ r. ⌜ r ≤ n ⌝ }
 {
-    let mut best: usize = 16;
+    let mut best = n;
     let mut high: u64 = 0;
     let mut u: usize = 0;
     while u < n {
@@ -135,7 +134,7 @@ fn fill(
     let mut turns: usize = 0;
     while turns < n {
         let u = choice(loads, gaps, n, wheels, period, most);
-        if u == 16 {
+        if u == n {
             return period;
         }
         period = joined(loads[u], gaps[u], wheels[u], period, most);
@@ -145,7 +144,8 @@ fn fill(
     period
 }
 
-// The wheels of a level, one after the other as long as there is room for their periods: the wheel of each source, the period of each wheel, and how many there are.
+// The wheels of a level, one after the other as long as there is room: the wheel of each source, the period of each wheel, and how many there are.
+// All periods together are at most 32768 blocks less 10 for each of 16 wheels, and at most 4000000 ticks; one is at most a quarter of that.
 pub fn plan(
     loads: &[u64; 16],
     gaps: &[u32; 16],

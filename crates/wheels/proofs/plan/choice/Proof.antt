@@ -5,7 +5,7 @@ use Rattle.wheels.proofs.plan.choice.Statement.{statement}
 use Rattle.wheels.proofs.plan.choice.Tie as tie
 
 abbrev Inv-loop : tie.InvT-loop
-Inv-loop loads gaps n wheels period most best₀ high₀ u₀ best high u = (u ≤ n) × (best ≤ 16)
+Inv-loop loads gaps n wheels period most best₀ high₀ u₀ best high u = (u ≤ n) × (best ≤ n)
 
 abbrev μ-loop : tie.MeasureT-loop
 μ-loop loads gaps n wheels period most best₀ high₀ u₀ best high u = n - u
@@ -35,7 +35,7 @@ worth-requires : tie.Need-worth-requires Inv-loop μ-loop
 worth-requires c κs = (omega arith, omega arith)
 
 better-requires : tie.Need-better-requires Inv-loop μ-loop
-better-requires c κs = (omega arith, omega arith)
+better-requires c κs = tt
 
 larger-requires : tie.Need-larger-requires Inv-loop μ-loop
 larger-requires c κs = tt
@@ -47,7 +47,7 @@ loop-less : tie.Need-loop-less Inv-loop μ-loop
 loop-less c = omega arith
 
 loop-again : tie.Need-loop-again Inv-loop μ-loop
-loop-again c = (omega arith, omega arith)
+loop-again c = (omega arith, c .before .better .ensures (c .before .before .before .before .before .before .before .before .args .n) (omega arith) (omega arith))
 
 returns : tie.Need-returns Inv-loop μ-loop
 returns c = omega arith

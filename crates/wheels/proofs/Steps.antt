@@ -5,16 +5,19 @@ use mathlib.Core.Bool.{Bool, true, false, cond}
 use mathlib.Core.List.{List}
 use native.Mathlib.Omega.{arith}
 use native.Mathlib.Numerals.{add-one}
-use native.Mathlib.Nat.{zero-add, zero-mul, mul-le-mul-left, mul-le-mul-right, div-lt-iff-lt-mul, mod-eq-of-lt, mod-eq-sub-mod, mod-add-mod}
+use native.Mathlib.Nat.{zero-add, zero-mul, mul-le-mul-left, mul-le-mul-right, div-lt-iff-lt-mul, div-mul-le-self, lt-div-mul-add, mod-eq-of-lt, mod-eq-sub-mod, mod-add-mod, mod-lt, mod-le}
+use lib.Pow.{shr-mono}
 use lib.Dec.{ltb}
 use lib.ListN.{getD, length, set, length-set}
 use lib.Seq.{getD-set-same, getD-set-other}
 use Rattle.model.specs.Basics.{sumN}
 use Rattle.model.specs.Delays.{spacings}
+use Rattle.lemmas.proofs.Table.{stored}
 use Rattle.lemmas.proofs.Tests.{Cmp, less, same, more, cmp, at-or-not}
 use Rattle.rounds.specs.Level.{LevelOn, Counted, roundIn}
 use Rattle.rounds.proofs.Laws.{round-in-mono}
-use Rattle.wheels.specs.Wheel.{Kept, WasteOf, Filled, Lowered, leftIn, wasteOn, Turned}
+use Rattle.wheels.specs.Wheel.{Kept, Sifted, PartOf, Light, partFlow, flowOn, WasteOf, Covers, Placed, WheelsOn, PutWheel, BuiltOn, leftIn, wasteOn, Turned}
+use Rattle.wheels.proofs.Laws.{covers-one, covers-more, covers-kept, part-small}
 
 -- a source that is kept is on its wheel
 pub kept-at : (load gap period : ℕ) (periods : List ℕ) (wheel r count : ℕ) → count ≤ 16 → (wheel < 16 → period ≡ getD periods wheel 0) → (r < count → (r ≡ wheel) × Kept load gap period) → r < count → Kept load gap (getD periods r 0)
@@ -161,3 +164,82 @@ pub left-step : (start : ℕ) (loads gaps wheels : List ℕ) (count p u : ℕ) �
 unfolding leftIn
 left-step start loads gaps wheels count p u =
     omega (arith, sum-more (λ u. cond (ltb (getD wheels u 0) count) 0 (getD loads u 0) * spacings p (getD gaps u 0)) u)
+
+-- the block of a place
+pub block-of : (done block entries : ℕ) → 1 ≤ block → done < entries * block → (done / block < entries) × (done / block * block ≤ done) × (done < (done / block + 1) * block) × ((done / block + 1) * block ≤ entries * block)
+block-of done block entries o h =
+    let i : done / block < entries = div-lt-iff-lt-mul {k = block} {x = done} {y = entries} o .1 h in (
+      i,
+      div-mul-le-self done block,
+      omega (arith, lt-div-mul-add {a = done} {b = block} o),
+      mul-le-mul-right block (omega arith),
+    )
+
+-- a wheel that stands in a stretch has its entry in the table
+pub inside-at : (periods places turns : List ℕ) (shift count d k : ℕ) → Placed periods places (2 ^ shift) count → Turned periods count d turns → k < count → getD places k 0 + getD turns k 0 / 2 ^ shift < 32768
+inside-at periods places turns shift count d k p t h =
+    let m : (d - 1) % getD periods k 0 < getD periods k 0 = mod-lt (d - 1) (p .some k h) in
+    let s : getD turns k 0 / 2 ^ shift ≤ getD periods k 0 / 2 ^ shift = shr-mono shift (omega (arith, t .at k h)) in
+    omega (arith, p .inside k h)
+
+pub turn-small : (periods turns : List ℕ) (count d k : ℕ) → Turned periods count d turns → k < count → getD turns k 0 ≤ d
+turn-small periods turns count d k t h = omega (arith, t .at k h, mod-le (d - 1) (getD periods k 0))
+
+-- the tables of the first k wheels end before a place
+pub record Building (loads gaps wheels : List ℕ) (n block : ℕ) (periods places table : List ℕ) (k place : ℕ) : Type 0 where
+  pub some : (j : ℕ) → j < k → 1 ≤ getD periods j 0
+  pub inside : (j : ℕ) → j < k → getD places j 0 + (getD periods j 0 / block + 8) ≤ place
+  pub covers : (j : ℕ) → j < k → Covers loads gaps wheels n j block 8 (getD places j 0) (getD periods j 0 / block + 8) table
+
+pub building-none : (loads gaps wheels : List ℕ) (n block : ℕ) (periods places table : List ℕ) → Building loads gaps wheels n block periods places table 0 0
+building-none loads gaps wheels n block periods places table =
+    record { some = λ j p. absurd (omega arith); inside = λ j p. absurd (omega arith); covers = λ j p. absurd (omega arith) }
+
+-- a wheel's table covers eight blocks, and leaves what is before it
+put-covers : (loads gaps wheels part : List ℕ) (n k block entries place : ℕ) (table after : List ℕ) → LevelOn 0 loads gaps n → PartOf loads wheels n k part → PutWheel part gaps n (partFlow loads gaps wheels n k) block entries place table after → Covers loads gaps wheels n k block 8 place entries after
+put-covers loads gaps wheels part n k block entries place table after g p w =
+    let one = covers-one 0 loads gaps wheels part n k block entries place table (w .one) g p (w .filled) in
+    let two = covers-more loads gaps wheels n k block 1 place entries (w .one) (w .two) one (w .to-two) (omega arith) in
+    let four = covers-more loads gaps wheels n k block 2 place entries (w .two) (w .four) two (w .to-four) (omega arith) in
+    covers-more loads gaps wheels n k block 4 place entries (w .four) after four (w .to-eight) (omega arith)
+
+put-before : (part gaps : List ℕ) (n flow block entries place : ℕ) (table after : List ℕ) → PutWheel part gaps n flow block entries place table after → (x : ℕ) → x < place → getD after x 0 ≡ getD table x 0
+put-before part gaps n flow block entries place table after w x p =
+    w .to-eight .before x p ∙ (w .to-four .before x p ∙ (w .to-two .before x p ∙ w .filled .before x p))
+
+pub building-more : (loads gaps wheels part : List ℕ) (n block : ℕ) (periods places table after : List ℕ) (k place entries : ℕ) → LevelOn 0 loads gaps n → PartOf loads wheels n k part → PutWheel part gaps n (partFlow loads gaps wheels n k) block entries place table after → entries ≡ getD periods k 0 / block + 8 → 1 ≤ getD periods k 0 → k < length places → Building loads gaps wheels n block periods places table k place → Building loads gaps wheels n block periods (set places k place) after (k + 1) (place + entries)
+building-more loads gaps wheels part n block periods places table after k place entries g p w e o l b =
+    record {
+      some = λ j q. at-or-not (λ j. 1 ≤ getD periods j 0) k j o (λ ne. b .some j (omega arith));
+      inside = stored (λ j x. x + (getD periods j 0 / block + 8) ≤ place + entries) 0 places k place l (λ j q. omega (arith, b .inside j q)) (omega arith);
+      covers = stored (λ j x. Covers loads gaps wheels n j block 8 x (getD periods j 0 / block + 8) after) 0 places k place l
+          (λ j q. covers-kept loads gaps wheels n j block 8 (getD places j 0) (getD periods j 0 / block + 8) table after (b .covers j q) (omega arith)
+          (λ x r. put-before part gaps n (partFlow loads gaps wheels n k) block entries place table after w x (omega (arith, b .inside j q))))
+          (rw e at (put-covers loads gaps wheels part n k block entries place table after g p w));
+    }
+
+-- the wheels that are built
+pub built-on : (loads gaps wheels : List ℕ) (n : ℕ) (periods : List ℕ) (block planned : ℕ) (places table : List ℕ) (k place flow slope : ℕ) → Sifted loads gaps wheels periods n planned → k ≤ planned → planned ≤ 16 → place ≤ 32768 → Building loads gaps wheels n block periods places table k place → flow ≡ flowOn loads gaps wheels n k → 4398046511104 ≤ flow + 512 * slope → slope ≤ 8589934592 → BuiltOn loads gaps wheels n periods block places table (record { count = k; slope = slope })
+built-on loads gaps wheels n periods block planned places table k place flow slope s p q r b e l m =
+    record {
+      placed = record { few = omega arith; some = b .some; inside = λ j h. omega (arith, b .inside j h) };
+      on = record { sifted = λ u x y. s u x (omega arith); covers = b .covers };
+      leaves = omega (arith, e, l);
+      most = m;
+    }
+
+-- a part of a level is a level, with small loads
+pub part-level : (loads gaps wheels periods part : List ℕ) (n count k : ℕ) → LevelOn 0 loads gaps n → Sifted loads gaps wheels periods n count → k < count → PartOf loads wheels n k part → LevelOn 0 part gaps n × Light part gaps n
+part-level loads gaps wheels periods part n count k g s h p = (
+  record {
+    few = g .few;
+    start-most = omega arith;
+    load-most = λ u q. omega (arith, p .at u q, part-small loads gaps wheels periods n count k u s h q .0);
+    gap-some = g .gap-some;
+    gap-most = g .gap-most;
+  },
+  λ u q. let x = part-small loads gaps wheels periods n count k u s h q in (omega (arith, p .at u q, x .0), omega (arith, p .at u q, x .1)),
+)
+
+pub put-flow : (part gaps : List ℕ) (n flow flow′ block entries place : ℕ) (table after : List ℕ) → flow ≡ flow′ → PutWheel part gaps n flow block entries place table after → PutWheel part gaps n flow′ block entries place table after
+put-flow part gaps n flow flow′ block entries place table after e w = rw e at w

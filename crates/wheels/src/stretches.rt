@@ -89,6 +89,13 @@ fn block_at(turn: u64, shift: u32) -> u64
     turn >> shift
 }
 
+// An entry in 64 bits.
+fn wide(entry: u32) -> u64
+    ensures { λ r. ⌜ (r ≡ entry) × (r ≤ 4294967295) ⌝ }
+{
+    entry as u64
+}
+
 // The least waste of all wheels together in the stretch from where they stand.
 fn waste_on(
     table: &[u32; 32768],
@@ -104,10 +111,18 @@ fn waste_on(
     let mut k: usize = 0;
     while k < count {
         let at = places[k] + block_at(turns[k], shift) as usize;
-        sum = sum + table[at] as u64;
+        sum = sum + wide(table[at]);
         k += 1;
     }
     sum
+}
+
+// How long a stretch is: seven blocks.
+pub fn width_of(shift: u32) -> u64
+    requires { ⌜ shift < 17 ⌝ }
+    ensures { λ r. ⌜ (r ≡ 7 * 2 ^ shift) × (r ≤ 458752) ⌝ }
+{
+    7u64 << shift
 }
 
 // Goes on from a place, stretch by stretch, 128 at most, as long as no stretch can have a fixed point.
@@ -125,7 +140,7 @@ pub fn pass(
     requires { ⌜ Placed (now periods) (now places) (2 ^ shift) count × (shift < 17) × (slope ≤ 8589934592) × (rest ≤ 1000000000) × (1 ≤ from) × (from ≤ limit) × (limit ≤ 1000000000) ⌝ }
     ensures { λ r. ⌜ Passes (now (periods .entry)) (now (places .entry)) (now (table .entry)) (2 ^ shift) count slope rest from r × (from ≤ r) × (r ≤ limit) ⌝ }
 {
-    let width: u64 = 7u64 << shift;
+    let width = width_of(shift);
     let mut turns = [0u64; 16];
     turn_to(periods, count, from, &mut turns);
     let mut d = from;

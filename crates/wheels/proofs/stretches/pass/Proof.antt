@@ -1,90 +1,103 @@
+-- `pass` meets its contract: no stretch that is passed has a fixed point. Assumes nothing.
+use Prim.Native.Nat.{ℕ, _≤_, _<_, _+_, _-_, _*_, _^_}
+use mathlib.Core.Path.{_≡_, refl, ap, _∙_}
+use native.Mathlib.Nat.{mul-le-mul}
+use lib.ListN.{getD}
+use lib.Pow.{pow-pos}
+use Rattle.wheels.specs.Wheel.{Placed, Turned, Passes, wasteOn}
+use Rattle.wheels.proofs.Laws.{stretch-free}
+use Rattle.wheels.proofs.Steps.{inside-at, turn-small}
+use native.Mathlib.Omega.{arith}
 use Rattle.wheels.proofs.stretches.pass.Statement.{statement}
 use Rattle.wheels.proofs.stretches.pass.Tie as tie
-use Rattle.wheels.proofs.stretches.pass.Reads as reads
-use Rattle.wheels.proofs.stretches.pass.Lts as lts
-use Rattle.wheels.proofs.stretches.turn_on.Reads as turn-on-reads
-use Rattle.wheels.proofs.stretches.turn_to.Reads as turn-to-reads
-use Rattle.wheels.proofs.stretches.waste_on.Reads as waste-on-reads
 
 abbrev Inv-loop : tie.InvT-loop
-Inv-loop table periods places count shift slope rest from limit width turns₀ d₀ stretches₀ turns d stretches =
-    ?
+Inv-loop table periods places count shift slope rest from limit width turns₀ d₀ stretches₀ turns d stretches = (width ≡ 7 * 2 ^ shift) × (width ≤ 458752) × (stretches ≤ 128) × (from ≤ d) × (d ≤ limit) × Turned periods count d turns × Passes periods places table (2 ^ shift) count slope rest from d
 
 abbrev μ-loop : tie.MeasureT-loop
-μ-loop table periods places count shift slope rest from limit width turns₀ d₀ stretches₀ turns d stretches =
-    ?
+μ-loop table periods places count shift slope rest from limit width turns₀ d₀ stretches₀ turns d stretches = 128 - stretches
 
--- src/stretches.rt:128:22
-shl-width : tie.Need-shl-width Inv-loop μ-loop
-shl-width c = ?
+width-of-requires : tie.Need-width-of-requires Inv-loop μ-loop
+width-of-requires c κs = c .pre .1
 
--- src/stretches.rt:130:5
 turn-to-requires : tie.Need-turn-to-requires Inv-loop μ-loop
-turn-to-requires c κs = ?
+turn-to-requires c κs = (c .before .before .pre .0 .few, c .before .before .pre .0 .some, c .before .before .pre .4, refl)
 
--- src/stretches.rt:133:5
 loop-holds : tie.Need-loop-holds Inv-loop μ-loop
-loop-holds c = ?
+loop-holds c = (c .before .before .width-of .ensures .0, c .before .before .width-of .ensures .1, omega arith, omega arith, omega (arith, c .before .before .before .pre .5), c .turn-to .ensures, λ start loads gaps wheels n g w s r b. b)
 
--- src/stretches.rt:134:20
 add-if1 : tie.Need-add-if1 Inv-loop μ-loop
-add-if1 c = ?
+add-if1 c = omega (arith, c .before .loop .inv .1, c .before .loop .inv .4, c .before .before .before .before .before .pre .6)
 
--- src/stretches.rt:135:13
 returns : tie.Need-returns Inv-loop μ-loop
-returns c = ?
+returns c = let L = c .before .before .loop in (L .inv .6, L .inv .3, L .inv .4)
 
--- src/stretches.rt:137:13
 waste-on-requires : tie.Need-waste-on-requires Inv-loop μ-loop
-waste-on-requires c κs = ?
+waste-on-requires c κs =
+    let a = c .before .before .before .before .before .before .before .args in
+    (c .before .before .before .before .before .before .before .pre .0 .few, c .before .before .before .before .before .before .before .pre .1, λ k h. inside-at (a .periods .now) (a .places .now) (c .before .before .before .loop .turns) (a .shift) (a .count) (c .before .before .before .loop .d) k (c .before .before .before .before .before .before .before .pre .0) (c .before .before .before .loop .inv .5) h)
 
--- src/stretches.rt:138:12
 mul-if2 : tie.Need-mul-if2 Inv-loop μ-loop
-mul-if2 c = ?
+mul-if2 c = omega (arith, c .before .before .before .before .before .before .before .before .pre .3)
 
--- src/stretches.rt:138:32
 mul-if2-2 : tie.Need-mul-if2-2 Inv-loop μ-loop
-mul-if2-2 c = ?
+mul-if2-2 c = omega (arith, c .waste-on .ensures .1)
 
--- src/stretches.rt:138:12
 add-if2 : tie.Need-add-if2 Inv-loop μ-loop
-add-if2 c = ?
+add-if2 c = omega (arith, c .waste-on .ensures .1, c .before .before .before .before .before .before .before .before .pre .3)
 
--- src/stretches.rt:138:59
 add-if2-2 : tie.Need-add-if2-2 Inv-loop μ-loop
-add-if2-2 c = ?
+add-if2-2 c = omega (arith, c .before .before .before .before .loop .inv .1, c .before .before .before .before .loop .inv .4, c .before .before .before .before .before .before .before .before .pre .6)
 
--- src/stretches.rt:138:50
 mul-if2-3 : tie.Need-mul-if2-3 Inv-loop μ-loop
-mul-if2-3 c = ?
+mul-if2-3 c =
+    let a = c .before .before .before .before .before .before .before .before .args in
+    let L = c .before .before .before .before .loop in
+    let w = c .before .before .before .before .before .before .before .width-of .result in
+    let h : a .slope * (L .d + w) ≤ 8589934592 * 1000000000 = mul-le-mul {n₁ = a .slope} {m₁ = L .d + w} {n₂ = 8589934592} {m₂ = 1000000000} (c .before .before .before .before .before .before .before .before .pre .2) (omega (arith, c .before .before .if1 .left, c .before .before .before .before .before .before .before .before .pre .6)) in
+    omega arith
 
--- src/stretches.rt:139:13
 returns-2 : tie.Need-returns-2 Inv-loop μ-loop
-returns-2 c = ?
+returns-2 c = let L = c .before .before .before .before .before .loop in (L .inv .6, L .inv .3, L .inv .4)
 
--- src/stretches.rt:141:9
 turn-on-requires : tie.Need-turn-on-requires Inv-loop μ-loop
-turn-on-requires c κs = ?
+turn-on-requires c κs =
+    let a = c .before .before .before .before .before .before .before .before .before .before .args in
+    let L = c .before .before .before .before .before .before .loop in
+    (c .before .before .before .before .before .before .before .before .before .before .pre .0 .few, c .before .before .before .before .before .before .before .before .before .before .pre .0 .some, omega (arith, L .inv .1), L .inv .5 .sized, λ k h. omega (arith, turn-small (a .periods .now) (L .turns) (a .count) (L .d) k (L .inv .5) h, L .inv .4, c .before .before .before .before .before .before .before .before .before .before .pre .6))
 
--- src/stretches.rt:142:13
 add-d : tie.Need-add-d Inv-loop μ-loop
-add-d c = ?
+add-d c = omega (arith, c .before .before .before .before .before .if1 .left, c .before .before .before .before .before .before .before .before .before .before .before .pre .6)
 
--- src/stretches.rt:143:9
 add-stretches : tie.Need-add-stretches Inv-loop μ-loop
-add-stretches c = ?
+add-stretches c = omega arith
 
--- src/stretches.rt:133:5
 loop-less : tie.Need-loop-less Inv-loop μ-loop
-loop-less c = ?
+loop-less c = omega arith
 
--- src/stretches.rt:133:5
 loop-again : tie.Need-loop-again Inv-loop μ-loop
-loop-again c = ?
+loop-again c =
+    let S = c .before .before .before .before .before .before .before .before .before .before .before in
+    let a = S .args in
+    let L = c .before .before .before .before .before .before .before .loop in
+    let w = c .before .before .before .before .before .before .before .before .before .before .width-of .result in
+    let o : 1 ≤ L .d = omega (arith, L .inv .3, S .pre .4) in
+    let e : w ≡ 7 * 2 ^ a .shift = L .inv .0 in
+    let v : a .slope * (L .d + w) ≡ a .slope * (L .d + 7 * 2 ^ a .shift) = ap (λ x. a .slope * (L .d + x)) e in
+    let t : a .slope * (L .d + 7 * 2 ^ a .shift) < 8589934592 * a .rest + 524288 * wasteOn (2 ^ a .shift) (a .places .now) (a .table .now) (L .turns) (a .count) = omega (arith, v, c .before .before .if2 .left, c .before .before .before .waste-on .ensures .0) in (
+      e,
+      L .inv .1,
+      omega arith,
+      omega (arith, L .inv .3),
+      omega (arith, c .before .before .before .before .before .if1 .left),
+      c .turn-on .ensures (L .d) o (L .inv .5),
+      λ start loads gaps wheels n g on s r b Z z.
+      let free = stretch-free start loads gaps wheels n (2 ^ a .shift) (a .periods .now) (a .places .now) (a .table .now) (L .turns) (a .count) (L .d) (a .slope) (a .rest) g on (S .pre .0) (pow-pos (a .shift)) o (L .inv .5) s (λ X x. r X (omega (arith, L .inv .3))) t (L .inv .6 start loads gaps wheels n g on s r b) Z z in
+      omega (arith, e, free),
+    )
 
--- src/stretches.rt:114:1
 returns-3 : tie.Need-returns-3 Inv-loop μ-loop
-returns-3 c = ?
+returns-3 c = let L = c .before .loop in (L .inv .6, L .inv .3, L .inv .4)
 
 pub pass-spec : {M : Type 1} → statement M
 pass-spec =
@@ -92,7 +105,7 @@ pass-spec =
     (tie.spec
     Inv-loop
     μ-loop
-    shl-width
+    width-of-requires
     turn-to-requires
     loop-holds
     add-if1

@@ -1,94 +1,110 @@
+-- `fill` meets its contract: every place done has a waste in the entry of its block. Assumes nothing.
+use Prim.Native.Nat.{ℕ, _≤_, _<_, _+_, _-_, _*_, _/_}
+use mathlib.Core.Path.{_≡_, refl, sym, _∙_}
+use native.Mathlib.Nat.{mul-le-mul-right}
+use lib.ListN.{getD, length}
+use Rattle.rounds.specs.Level.{roundIn, Counted}
+use Rattle.wheels.proofs.Laws.{round-light}
+use Rattle.wheels.proofs.Steps.{Filling, filling-none, filling-more, Counting, block-of}
+use native.Mathlib.Omega.{arith}
 use Rattle.wheels.proofs.tables.fill.Statement.{statement}
 use Rattle.wheels.proofs.tables.fill.Tie as tie
-use Rattle.wheels.proofs.tables.fill.Reads as reads
-use Rattle.wheels.proofs.tables.fill.Lts as lts
-use Rattle.rounds.proofs.first_reach.Reads as first-reach-reads
-use Rattle.rounds.proofs.next_reach.Reads as next-reach-reads
-use Rattle.wheels.proofs.tables.lowered.Reads as lowered-reads
-use Rattle.wheels.proofs.tables.quiet_end.Reads as quiet-end-reads
-use Rattle.wheels.proofs.tables.waste.Reads as waste-reads
 
 abbrev Inv-loop : tie.InvT-loop
-Inv-loop part gaps n flow block entries place table₀ ends₀ sum₀ all done₀ table ends sum done = ?
+Inv-loop part gaps n flow block entries place table₀ ends₀ sum₀ all done₀ table ends sum done = (all ≡ entries * block) × (done ≤ all) × Filling part gaps n flow block place done table₀ table × Counting part gaps n done sum ends
 
 abbrev μ-loop : tie.MeasureT-loop
-μ-loop part gaps n flow block entries place table₀ ends₀ sum₀ all done₀ table ends sum done = ?
+μ-loop part gaps n flow block entries place table₀ ends₀ sum₀ all done₀ table ends sum done = all - done
 
--- src/tables.rt:181:9
 first-reach-requires : tie.Need-first-reach-requires Inv-loop μ-loop
-first-reach-requires c κs = ?
+first-reach-requires c κs = (c .before .pre .0, refl)
 
--- src/tables.rt:182:15
 mul-all : tie.Need-mul-all Inv-loop μ-loop
-mul-all c = ?
+mul-all c = omega (arith, c .before .before .pre .4)
 
--- src/tables.rt:184:5
 loop-holds : tie.Need-loop-holds Inv-loop μ-loop
-loop-holds c = ?
+loop-holds c =
+    let a = c .before .before .args in (
+      refl,
+      omega arith,
+      filling-none (a .part .now) (a .gaps .now) (a .n) (a .flow) (a .block) (a .place) (a .table .now) (c .before .before .pre .6),
+      record { last = 0; near = omega arith; counted = c .first-reach .ensures .1; total = c .first-reach .ensures .0 },
+    )
 
--- src/tables.rt:185:41
 add-next-reach : tie.Need-add-next-reach Inv-loop μ-loop
-add-next-reach c = ?
+add-next-reach c = omega (arith, c .before .loop .inv .0, c .before .before .before .before .pre .4)
 
--- src/tables.rt:185:9
 next-reach-requires : tie.Need-next-reach-requires Inv-loop μ-loop
-next-reach-requires c κs = ?
+next-reach-requires c κs =
+    let a = c .before .before .before .before .before .args in
+    let L = c .before .before .loop in
+    let n = L .inv .3 in
+    (c .before .before .before .before .before .pre .0, omega (arith, L .inv .0, c .before .before .before .before .before .pre .4), omega (arith, n .total, round-light (a .part .now) (a .gaps .now) (a .n) (n .last) (c .before .before .before .before .before .pre .0) (c .before .before .before .before .before .pre .1) (omega (arith, n .near, L .inv .1, L .inv .0, c .before .before .before .before .before .pre .4))))
 
--- src/tables.rt:186:17
 div-i : tie.Need-div-i Inv-loop μ-loop
-div-i c = ?
+div-i c = omega (arith, c .before .before .before .before .before .before .pre .2)
 
--- src/tables.rt:187:46
+blocks : (c : tie.After-next-reach Inv-loop μ-loop) → (c .before .before .before .loop .done / c .before .before .before .before .before .before .args .block < c .before .before .before .before .before .before .args .entries) × (c .before .before .before .loop .done / c .before .before .before .before .before .before .args .block * c .before .before .before .before .before .before .args .block ≤ c .before .before .before .loop .done) × (c .before .before .before .loop .done < (c .before .before .before .loop .done / c .before .before .before .before .before .before .args .block + 1) * c .before .before .before .before .before .before .args .block) × ((c .before .before .before .loop .done / c .before .before .before .before .before .before .args .block + 1) * c .before .before .before .before .before .before .args .block ≤ c .before .before .before .before .before .before .args .entries * c .before .before .before .before .before .before .args .block)
+blocks c = block-of (c .before .before .before .loop .done) (c .before .before .before .before .before .before .args .block) (c .before .before .before .before .before .before .args .entries) (c .before .before .before .before .before .before .pre .2) (omega (arith, c .before .before .before .loop .inv .0, c .before .before .loop-test .taken))
+
 add-quiet-end : tie.Need-add-quiet-end Inv-loop μ-loop
-add-quiet-end c = ?
+add-quiet-end c = omega (arith, blocks (c .before) .0, c .before .before .before .before .before .before .before .pre .5)
 
--- src/tables.rt:187:45
 mul-quiet-end : tie.Need-mul-quiet-end Inv-loop μ-loop
-mul-quiet-end c = ?
+mul-quiet-end c = omega (arith, blocks (c .before) .3, c .before .before .before .before .before .before .before .pre .4)
 
--- src/tables.rt:187:13
 quiet-end-requires : tie.Need-quiet-end-requires Inv-loop μ-loop
-quiet-end-requires c κs = ?
+quiet-end-requires c κs = (c .before .before .before .before .before .before .before .pre .0 .few, blocks (c .before) .2)
 
--- src/tables.rt:188:18
 add-at : tie.Need-add-at Inv-loop μ-loop
-add-at c = ?
+add-at c = omega (arith, blocks (c .before .before) .0, c .before .before .before .before .before .before .before .before .pre .5)
 
--- src/tables.rt:189:29
 mul-lowered : tie.Need-mul-lowered Inv-loop μ-loop
-mul-lowered c = ?
+mul-lowered c = omega (arith, blocks (c .before .before) .0, c .before .before .before .before .before .before .before .before .pre .5)
 
--- src/tables.rt:189:29
 element-copy-out-lowered : tie.Need-element-copy-out-lowered Inv-loop μ-loop
-element-copy-out-lowered c = ?
+element-copy-out-lowered c = omega (arith, blocks (c .before .before) .0, c .before .before .before .before .before .before .before .before .pre .5)
 
--- src/tables.rt:189:40
 waste-requires : tie.Need-waste-requires Inv-loop μ-loop
-waste-requires c κs = ?
+waste-requires c κs = tt
 
--- src/tables.rt:189:21
 lowered-requires : tie.Need-lowered-requires Inv-loop μ-loop
-lowered-requires c κs = ?
+lowered-requires c κs = c .waste .ensures .most
 
--- src/tables.rt:189:9
 mul-table : tie.Need-mul-table Inv-loop μ-loop
-mul-table c = ?
+mul-table c = omega (arith, blocks (c .before .before .before .before .before) .0, c .before .before .before .before .before .before .before .before .before .before .before .pre .5)
 
--- src/tables.rt:189:9
 element-write-table : tie.Need-element-write-table Inv-loop μ-loop
-element-write-table c = ?
+element-write-table c = omega (arith, blocks (c .before .before .before .before .before) .0, c .before .before .before .before .before .before .before .before .before .before .before .pre .5, c .before .before .before .before .before .before .before .before .loop .inv .2 .sized)
 
--- src/tables.rt:184:5
 loop-less : tie.Need-loop-less Inv-loop μ-loop
-loop-less c = ?
+loop-less c = omega (arith, c .before .before .before .quiet-end .ensures .0)
 
--- src/tables.rt:184:5
 loop-again : tie.Need-loop-again Inv-loop μ-loop
-loop-again c = ?
+loop-again c =
+    let S = c .before .before .before .before .before .before .before .before .before .before .before in
+    let a = S .args in
+    let L = c .before .before .before .before .before .before .before .before .loop in
+    let b = blocks (c .before .before .before .before .before) in
+    let x = c .before .before .before .before .before .next-reach .ensures 0 (L .inv .3 .last) (omega (arith, L .inv .3 .near)) (L .inv .3 .counted) (L .inv .3 .total) in
+    let q = c .before .before .before .quiet-end in (
+      L .inv .0,
+      omega (arith, q .ensures .1, b .3, L .inv .0),
+      filling-more (a .part .now) (a .gaps .now) (a .n) (a .flow) (a .block) (a .place) (L .done) (q .result) (L .done / a .block) (c .before .before .before .before .before .next-reach .result) (c .before .waste .result) (c .lowered .result) (a .table .now) (L .table)
+      (S .pre .0) (L .inv .2) (omega (arith, b .0, S .pre .5)) (b .1) (q .ensures .0) (q .ensures .1) (x .0) (c .before .waste .ensures) (c .lowered .ensures .0) (c .lowered .ensures .1),
+      record { last = L .done + 1; near = omega (arith, q .ensures .0); counted = x .1; total = x .0 },
+    )
 
--- src/tables.rt:167:1
 returns : tie.Need-returns Inv-loop μ-loop
-returns c = ?
+returns c =
+    let a = c .before .before .before .before .args in
+    let L = c .before .loop in
+    let f = L .inv .2 in
+    record {
+      sized = f .sized;
+      at = λ i z e p q. f .at i z p q (omega (arith, L .inv .0, mul-le-mul-right {m = i + 1} {n = a .entries} (a .block) (omega arith)));
+      before = f .below;
+    }
 
 pub fill-spec : {M : Type 1} → statement M
 fill-spec =

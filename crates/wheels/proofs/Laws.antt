@@ -271,3 +271,7 @@ stretch-free start loads gaps wheels n block periods places table turns count D 
         ))
     go (same p) = omega arith
     go (more p) = omega arith
+
+-- what is left is no more than the round
+pub left-most : (start : ℕ) (loads gaps wheels : List ℕ) (n count z : ℕ) → leftIn start loads gaps wheels n count z ≤ roundIn start loads gaps n z
+left-most start loads gaps wheels n count z = omega (arith, parts-left start loads gaps wheels n count z)

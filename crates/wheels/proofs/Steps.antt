@@ -1,6 +1,6 @@
 -- Single steps of this crate's loops. Assumes nothing.
 use Prim.Native.Nat.{ℕ, suc, _+_, _-_, _*_, _/_, _%_, _^_, _≤_, _<_}
-use mathlib.Core.Path.{_≡_, refl, sym, ap, _∙_}
+use mathlib.Core.Path.{_≡_, refl, sym, ap, subst, _∙_}
 use mathlib.Core.Bool.{Bool, true, false, cond}
 use mathlib.Core.List.{List}
 use native.Mathlib.Omega.{arith}
@@ -17,6 +17,7 @@ use Rattle.lemmas.proofs.Tests.{Cmp, less, same, more, cmp, at-or-not}
 use Rattle.rounds.specs.Level.{LevelOn, Counted, roundIn}
 use Rattle.rounds.proofs.Laws.{round-in-mono}
 use Rattle.wheels.specs.Wheel.{Kept, Sifted, PartOf, Light, partFlow, flowOn, WasteOf, Covers, Placed, WheelsOn, PutWheel, BuiltOn, leftIn, wasteOn, Turned}
+use Rattle.wheels.specs.declared.tables.Built.{Built}
 use Rattle.wheels.proofs.Laws.{covers-one, covers-more, covers-kept, part-small}
 
 -- a source that is kept is on its wheel
@@ -243,3 +244,7 @@ part-level loads gaps wheels periods part n count k g s h p = (
 
 pub put-flow : (part gaps : List ℕ) (n flow flow′ block entries place : ℕ) (table after : List ℕ) → flow ≡ flow′ → PutWheel part gaps n flow block entries place table after → PutWheel part gaps n flow′ block entries place table after
 put-flow part gaps n flow flow′ block entries place table after e w = rw e at w
+
+pub built-by : (loads gaps wheels : List ℕ) (n : ℕ) (periods : List ℕ) (block block′ : ℕ) (places table : List ℕ) (r : Built) → block ≡ block′ → BuiltOn loads gaps wheels n periods block places table r → BuiltOn loads gaps wheels n periods block′ places table r
+built-by loads gaps wheels n periods block block′ places table r e b =
+    subst (λ (x : ℕ). BuiltOn loads gaps wheels n periods x places table r) e b

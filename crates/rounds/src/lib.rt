@@ -103,7 +103,13 @@ fn share_of(load: u64, gap: u64) -> u64
 }
 
 // The shares of all sources, worked out after 32 rounds and never again: most levels settle in fewer.
-pub fn fill_shares(loads: &[u64; 16], gaps: &[u32; 16], n: usize, rounds: u64, shares: &mut [u64; 16])
+pub fn fill_shares(
+    loads: &[u64; 16],
+    gaps: &[u32; 16],
+    n: usize,
+    rounds: u64,
+    shares: &mut [u64; 16],
+)
     requires { ⌜ LevelOn 0 (now loads) (now gaps) n × Shares (now loads) (now gaps) n (now shares) ⌝ }
     ensures { λ _. ⌜ Shares (now (loads .entry)) (now (gaps .entry)) n (now (shares .exit)) ⌝ }
 {
@@ -225,7 +231,10 @@ pub fn few_rounds(start: u64, loads: &[u64; 16], gaps: &[u32; 16], n: usize, lim
     ensures { λ r. ⌜ ReachedBy start (now (loads .entry)) (now (gaps .entry)) n limit r ⌝ }
 {
     if limit <= start {
-        return Reached { place: limit, settled: true };
+        return Reached {
+            place: limit,
+            settled: true,
+        };
     }
     let mut ends = [0u64; 16];
     let mut shares = [0u64; 16];
@@ -234,15 +243,24 @@ pub fn few_rounds(start: u64, loads: &[u64; 16], gaps: &[u32; 16], n: usize, lim
     let mut rounds: u64 = 0;
     while sum < limit {
         if sum <= d {
-            return Reached { place: d, settled: true };
+            return Reached {
+                place: d,
+                settled: true,
+            };
         }
         if 256 <= rounds {
-            return Reached { place: d, settled: false };
+            return Reached {
+                place: d,
+                settled: false,
+            };
         }
         fill_shares(loads, gaps, n, rounds, &mut shares);
         d = jumped(start, loads, gaps, n, &ends, &shares, sum, rounds, limit);
         sum = next_reach(loads, gaps, n, d, sum, &mut ends);
         rounds += 1;
     }
-    Reached { place: limit, settled: true }
+    Reached {
+        place: limit,
+        settled: true,
+    }
 }

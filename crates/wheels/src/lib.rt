@@ -1,21 +1,23 @@
 // How far a level reaches: a few plain rounds first, and where they do not settle, rounds between stretches that cannot have a fixed point.
 
+use rounds::Reached;
 use rounds::few_rounds;
 use rounds::fill_shares;
 use rounds::first_reach;
 use rounds::jumped;
 use rounds::next_reach;
-use rounds::Reached;
+
 mod plan;
 mod stretches;
 mod tables;
+
 use plan::plan;
 use stretches::left_of;
 use stretches::pass;
 use stretches::width_of;
+use tables::Built;
 use tables::build;
 use tables::sift;
-use tables::Built;
 ghost use mathlib.Core.Path.{_≡_};
 ghost use mathlib.Core.Bool.{true, false};
 ghost use Prim.Native.Nat.{_^_, _≤_, _<_};
@@ -71,7 +73,10 @@ fn rounds_between(
     fill_shares(loads, gaps, n, 32, &mut shares);
     let first = first_reach(start, loads, gaps, n, &mut ends);
     if limit <= first {
-        return Reached { place: limit, settled: true };
+        return Reached {
+            place: limit,
+            settled: true,
+        };
     }
     let mut d = from;
     let mut sum = next_reach(loads, gaps, n, from, first, &mut ends);
@@ -80,21 +85,40 @@ fn rounds_between(
     let mut last: u64 = 0;
     while sum < limit {
         if sum <= d {
-            return Reached { place: d, settled: true };
+            return Reached {
+                place: d,
+                settled: true,
+            };
         }
         if fails(shift, rounds, passed) {
-            return Reached { place: d, settled: false };
+            return Reached {
+                place: d,
+                settled: false,
+            };
         }
         let turn = jump_round(shift, rounds, last);
         let far = jumped(start, loads, gaps, n, &ends, &shares, sum, turn, limit);
         let rest = left_of(start, loads, gaps, n, wheels, count, &ends);
-        d = pass(table, periods, places, count, shift, slope, rest, far, limit);
+        d = pass(
+            table,
+            periods,
+            places,
+            count,
+            shift,
+            slope,
+            rest,
+            far,
+            limit,
+        );
         last = d - far;
         passed = passed + last;
         sum = next_reach(loads, gaps, n, d, sum, &mut ends);
         rounds += 1;
     }
-    Reached { place: limit, settled: true }
+    Reached {
+        place: limit,
+        settled: true,
+    }
 }
 
 // A block of so many bits.
@@ -125,8 +149,31 @@ fn attempt(
     let block = block_of(shift);
     let planned = plan(loads, gaps, n, block, &mut wheels, &mut periods);
     sift(loads, gaps, n, &periods, planned, &mut wheels);
-    let built = build(loads, gaps, n, &wheels, &periods, planned, block, &mut places, &mut table);
-    rounds_between(start, loads, gaps, n, limit, from, shift, &wheels, &periods, &places, &table, built)
+    let built = build(
+        loads,
+        gaps,
+        n,
+        &wheels,
+        &periods,
+        planned,
+        block,
+        &mut places,
+        &mut table,
+    );
+    rounds_between(
+        start,
+        loads,
+        gaps,
+        n,
+        limit,
+        from,
+        shift,
+        &wheels,
+        &periods,
+        &places,
+        &table,
+        built,
+    )
 }
 
 // The load of a source that may be on a wheel.

@@ -284,7 +284,10 @@ pub fn build(
     while k < planned {
         let entries = entries_for(periods[k], block, place);
         if entries == 0 {
-            return Built { count: k, slope: slope_of(flow) };
+            return Built {
+                count: k,
+                slope: slope_of(flow),
+            };
         }
         let share = part_of(loads, gaps, n, wheels, periods, planned, k, &mut part);
         put_wheel(&part, gaps, n, share, block, entries, place, table);
@@ -293,5 +296,8 @@ pub fn build(
         flow = flow + share;
         k += 1;
     }
-    Built { count: k, slope: slope_of(flow) }
+    Built {
+        count: k,
+        slope: slope_of(flow),
+    }
 }

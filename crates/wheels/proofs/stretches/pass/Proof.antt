@@ -92,8 +92,8 @@ loop-again c =
       omega (arith, c .before .before .before .before .before .if1 .left),
       c .turn-on .ensures (L .d) o (L .inv .5),
       λ start loads gaps wheels n g on s r b Z z.
-      let free = stretch-free start loads gaps wheels n (2 ^ a .shift) (a .periods .now) (a .places .now) (a .table .now) (L .turns) (a .count) (L .d) (a .slope) (a .rest) g on (S .pre .0) (pow-pos (a .shift)) o (L .inv .5) s (λ X x. r X (omega (arith, L .inv .3))) t (L .inv .6 start loads gaps wheels n g on s r b) Z z in
-      omega (arith, e, free),
+          let free = stretch-free start loads gaps wheels n (2 ^ a .shift) (a .periods .now) (a .places .now) (a .table .now) (L .turns) (a .count) (L .d) (a .slope) (a .rest) g on (S .pre .0) (pow-pos (a .shift)) o (L .inv .5) s (λ X x. r X (omega (arith, L .inv .3))) t (L .inv .6 start loads gaps wheels n g on s r b) Z z in
+          omega (arith, e, free),
     )
 
 returns-3 : tie.Need-returns-3 Inv-loop μ-loop

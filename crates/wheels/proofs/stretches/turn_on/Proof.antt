@@ -53,7 +53,7 @@ loop-again c =
       omega arith,
       length-set (L .turns) (L .k) v ∙ L .inv .1,
       stored (λ j x. x ≡ (getD (a .turns .now) j 0 + a .width) % getD (a .periods .now) j 0) 0 (L .turns) (L .k) v (omega (arith, L .inv .1)) (L .inv .2)
-      (c .turned .ensures ∙ ap (λ x. (x + a .width) % getD (a .periods .now) (L .k) 0) (L .inv .3 (L .k) (omega arith))),
+          (c .turned .ensures ∙ ap (λ x. (x + a .width) % getD (a .periods .now) (L .k) 0) (L .inv .3 (L .k) (omega arith))),
       λ j p. getD-set-other (L .turns) (L .k) j v 0 (λ e. omega arith) ∙ L .inv .3 j (omega arith),
     )
 

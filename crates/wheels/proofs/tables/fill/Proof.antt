@@ -91,7 +91,7 @@ loop-again c =
       L .inv .0,
       omega (arith, q .ensures .1, b .3, L .inv .0),
       filling-more (a .part .now) (a .gaps .now) (a .n) (a .flow) (a .block) (a .place) (L .done) (q .result) (L .done / a .block) (c .before .before .before .before .before .next-reach .result) (c .before .waste .result) (c .lowered .result) (a .table .now) (L .table)
-      (S .pre .0) (L .inv .2) (omega (arith, b .0, S .pre .5)) (b .1) (q .ensures .0) (q .ensures .1) (x .0) (c .before .waste .ensures) (c .lowered .ensures .0) (c .lowered .ensures .1),
+          (S .pre .0) (L .inv .2) (omega (arith, b .0, S .pre .5)) (b .1) (q .ensures .0) (q .ensures .1) (x .0) (c .before .waste .ensures) (c .lowered .ensures .0) (c .lowered .ensures .1),
       record { last = L .done + 1; near = omega (arith, q .ensures .0); counted = x .1; total = x .0 },
     )
 

@@ -66,7 +66,7 @@ loop-again c =
       omega arith,
       length-set (L .wheels) (L .u) (c .kept .result) ∙ L .inv .1,
       stored (λ v x. x < a .count → Kept (getD (a .loads .now) v 0) (getD (a .gaps .now) v 0) (getD (a .periods .now) x 0)) 0 (L .wheels) (L .u) (c .kept .result) (omega (arith, S .pre .0 .few, L .inv .1)) (L .inv .2)
-      (kept-at (getD (a .loads .now) (L .u) 0) (getD (a .gaps .now) (L .u) 0) (c .before .before .before .period-of .result) (a .periods .now) w (c .kept .result) (a .count) (S .pre .1) (c .before .before .before .period-of .ensures) (c .kept .ensures)),
+          (kept-at (getD (a .loads .now) (L .u) 0) (getD (a .gaps .now) (L .u) 0) (c .before .before .before .period-of .result) (a .periods .now) w (c .kept .result) (a .count) (S .pre .1) (c .before .before .before .period-of .ensures) (c .kept .ensures)),
     )
 
 returns : tie.Need-returns Inv-loop μ-loop

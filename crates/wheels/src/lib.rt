@@ -38,14 +38,17 @@ fn fails(shift: u32, rounds: u64, passed: u64) -> bool
     passed < rounds * 7 * width_of(shift)
 }
 
-// The round that `jumped` is told: one with a jump, if all stretches of the last turn were passed.
+// The round that `jumped` is told, 32 for a jump: where all stretches of the last turn were passed, and in each 64th round.
 fn jump_round(shift: u32, rounds: u64, last: u64) -> u64
     requires { ⌜ (shift < 17) × (rounds ≤ 1000000000) ⌝ }
 {
     if 127 * width_of(shift) <= last {
         return 32;
     }
-    rounds + 32
+    if rounds % 64 == 0 {
+        return 32;
+    }
+    33
 }
 
 // Rounds from a place on, between stretches that are passed: settled, or given up where stretches of this size are passed too seldom.

@@ -7,7 +7,7 @@ use model::Link;
 use model::Verdict;
 use model::VerdictSlot;
 use numbers::index;
-use wheels::level_reach;
+use reach::level_reach;
 ghost use mathlib.Core.Path.{_≡_};
 ghost use Prim.Native.Nat.{ℕ, _≤_, _<_};
 ghost use lib.ListN.{getD};

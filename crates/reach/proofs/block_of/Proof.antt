@@ -5,8 +5,8 @@ use mathlib.Core.Path.{_≡_}
 use native.Mathlib.Nat.{pow-le-pow-right}
 use lib.Pow.{shl-exact, pow-pos}
 use native.Mathlib.Omega.{arith}
-use Rattle.wheels.proofs.block_of.Statement.{statement}
-use Rattle.wheels.proofs.block_of.Tie as tie
+use Rattle.reach.proofs.block_of.Statement.{statement}
+use Rattle.reach.proofs.block_of.Tie as tie
 
 shl-result : tie.Need-shl-result
 shl-result c = search needs

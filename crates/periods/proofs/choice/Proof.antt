@@ -1,8 +1,8 @@
 -- `choice` meets its contract: the best so far is a source or none. Assumes nothing.
 use Prim.Native.Nat.{_≤_, _-_}
 use native.Mathlib.Omega.{arith}
-use Rattle.wheels.proofs.plan.choice.Statement.{statement}
-use Rattle.wheels.proofs.plan.choice.Tie as tie
+use Rattle.periods.proofs.choice.Statement.{statement}
+use Rattle.periods.proofs.choice.Tie as tie
 
 abbrev Inv-loop : tie.InvT-loop
 Inv-loop loads gaps n wheels period most best₀ high₀ u₀ best high u = (u ≤ n) × (best ≤ n)

@@ -2,8 +2,8 @@
 use Prim.Native.Nat.{_≤_}
 use native.Mathlib.Omega.{arith}
 use native.Mathlib.Nat.{mod-lt}
-use Rattle.wheels.proofs.plan.divisor.Statement.{statement}
-use Rattle.wheels.proofs.plan.divisor.Tie as tie
+use Rattle.periods.proofs.divisor.Statement.{statement}
+use Rattle.periods.proofs.divisor.Tie as tie
 
 abbrev Inv-loop : tie.InvT-loop
 Inv-loop a b large₀ small₀ large small = 1 ≤ large

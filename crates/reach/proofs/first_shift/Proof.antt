@@ -1,8 +1,8 @@
 -- `first_shift` meets its contract: 64 bits hold the sum. Assumes nothing.
 use Prim.Native.Nat.{_≤_, _-_, _*_}
 use native.Mathlib.Omega.{arith}
-use Rattle.wheels.proofs.first_shift.Statement.{statement}
-use Rattle.wheels.proofs.first_shift.Tie as tie
+use Rattle.reach.proofs.first_shift.Statement.{statement}
+use Rattle.reach.proofs.first_shift.Tie as tie
 
 abbrev Inv-loop : tie.InvT-loop
 Inv-loop loads gaps n sum₀ u₀ sum u = (u ≤ n) × (sum ≤ u * 1000000)

@@ -5,8 +5,8 @@ use mathlib.Core.Path.{refl}
 use native.Mathlib.Nat.{mul-le-mul}
 use Rattle.lemmas.proofs.Tests.{not-both}
 use native.Mathlib.Omega.{arith}
-use Rattle.wheels.proofs.fails.Statement.{statement}
-use Rattle.wheels.proofs.fails.Tie as tie
+use Rattle.reach.proofs.fails.Statement.{statement}
+use Rattle.reach.proofs.fails.Tie as tie
 
 returns : tie.Need-returns
 returns c = λ f. absurd (not-both f refl)

@@ -4,8 +4,8 @@ use mathlib.Core.Path.{_≡_}
 use native.Mathlib.Omega.{arith}
 use borrow.Author.Needs.{needs}
 use lib.ListN.{length}
-use Rattle.wheels.proofs.plan.fill.Statement.{statement}
-use Rattle.wheels.proofs.plan.fill.Tie as tie
+use Rattle.periods.proofs.fill.Statement.{statement}
+use Rattle.periods.proofs.fill.Tie as tie
 
 abbrev Inv-loop : tie.InvT-loop
 Inv-loop loads gaps n k most wheels₀ period₀ turns₀ wheels period turns = (turns ≤ n) × (period - 1 ≤ most - 1) × (length wheels ≡ 16)

@@ -5,11 +5,11 @@ use mathlib.Core.Bool.{true, false}
 use Rattle.lemmas.proofs.Tests.{not-both}
 use Rattle.rounds.specs.Level.{roundIn, Counted, Shares, Jump, RoundAt}
 use Rattle.rounds.proofs.Laws.{lower-start, lower-round, reach-fixed, reach-over, round-in-start, shares-none, level-any, settled-at, open-at}
 use Rattle.wheels.specs.Wheel.{leftIn, RestFrom}
 use Rattle.wheels.proofs.Laws.{left-mono, left-most}
 use native.Mathlib.Omega.{arith}
-use Rattle.wheels.proofs.rounds_between.Statement.{statement}
-use Rattle.wheels.proofs.rounds_between.Tie as tie
+use Rattle.reach.proofs.rounds_between.Statement.{statement}
+use Rattle.reach.proofs.rounds_between.Tie as tie
 
 abbrev Inv-loop : tie.InvT-loop
 Inv-loop start loads gaps n limit from shift wheels periods places table count slope ends₀ shares first d₀ sum₀ rounds₀ passed₀ last₀ ends d sum rounds passed last = Jump start loads gaps n limit d × (start ≤ d) × (sum ≡ roundIn start loads gaps n d) × Counted loads gaps n d ends × Shares loads gaps n shares × (rounds ≤ d) × (passed ≤ d)

@@ -3,10 +3,10 @@ use Prim.Native.Nat.{ℕ, _≤_, _^_}
 use mathlib.Core.Path.{_≡_, refl}
 use lib.ListN.{length-replicate}
 use Rattle.rounds.proofs.Laws.{level-any}
 use Rattle.wheels.proofs.Steps.{built-by}
 use native.Mathlib.Omega.{arith}
-use Rattle.wheels.proofs.attempt.Statement.{statement}
-use Rattle.wheels.proofs.attempt.Tie as tie
+use Rattle.reach.proofs.attempt.Statement.{statement}
+use Rattle.reach.proofs.attempt.Tie as tie
 
 block-of-requires : tie.Need-block-of-requires
 block-of-requires c κs = c .pre .3

@@ -1,8 +1,8 @@
 -- `level_reach` meets its contract: settled in a few rounds, or further on. Assumes nothing.
 use borrow.Author.Needs.{needs}
 use Prim.Native.Nat.{_≤_}
-use Rattle.wheels.proofs.level_reach.Statement.{statement}
-use Rattle.wheels.proofs.level_reach.Tie as tie
+use Rattle.reach.proofs.level_reach.Statement.{statement}
+use Rattle.reach.proofs.level_reach.Tie as tie
 
 few-rounds-requires : tie.Need-few-rounds-requires
 few-rounds-requires c κs = search needs

@@ -4,8 +4,8 @@ use mathlib.Core.Path.{_≡_}
 use native.Mathlib.Omega.{arith}
 use borrow.Author.Needs.{needs}
 use lib.ListN.{length}
-use Rattle.wheels.proofs.plan.plan.Statement.{statement}
-use Rattle.wheels.proofs.plan.plan.Tie as tie
+use Rattle.periods.proofs.plan.Statement.{statement}
+use Rattle.periods.proofs.plan.Tie as tie
 
 abbrev Inv-loop : tie.InvT-loop
 Inv-loop loads gaps n block wheels₀ periods₀ room₀ largest k₀ wheels periods room k =

@@ -2,8 +2,8 @@
 use Prim.Native.Nat.{ℕ, _≤_, _*_, _/_}
 use native.Mathlib.Omega.{arith}
 use native.Mathlib.Nat.{div-le-self, le-trans, mul-le-mul}
-use Rattle.wheels.proofs.plan.common.Statement.{statement}
-use Rattle.wheels.proofs.plan.common.Tie as tie
+use Rattle.periods.proofs.common.Statement.{statement}
+use Rattle.periods.proofs.common.Tie as tie
 
 -- a part of a, b times
 most : (a b d : ℕ) → a ≤ 1048576 → b ≤ 1048576 → a / d * b ≤ 1099511627776

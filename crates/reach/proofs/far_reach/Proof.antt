@@ -5,8 +5,8 @@ use mathlib.Core.Bool.{true, false}
 use Rattle.lemmas.proofs.Tests.{true-of}
 use Rattle.rounds.specs.Level.{OpenAt}
 use native.Mathlib.Omega.{arith}
-use Rattle.wheels.proofs.far_reach.Statement.{statement}
-use Rattle.wheels.proofs.far_reach.Tie as tie
+use Rattle.reach.proofs.far_reach.Statement.{statement}
+use Rattle.reach.proofs.far_reach.Tie as tie
 
 abbrev Inv-loop : tie.InvT-loop
 Inv-loop start loads gaps n limit from place₀ shift₀ place shift = OpenAt start loads gaps n limit place × (shift < 17)

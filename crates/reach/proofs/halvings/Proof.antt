@@ -1,8 +1,8 @@
 -- `halvings` meets its contract: the loop counts to 16 at most. Assumes nothing.
 use Prim.Native.Nat.{_≤_, _-_}
 use native.Mathlib.Omega.{arith}
-use Rattle.wheels.proofs.halvings.Statement.{statement}
-use Rattle.wheels.proofs.halvings.Tie as tie
+use Rattle.reach.proofs.halvings.Statement.{statement}
+use Rattle.reach.proofs.halvings.Tie as tie
 
 abbrev Inv-loop : tie.InvT-loop
 Inv-loop number rest₀ count₀ rest count = count ≤ 16

@@ -13,11 +13,11 @@
  * No call allocates, keeps a pointer, reads or writes anything but its arguments, or fails otherwise than by its number. There is
  * no state outside the arguments, so calls may run at once in several threads and in a handler that interrupts another call.
  *
- * Stack: the most that was seen is 37,056 bytes in bench_report, 23,872 in bench_run and 20,960 in bench_quote, on a thread whose
- * stack was filled with a pattern beforehand, over 399 recorded files, chains of 32 tasks and 200 random files of 32 tasks.
- * No recursion is deeper than the file has tasks. Allow 64 KB.
+ * Stack: the most that was seen is 160,576 bytes in bench_report, 144,480 in bench_quote and 23,872 in bench_run, on a thread whose
+ * stack was filled with a pattern beforehand: the first two over the samples, where a level that takes more than 256 rounds needs a
+ * table of 131,072 bytes. No recursion is deeper than the file has tasks. Allow 256 KB.
  *
- * Time: every call ends, and most files take microseconds, but a made-up file can take seconds (docs/BENCHMARKS.md). */
+ * Time: every call ends, and most files take microseconds; the slowest known file takes about a second (docs/BENCHMARKS.md). */
 #ifndef BENCH_H
 #define BENCH_H
 

@@ -21,7 +21,7 @@ width-of-requires : tie.Need-width-of-requires Inv-loop μ-loop
 width-of-requires c κs = c .pre .1
 
 turn-to-requires : tie.Need-turn-to-requires Inv-loop μ-loop
-turn-to-requires c κs = (c .before .before .pre .0 .few, c .before .before .pre .0 .some, c .before .before .pre .4, refl)
+turn-to-requires c κs = (c .before .before .pre .0 .few, c .before .before .pre .0 .some, omega (arith, c .before .before .pre .4, c .before .before .pre .5), refl)
 
 loop-holds : tie.Need-loop-holds Inv-loop μ-loop
 loop-holds c = (c .before .before .width-of .ensures .0, c .before .before .width-of .ensures .1, omega arith, omega arith, omega (arith, c .before .before .before .pre .5), c .turn-to .ensures, λ start loads gaps wheels n g w s r b. b)

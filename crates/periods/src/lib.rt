@@ -145,7 +145,7 @@ fn fill(
 }
 
 // The wheels of a level, one after the other as long as there is room: the wheel of each source, the period of each wheel, and how many there are.
-// All periods together are at most 32768 blocks less 10 for each of 16 wheels, and at most 4000000 ticks; one is at most a quarter of that.
+// All periods together are at most 32768 blocks less 10 for each of 16 wheels, and at most 3000000 ticks; one is at most a third of that.
 pub fn plan(
     loads: &[u64; 16],
     gaps: &[u32; 16],
@@ -157,8 +157,8 @@ pub fn plan(
     requires { ⌜ (n ≤ 16) × (block ≤ 65536) × (length (now wheels) ≡ 16) × (length (now periods) ≡ 16) ⌝ }
     ensures { λ r. ⌜ (r ≤ 16) × (length (now (wheels .exit)) ≡ 16) × (length (now (periods .exit)) ≡ 16) ⌝ }
 {
-    let mut room = smaller(32608 * block, 4000000);
-    let largest = room / 4;
+    let mut room = smaller(32608 * block, 3000000);
+    let largest = room / 3;
     let mut k: usize = 0;
     while k < 15 {
         let most = smaller(largest, room);

@@ -4,9 +4,8 @@ use periods::plan;
 use rounds::Reached;
 use rounds::few_rounds;
 use rounds::fill_shares;
-use rounds::first_reach;
 use rounds::jumped;
-use rounds::next_reach;
+use rounds::round_at;
 use wheels::stretches::left_of;
 use wheels::stretches::pass;
 use wheels::stretches::width_of;
@@ -19,7 +18,7 @@ ghost use Prim.Native.Nat.{_^_, _≤_, _<_};
 ghost use Rattle.rounds.specs.Level.{LevelOn, reachIn, OpenAt, ReachedBy};
 ghost use Rattle.wheels.specs.Wheel.{BuiltOn};
 
-// Whether stretches of this size are passed too seldom to pay: a round costs as much as some eight of them.
+// Whether stretches of this size are passed too seldom to pay: a round costs as much as some twelve of them.
 fn fails(shift: u32, rounds: u64, passed: u64) -> bool
     requires { ⌜ (shift < 17) × (rounds ≤ 1000000000) ⌝ }
     ensures { λ r. ⌜ (r ≡ true → 0 < shift) ⌝ }
@@ -30,7 +29,7 @@ fn fails(shift: u32, rounds: u64, passed: u64) -> bool
     if rounds < 1000 {
         return false;
     }
-    passed < rounds * 7 * width_of(shift)
+    passed < rounds * 11 * width_of(shift)
 }
 
 // The round that `jumped` is told, 32 for a jump: where all stretches of the last turn were passed, and in each 64th round.
@@ -69,15 +68,8 @@ fn rounds_between(
     let mut ends = [0u64; 16];
     let mut shares = [0u64; 16];
     fill_shares(loads, gaps, n, 32, &mut shares);
-    let first = first_reach(start, loads, gaps, n, &mut ends);
-    if limit <= first {
-        return Reached {
-            place: limit,
-            settled: true,
-        };
-    }
     let mut d = from;
-    let mut sum = next_reach(loads, gaps, n, from, first, &mut ends);
+    let mut sum = round_at(start, loads, gaps, n, from, &mut ends);
     let mut rounds: u64 = 0;
     let mut passed: u64 = 0;
     let mut last: u64 = 0;
@@ -110,7 +102,7 @@ fn rounds_between(
         );
         last = d - far;
         passed = passed + last;
-        sum = next_reach(loads, gaps, n, d, sum, &mut ends);
+        sum = round_at(start, loads, gaps, n, d, &mut ends);
         rounds += 1;
     }
     Reached {

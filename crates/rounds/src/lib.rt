@@ -31,23 +31,24 @@ fn end_of(load: u64, count: u64, gap: u64) -> u64
     count * gap
 }
 
-// The first round: what the level may bring in a stretch of its start, with the firings of every source counted.
-pub fn first_reach(
+// A round at d: what the level may bring in a stretch of d ticks, with the firings of every source counted.
+pub fn round_at(
     start: u64,
     loads: &[u64; 16],
     gaps: &[u32; 16],
     n: usize,
+    d: u64,
     ends: &mut [u64; 16],
 ) -> u64
-    requires { ⌜ LevelOn start (now loads) (now gaps) n × (length (now ends) ≡ 16) ⌝ }
-    ensures { λ r. ⌜ (r ≡ roundIn start (now (loads .entry)) (now (gaps .entry)) n start) × Counted (now (loads .entry)) (now (gaps .entry)) n start (now (ends .exit)) ⌝ }
+    requires { ⌜ LevelOn start (now loads) (now gaps) n × (length (now ends) ≡ 16) × (d ≤ 1000000000) ⌝ }
+    ensures { λ r. ⌜ (r ≡ roundIn start (now (loads .entry)) (now (gaps .entry)) n d) × Counted (now (loads .entry)) (now (gaps .entry)) n d (now (ends .exit)) ⌝ }
 {
     let mut sum = start;
     let mut u: usize = 0;
     while u < n {
         let load = loads[u];
         let gap = gaps[u] as u64;
-        let count = spacings_in(start, gap);
+        let count = spacings_in(d, gap);
         ends[u] = end_of(load, count, gap);
         sum = sum + load * count;
         u += 1;
@@ -239,7 +240,7 @@ pub fn few_rounds(start: u64, loads: &[u64; 16], gaps: &[u32; 16], n: usize, lim
     let mut ends = [0u64; 16];
     let mut shares = [0u64; 16];
     let mut d = start;
-    let mut sum = first_reach(start, loads, gaps, n, &mut ends);
+    let mut sum = round_at(start, loads, gaps, n, start, &mut ends);
     let mut rounds: u64 = 0;
     while sum < limit {
         if sum <= d {

@@ -1,7 +1,7 @@
 // The tables of the wheels: for each block of a period, the least that a wheel's sources waste in eight blocks from there on.
 
-use rounds::first_reach;
 use rounds::next_reach;
+use rounds::round_at;
 ghost use mathlib.Core.Path.{_≡_};
 ghost use mathlib.Core.Bool.{cond};
 ghost use Prim.Native.Nat.{ℕ, _+_, _*_, _/_, _≤_, _<_};
@@ -152,6 +152,20 @@ fn quiet_end(ends: &[u64; 16], n: usize, place: u64, end: u64) -> u64
     near
 }
 
+// An end, or if that is nearer than the least, the least; but not beyond the last.
+fn at_least(end: u64, least: u64, last: u64) -> u64
+    requires { ⌜ end ≤ last ⌝ }
+    ensures { λ r. ⌜ (end ≤ r) × (r ≤ last) ⌝ }
+{
+    if least <= end {
+        return end;
+    }
+    if last < least {
+        return last;
+    }
+    least
+}
+
 // An entry lowered to a waste.
 fn lowered(entry: u32, waste: u64) -> u32
     requires { ⌜ waste ≤ 4294967295 ⌝ }
@@ -163,7 +177,8 @@ fn lowered(entry: u32, waste: u64) -> u32
     entry
 }
 
-// Fills the entries of a wheel: for each block, the least waste of its sources there.
+// Fills the entries of a wheel: for each block, the least waste of its sources there. A place is passed to where a source fires anew, and by a 32nd of
+// a block at least, so that a very narrow spacing does not make the places many.
 fn fill(
     part: &[u64; 16],
     gaps: &[u32; 16],
@@ -178,13 +193,15 @@ fn fill(
     ensures { λ _. ⌜ Filled (now (part .entry)) (now (gaps .entry)) n flow block entries place (now (table .entry)) (now (table .exit)) ⌝ }
 {
     let mut ends = [0u64; 16];
-    let mut sum = first_reach(0, part, gaps, n, &mut ends);
+    let mut sum = round_at(0, part, gaps, n, 0, &mut ends);
     let all = entries as u64 * block;
     let mut done: u64 = 0;
     while done < all {
         sum = next_reach(part, gaps, n, done + 1, sum, &mut ends);
         let i = done / block;
-        let end = quiet_end(&ends, n, done, (i + 1) * block);
+        let last = (i + 1) * block;
+        let quiet = quiet_end(&ends, n, done, last);
+        let end = at_least(quiet, done + block / 32, last);
         let at = place + i as usize;
         table[at] = lowered(table[at], waste(sum, flow, end));
         done = end;

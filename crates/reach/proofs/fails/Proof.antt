@@ -21,7 +21,7 @@ width-of-requires : tie.Need-width-of-requires
 width-of-requires c κs = search needs
 
 mul-result-2 : tie.Need-mul-result-2
-mul-result-2 c = let h : c .before .before .before .args .rounds * 7 * c .width-of .result ≤ 7000000000 * 458752 = mul-le-mul {n₁ = c .before .before .before .args .rounds * 7} {m₁ = c .width-of .result} {n₂ = 7000000000} {m₂ = 458752} (omega arith) (c .width-of .ensures .1) in omega arith
+mul-result-2 c = let h : c .before .before .before .args .rounds * 11 * c .width-of .result ≤ 11000000000 * 458752 = mul-le-mul {n₁ = c .before .before .before .args .rounds * 11} {m₁ = c .width-of .result} {n₂ = 11000000000} {m₂ = 458752} (omega arith) (c .width-of .ensures .1) in omega arith
 
 returns-3 : tie.Need-returns-3
 returns-3 c = search needs

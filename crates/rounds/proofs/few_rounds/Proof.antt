@@ -24,16 +24,16 @@ returns c =
     (reach-over (a .start) (a .loads .now) (a .gaps .now) (a .n) (a .limit) (a .start) (c .before .pre .0) (lower-start (a .start) (a .loads .now) (a .gaps .now) (a .n))
     (omega (arith, c .if1 .taken, round-in-start (a .start) (a .loads .now) (a .gaps .now) (a .n) (a .start))))
 
-first-reach-requires : tie.Need-first-reach-requires Inv-loop μ-loop
-first-reach-requires c κs = (c .before .before .pre .0, refl)
+round-at-requires : tie.Need-round-at-requires Inv-loop μ-loop
+round-at-requires c κs = (c .before .before .pre .0, refl, c .before .before .pre .0 .start-most)
 
 loop-holds : tie.Need-loop-holds Inv-loop μ-loop
 loop-holds c =
     let a = c .before .before .before .args in (
       record { lower = lower-start (a .start) (a .loads .now) (a .gaps .now) (a .n); most = omega (arith, c .before .before .if1 .left) },
       omega arith,
-      c .first-reach .ensures .0,
-      c .first-reach .ensures .1,
+      c .round-at .ensures .0,
+      c .round-at .ensures .1,
       shares-none (a .start) (a .loads .now) (a .gaps .now) (a .n) (c .before .before .before .pre .0),
       omega arith,
     )
@@ -111,7 +111,7 @@ few-rounds-spec =
     Inv-loop
     μ-loop
     returns
-    first-reach-requires
+    round-at-requires
     loop-holds
     returns-2
     returns-3

@@ -1,4 +1,4 @@
--- `first_reach` meets its contract: the sum of the first u sources' parts, which 64 bits hold, and their ends. Assumes nothing.
+-- `round_at` meets its contract: the sum of the first u sources' parts, which 64 bits hold, and their ends. Assumes nothing.
 use Prim.Native.Nat.{_≤_, _<_, _+_, _-_, _*_}
 use mathlib.Core.Path.{_≡_, ap, _∙_}
 use native.Mathlib.Omega.{arith}
@@ -6,18 +6,18 @@ use lib.ListN.{getD, length-set}
 use Rattle.lemmas.proofs.Table.{stored}
 use Rattle.rounds.specs.Level.{roundIn, endOf, Counted}
 use Rattle.rounds.proofs.Laws.{round-none, round-more, term-most, spacings-most}
-use Rattle.rounds.proofs.first_reach.Statement.{statement}
-use Rattle.rounds.proofs.first_reach.Tie as tie
+use Rattle.rounds.proofs.round_at.Statement.{statement}
+use Rattle.rounds.proofs.round_at.Tie as tie
 
 abbrev Inv-loop : tie.InvT-loop
-Inv-loop start loads gaps n ends₀ sum₀ u₀ ends sum u =
-    (u ≤ n) × (sum ≡ roundIn start loads gaps u start) × (sum ≤ 1000000000 + u * 1000000000000000000) × Counted loads gaps u start ends
+Inv-loop start loads gaps n d ends₀ sum₀ u₀ ends sum u =
+    (u ≤ n) × (sum ≡ roundIn start loads gaps u d) × (sum ≤ 1000000000 + u * 1000000000000000000) × Counted loads gaps u d ends
 
 abbrev μ-loop : tie.MeasureT-loop
-μ-loop start loads gaps n ends₀ sum₀ u₀ ends sum u = n - u
+μ-loop start loads gaps n d ends₀ sum₀ u₀ ends sum u = n - u
 
 loop-holds : tie.Need-loop-holds Inv-loop μ-loop
-loop-holds c = let a = c .args in (omega arith, round-none (a .start) (a .loads .now) (a .gaps .now) (a .n) (a .start), omega (arith, c .pre .0 .start-most), record { sized = c .pre .1; at = λ k q y. absurd (omega arith) })
+loop-holds c = let a = c .args in (omega arith, round-none (a .start) (a .loads .now) (a .gaps .now) (a .n) (a .d), omega (arith, c .pre .0 .start-most), record { sized = c .pre .1; at = λ k q y. absurd (omega arith) })
 
 mul-load : tie.Need-mul-load Inv-loop μ-loop
 mul-load c = omega (arith, c .before .before .pre .0 .few)
@@ -35,13 +35,13 @@ cast-gap : tie.Need-cast-gap Inv-loop μ-loop
 cast-gap c = omega (arith, c .before .before .before .before .pre .0 .gap-most (c .before .before .before .loop .u) (omega arith))
 
 spacings-in-requires : tie.Need-spacings-in-requires Inv-loop μ-loop
-spacings-in-requires c κs = let g = c .before .before .before .before .pre .0 in let u = c .before .before .before .loop .u in (g .gap-some u (omega arith), g .gap-most u (omega arith), g .start-most)
+spacings-in-requires c κs = let g = c .before .before .before .before .pre .0 in let u = c .before .before .before .loop .u in (g .gap-some u (omega arith), g .gap-most u (omega arith), c .before .before .before .before .pre .2)
 
 end-of-requires : tie.Need-end-of-requires Inv-loop μ-loop
 end-of-requires c κs =
     let S = c .before .before .before .before .before in
     let u = c .before .before .before .before .loop .u in
-    (rw (c .spacings-in .ensures) (spacings-most (S .args .start) (getD (S .args .gaps .now) u 0) (S .pre .0 .gap-some u (omega arith)) (S .pre .0 .start-most)), S .pre .0 .gap-most u (omega arith))
+    (rw (c .spacings-in .ensures) (spacings-most (S .args .d) (getD (S .args .gaps .now) u 0) (S .pre .0 .gap-some u (omega arith)) (S .pre .2)), S .pre .0 .gap-most u (omega arith))
 
 mul-ends : tie.Need-mul-ends Inv-loop μ-loop
 mul-ends c = omega (arith, c .before .before .before .before .before .before .pre .0 .few)
@@ -54,7 +54,7 @@ part : (c : tie.After-end-of Inv-loop μ-loop) → getD (c .before .before .befo
 part c =
     let L = c .before .before .before .before .before .loop in
     let S = c .before .before .before .before .before .before in
-    rw (c .before .spacings-in .ensures) (term-most (S .args .start) (S .args .loads .now) (S .args .gaps .now) (S .args .n) (S .args .start) (S .pre .0) (S .pre .0 .start-most) (L .u) (omega arith))
+    rw (c .before .spacings-in .ensures) (term-most (S .args .start) (S .args .loads .now) (S .args .gaps .now) (S .args .n) (S .args .d) (S .pre .0) (S .pre .2) (L .u) (omega arith))
 
 mul-sum : tie.Need-mul-sum Inv-loop μ-loop
 mul-sum c = omega (arith, part c)
@@ -75,11 +75,11 @@ loop-again c =
     let a = S .args in
     let e = c .before .spacings-in .ensures in (
       omega arith,
-      omega (arith, L .inv .1, round-more (a .start) (a .loads .now) (a .gaps .now) (a .n) (a .start) (L .u), ap (λ x. getD (a .loads .now) (L .u) 0 * x) e),
+      omega (arith, L .inv .1, round-more (a .start) (a .loads .now) (a .gaps .now) (a .n) (a .d) (L .u), ap (λ x. getD (a .loads .now) (L .u) 0 * x) e),
       omega (arith, part c, L .inv .2),
       record {
         sized = length-set (L .ends) (L .u) (c .end-of .result) ∙ L .inv .3 .sized;
-        at = stored (λ k x. 0 < getD (a .loads .now) k 0 → x ≡ endOf (a .gaps .now) (a .start) k) 0 (L .ends) (L .u) (c .end-of .result) (omega (arith, L .inv .3 .sized, S .pre .0 .few)) (L .inv .3 .at) (λ y. c .end-of .ensures y ∙ ap (λ x. x * getD (a .gaps .now) (L .u) 0) e);
+        at = stored (λ k x. 0 < getD (a .loads .now) k 0 → x ≡ endOf (a .gaps .now) (a .d) k) 0 (L .ends) (L .u) (c .end-of .result) (omega (arith, L .inv .3 .sized, S .pre .0 .few)) (L .inv .3 .at) (λ y. c .end-of .ensures y ∙ ap (λ x. x * getD (a .gaps .now) (L .u) 0) e);
       },
     )
 
@@ -88,10 +88,10 @@ returns c =
     let L = c .before .loop in
     let a = c .before .before .args in
     let e : L .u ≡ a .n = omega (arith, L .inv .0) in
-    (L .inv .1 ∙ ap (λ x. roundIn (a .start) (a .loads .now) (a .gaps .now) x (a .start)) e, rw e at (L .inv .3))
+    (L .inv .1 ∙ ap (λ x. roundIn (a .start) (a .loads .now) (a .gaps .now) x (a .d)) e, rw e at (L .inv .3))
 
-pub first-reach-spec : {M : Type 1} → statement M
-first-reach-spec =
+pub round-at-spec : {M : Type 1} → statement M
+round-at-spec =
     tie.close
     (tie.spec
     Inv-loop

@@ -69,18 +69,6 @@ fn turned(turn: u64, width: u64, period: u64) -> u64
     far % period
 }
 
-// Turns each wheel some ticks on.
-fn turn_on(periods: &[u64; 16], count: usize, width: u64, turns: &mut [u64; 16])
-    requires { ⌜ (count ≤ 16) × ((k : ℕ) → k < count → 1 ≤ getD (now periods) k 0) × (width ≤ 1000000000) × (length (now turns) ≡ 16) × ((k : ℕ) → k < count → getD (now turns) k 0 ≤ 1000000000) ⌝ }
-    ensures { λ _. ⌜ ((d : ℕ) → 1 ≤ d → Turned (now (periods .entry)) count d (now (turns .entry)) → Turned (now (periods .entry)) count (d + width) (now (turns .exit))) ⌝ }
-{
-    let mut k: usize = 0;
-    while k < count {
-        turns[k] = turned(turns[k], width, periods[k]);
-        k += 1;
-    }
-}
-
 // The block that a wheel stands in.
 fn block_at(turn: u64, shift: u32) -> u64
     requires { ⌜ shift < 17 ⌝ }
@@ -96,22 +84,26 @@ fn wide(entry: u32) -> u64
     entry as u64
 }
 
-// The least waste of all wheels together in the stretch from where they stand.
-fn waste_on(
+// The least waste of all wheels together in the stretch from where they stand; then each is turned some ticks on.
+fn waste_passed(
     table: &[u32; 32768],
+    periods: &[u64; 16],
     places: &[usize; 16],
-    turns: &[u64; 16],
     count: usize,
     shift: u32,
+    width: u64,
+    turns: &mut [u64; 16],
 ) -> u64
-    requires { ⌜ (count ≤ 16) × (shift < 17) × ((k : ℕ) → k < count → getD (now places) k 0 + getD (now turns) k 0 / 2 ^ shift < 32768) ⌝ }
-    ensures { λ r. ⌜ (r ≡ wasteOn (2 ^ shift) (now (places .entry)) (now (table .entry)) (now (turns .entry)) count) × (r ≤ 68719476720) ⌝ }
+    requires { ⌜ (count ≤ 16) × (shift < 17) × (width ≤ 1000000000) × ((k : ℕ) → k < count → 1 ≤ getD (now periods) k 0) × ((k : ℕ) → k < count → getD (now turns) k 0 ≤ 1000000000) × ((k : ℕ) → k < count → getD (now places) k 0 + getD (now turns) k 0 / 2 ^ shift < 32768) × (length (now turns) ≡ 16) ⌝ }
+    ensures { λ r. ⌜ (r ≡ wasteOn (2 ^ shift) (now (places .entry)) (now (table .entry)) (now (turns .entry)) count) × (r ≤ 68719476720) × ((d : ℕ) → 1 ≤ d → Turned (now (periods .entry)) count d (now (turns .entry)) → Turned (now (periods .entry)) count (d + width) (now (turns .exit))) ⌝ }
 {
     let mut sum: u64 = 0;
     let mut k: usize = 0;
     while k < count {
-        let at = places[k] + block_at(turns[k], shift) as usize;
+        let turn = turns[k];
+        let at = places[k] + block_at(turn, shift) as usize;
         sum = sum + wide(table[at]);
+        turns[k] = turned(turn, width, periods[k]);
         k += 1;
     }
     sum
@@ -149,11 +141,10 @@ pub fn pass(
         if limit < d + width {
             return d;
         }
-        let waste = waste_on(table, places, &turns, count, shift);
+        let waste = waste_passed(table, periods, places, count, shift, width, &mut turns);
         if rest * 8589934592 + waste * 524288 <= slope * (d + width) {
             return d;
         }
-        turn_on(periods, count, width, &mut turns);
         d = d + width;
         stretches += 1;
     }

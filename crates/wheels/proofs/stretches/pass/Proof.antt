@@ -32,19 +32,27 @@ add-if1 c = omega (arith, c .before .loop .inv .1, c .before .loop .inv .4, c .b
 returns : tie.Need-returns Inv-loop μ-loop
 returns c = let L = c .before .before .loop in (L .inv .6, L .inv .3, L .inv .4)
 
-waste-on-requires : tie.Need-waste-on-requires Inv-loop μ-loop
-waste-on-requires c κs =
+waste-passed-requires : tie.Need-waste-passed-requires Inv-loop μ-loop
+waste-passed-requires c κs =
     let a = c .before .before .before .before .before .before .before .args in
-    (c .before .before .before .before .before .before .before .pre .0 .few, c .before .before .before .before .before .before .before .pre .1, λ k h. inside-at (a .periods .now) (a .places .now) (c .before .before .before .loop .turns) (a .shift) (a .count) (c .before .before .before .loop .d) k (c .before .before .before .before .before .before .before .pre .0) (c .before .before .before .loop .inv .5) h)
+    let L = c .before .before .before .loop in (
+      c .before .before .before .before .before .before .before .pre .0 .few,
+      c .before .before .before .before .before .before .before .pre .1,
+      omega (arith, L .inv .1),
+      c .before .before .before .before .before .before .before .pre .0 .some,
+      (λ k h. omega (arith, turn-small (a .periods .now) (L .turns) (a .count) (L .d) k (L .inv .5) h, L .inv .4, c .before .before .before .before .before .before .before .pre .6)),
+      (λ k h. inside-at (a .periods .now) (a .places .now) (L .turns) (a .shift) (a .count) (L .d) k (c .before .before .before .before .before .before .before .pre .0) (L .inv .5) h),
+      L .inv .5 .sized,
+    )
 
 mul-if2 : tie.Need-mul-if2 Inv-loop μ-loop
 mul-if2 c = omega (arith, c .before .before .before .before .before .before .before .before .pre .3)
 
 mul-if2-2 : tie.Need-mul-if2-2 Inv-loop μ-loop
-mul-if2-2 c = omega (arith, c .waste-on .ensures .1)
+mul-if2-2 c = omega (arith, c .waste-passed .ensures .1)
 
 add-if2 : tie.Need-add-if2 Inv-loop μ-loop
-add-if2 c = omega (arith, c .waste-on .ensures .1, c .before .before .before .before .before .before .before .before .pre .3)
+add-if2 c = omega (arith, c .waste-passed .ensures .1, c .before .before .before .before .before .before .before .before .pre .3)
 
 add-if2-2 : tie.Need-add-if2-2 Inv-loop μ-loop
 add-if2-2 c = omega (arith, c .before .before .before .before .loop .inv .1, c .before .before .before .before .loop .inv .4, c .before .before .before .before .before .before .before .before .pre .6)
@@ -60,14 +68,8 @@ mul-if2-3 c =
 returns-2 : tie.Need-returns-2 Inv-loop μ-loop
 returns-2 c = let L = c .before .before .before .before .before .loop in (L .inv .6, L .inv .3, L .inv .4)
 
-turn-on-requires : tie.Need-turn-on-requires Inv-loop μ-loop
-turn-on-requires c κs =
-    let a = c .before .before .before .before .before .before .before .before .before .before .args in
-    let L = c .before .before .before .before .before .before .loop in
-    (c .before .before .before .before .before .before .before .before .before .before .pre .0 .few, c .before .before .before .before .before .before .before .before .before .before .pre .0 .some, omega (arith, L .inv .1), L .inv .5 .sized, λ k h. omega (arith, turn-small (a .periods .now) (L .turns) (a .count) (L .d) k (L .inv .5) h, L .inv .4, c .before .before .before .before .before .before .before .before .before .before .pre .6))
-
 add-d : tie.Need-add-d Inv-loop μ-loop
-add-d c = omega (arith, c .before .before .before .before .before .if1 .left, c .before .before .before .before .before .before .before .before .before .before .before .pre .6)
+add-d c = omega (arith, c .before .before .before .if1 .left, c .before .before .before .before .before .before .before .before .before .pre .6)
 
 add-stretches : tie.Need-add-stretches Inv-loop μ-loop
 add-stretches c = omega arith
@@ -77,20 +79,20 @@ loop-less c = omega arith
 
 loop-again : tie.Need-loop-again Inv-loop μ-loop
 loop-again c =
-    let S = c .before .before .before .before .before .before .before .before .before .before .before in
+    let S = c .before .before .before .before .before .before .before .before .before in
     let a = S .args in
-    let L = c .before .before .before .before .before .before .before .loop in
-    let w = c .before .before .before .before .before .before .before .before .before .before .width-of .result in
+    let L = c .before .before .before .before .before .loop in
+    let w = c .before .before .before .before .before .before .before .before .width-of .result in
     let o : 1 ≤ L .d = omega (arith, L .inv .3, S .pre .4) in
     let e : w ≡ 7 * 2 ^ a .shift = L .inv .0 in
     let v : a .slope * (L .d + w) ≡ a .slope * (L .d + 7 * 2 ^ a .shift) = ap (λ x. a .slope * (L .d + x)) e in
-    let t : a .slope * (L .d + 7 * 2 ^ a .shift) < 8589934592 * a .rest + 524288 * wasteOn (2 ^ a .shift) (a .places .now) (a .table .now) (L .turns) (a .count) = omega (arith, v, c .before .before .if2 .left, c .before .before .before .waste-on .ensures .0) in (
+    let t : a .slope * (L .d + 7 * 2 ^ a .shift) < 8589934592 * a .rest + 524288 * wasteOn (2 ^ a .shift) (a .places .now) (a .table .now) (L .turns) (a .count) = omega (arith, v, c .if2 .left, c .before .waste-passed .ensures .0) in (
       e,
       L .inv .1,
       omega arith,
       omega (arith, L .inv .3),
-      omega (arith, c .before .before .before .before .before .if1 .left),
-      c .turn-on .ensures (L .d) o (L .inv .5),
+      omega (arith, c .before .before .before .if1 .left),
+      c .before .waste-passed .ensures .2 (L .d) o (L .inv .5),
       λ start loads gaps wheels n g on s r b Z z.
           let free = stretch-free start loads gaps wheels n (2 ^ a .shift) (a .periods .now) (a .places .now) (a .table .now) (L .turns) (a .count) (L .d) (a .slope) (a .rest) g on (S .pre .0) (pow-pos (a .shift)) o (L .inv .5) s (λ X x. r X (omega (arith, L .inv .3))) t (L .inv .6 start loads gaps wheels n g on s r b) Z z in
           omega (arith, e, free),
@@ -110,14 +112,13 @@ pass-spec =
     loop-holds
     add-if1
     returns
-    waste-on-requires
+    waste-passed-requires
     mul-if2
     mul-if2-2
     add-if2
     add-if2-2
     mul-if2-3
     returns-2
-    turn-on-requires
     add-d
     add-stretches
     loop-less

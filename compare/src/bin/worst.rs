@@ -63,9 +63,8 @@ fn arguments() -> Option<Arguments> {
 
 /// Climbs at each scale, then from the worst so far among all spacings; tells what it found and returns the worst.
 fn search(random: &mut Random, tries: u64, load: u64) -> Level {
-    let mut known = if load == 1 { generate::worst_level() } else { generate::worst_of_many() };
-    known.sources[0].0 = load;
-    let mut found = vec![("known".to_string(), known)];
+    let known = if load == 1 { generate::worst_level() } else { generate::worst_of_many() };
+    let mut found = vec![("known".to_string(), with_load(&known, load))];
     for spacings in SCALES {
         let pairs = Pairs::new(&spacings, random);
         let start = anew(load, &pairs, random);
@@ -86,9 +85,21 @@ fn worst_of(found: &[(String, Level)]) -> Level {
     levels.max_by_key(|level| cost(level)).cloned().unwrap_or_else(generate::worst_level)
 }
 
-/// What a file with the level costs: the level once, or if it stands for many, as often as 32 tasks can have it.
+/// What a file with the level is likely to cost: the level once, or if it stands for many, as often as 32 tasks can
+/// have it, with the mean of three loads of the critical source.
 fn cost(level: &Level) -> u64 {
-    level.cost() * levels_of(level)
+    match level.sources[0].0 {
+        1 => level.cost(),
+        load => {
+            let loads = [load.div_ceil(3), load, load * 5 / 3];
+            loads.map(|load| with_load(level, load).cost()).iter().sum::<u64>() * levels_of(level) / 3
+        }
+    }
+}
+
+/// What it costs, each level of the file counted.
+fn whole_cost(level: &Level) -> u64 {
+    (1..=levels_of(level)).map(|load| with_load(level, load).cost()).sum()
 }
 
 fn levels_of(level: &Level) -> u64 {
@@ -96,6 +107,13 @@ fn levels_of(level: &Level) -> u64 {
         1 => 1,
         _ => generate::many_levels(level).links.iter().filter(|link| link[2] == 1).count() as u64,
     }
+}
+
+/// The level with another load of the critical source.
+fn with_load(level: &Level, load: u64) -> Level {
+    let mut level = level.clone();
+    level.sources[0].0 = load;
+    level
 }
 
 /// Climbs from a level, and again and again from random ones or the worst so far, and returns the worst.
@@ -125,7 +143,8 @@ fn climb(random: &mut Random, tries: u64, start: Level, pairs: &Pairs) -> Level 
     best
 }
 
-/// A level of the unit fractions, of random sources, or of sources of about one scale, with a sum just below 1.
+/// A level of the unit fractions, of random sources, or of sources of about one scale with a heavy one or without,
+/// with a sum just below 1.
 fn anew(load: u64, pairs: &Pairs, random: &mut Random) -> Level {
     let mut sources = vec![(load, LIMIT)];
     match random.below(8) {
@@ -137,7 +156,11 @@ fn anew(load: u64, pairs: &Pairs, random: &mut Random) -> Level {
             }
         }
         _ => {
-            for _ in 0..random.within(5..=SOURCES as u32 - 2) {
+            if random.chance(50) {
+                let (_, spacing) = pairs.pool[random.index(pairs.pool.len())];
+                sources.push((spacing * u64::from(random.within(15..=60)) / 100, spacing));
+            }
+            for _ in 0..random.within(5..=SOURCES as u32 - 3) {
                 sources.push(pairs.pool[random.index(pairs.pool.len())]);
             }
         }
@@ -198,8 +221,9 @@ impl Pairs {
         Pairs { pool, sums }
     }
 
-    /// Replaces three sources so that the sum comes close to 1, by a distance of a random size.
+    /// Replaces three sources so that the sum comes close to 1, by a distance like that before or of a random size.
     fn renew(&self, level: &mut Level, random: &mut Random) {
+        let before = free(level).max(1) as f64 / WHOLE as f64;
         for _ in 0..3 {
             let place = random.index(level.sources.len() - 1) + 1;
             level.sources.swap_remove(place);
@@ -207,7 +231,10 @@ impl Pairs {
         if level.sources.len() + 4 <= SOURCES && random.chance(20) {
             level.sources.push(self.pool[random.index(self.pool.len())]);
         }
-        let spare = 1e-9 * 2f64.powi(random.below(12) as i32);
+        let spare = match random.below(2) {
+            0 => before * 2f64.powf(random.below(9) as f64 / 4.0 - 1.0),
+            _ => 1e-9 * 2f64.powi(random.below(12) as i32),
+        };
         let left = 1.0 - level.sources.iter().map(|&source| share(source)).sum::<f64>() - spare;
         let closest = |&third: &(u64, u64)| {
             let sum = left - share(third);
@@ -256,7 +283,7 @@ fn words(level: &Level) -> String {
 
 fn tell(origin: &str, level: &Level) {
     println!("{origin}: {} (load/spacing, the critical source first)", words(level));
-    println!("  about {:.1} ms for {} of it", cost(level) as f64 / 1e6, levels_of(level));
+    println!("  about {:.1} ms for a file with {} of it", whole_cost(level) as f64 / 1e6, levels_of(level));
     println!("  on wheels: {}", timed(level, Level::on_wheels));
     println!("  without:   {}", timed(level, |level| level.plain(MOST_PLAIN)));
 }

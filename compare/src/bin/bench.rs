@@ -59,9 +59,9 @@ fn slow_files() -> Vec<(&'static str, Vec<u8>)> {
         ("one level (2, 3, 7, 43, 1807, 3290000)", generate::level_1807().bytes()),
         ("ten such levels", generate::ten_levels().bytes()),
         ("the worst level found", generate::one_level(&generate::worst_level()).bytes()),
-        ("many like it (32 tasks)", generate::many_levels(&generate::worst_of_many()).bytes()),
+        ("the worst of many found (32 tasks)", generate::many_levels(&generate::worst_of_many()).bytes()),
         ("the worst level for jumps alone", generate::one_level(&generate::small_spacings()).bytes()),
-        ("many like it (32 tasks), for jumps alone", small_spacings.bytes()),
+        ("the worst of many for jumps alone (32 tasks)", small_spacings.bytes()),
     ]
 }
 

@@ -71,7 +71,7 @@ const WORST: [(u64, u64); 16] = [
     (1, 154),
 ];
 
-/// And for the level that stands for many of them.
+/// And for the one that stands for many, which is of another kind.
 const WORST_OF_MANY: [(u64, u64); 16] = [
     (15, 1_000_000_000),
     (1, 2),
@@ -131,7 +131,7 @@ pub fn worst_level() -> Level {
     Level { limit: WIDEST.into(), sources: WORST.to_vec() }
 }
 
-/// The same where the critical source has a load of 15, and the level counts as often as 32 tasks can have it.
+/// The one that takes longest where the critical source has a load of 15 and 32 tasks have it as often as they can.
 pub fn worst_of_many() -> Level {
     Level { limit: WIDEST.into(), sources: WORST_OF_MANY.to_vec() }
 }

@@ -13,7 +13,10 @@ pub use edges::{boxed, edges};
 pub use files::{bench_full, bench_typical, dense, hostile};
 pub use random::Random;
 pub use runs::{Run, legal_calls, run};
-pub use slow::{exactly_one, level_1807, many_levels, one_level, ten_levels, worst_level, worst_of_many};
+pub use slow::{
+    exactly_one, level_1807, many_levels, one_level, small_spacings, small_spacings_of_many, ten_levels,
+    worst_level, worst_of_many,
+};
 
 /// A file of a kind chosen by chance.
 pub fn file(random: &mut Random) -> Vec<u8> {

@@ -1,9 +1,16 @@
-//! The rounds of one level, counted: plain, and with jumps between them.
+//! The rounds of one level, counted: plain, and between stretches that wheels pass.
 
-/// A level whose start is 0.
+mod between;
+mod counts;
+mod plan;
+mod wheels;
+
+use counts::Counts;
+
+/// A level whose start is 0: at most 16 sources, each of a load of 1 at least.
 #[derive(Clone, Debug, PartialEq, Eq)]
 pub struct Level {
-    /// Where the rounds are given up: the spacing of the critical source.
+    /// Where the rounds are given up, 10⁹ at most: the spacing of the critical source.
     pub limit: u64,
     /// Load and spacing of each source, the critical one first.
     pub sources: Vec<(u64, u64)>,
@@ -14,105 +21,52 @@ pub struct Level {
 pub struct Outcome {
     /// The D that a round leaves unchanged, if it is below the limit.
     pub delay: Option<u64>,
-    pub rounds: u64,
-    /// The last D that a round was made at.
+    /// The last D that a round was made at, the limit at most.
     pub reached: u64,
+    pub work: Work,
 }
 
-/// Plain rounds before the first jump: most levels settle in fewer.
-const PATIENCE: u64 = 32;
-/// The scale of shares, and the share of a source that takes every tick.
-const WHOLE: u64 = 1 << 33;
-
-/// A source with the firings counted so far.
-struct Counted {
-    load: u64,
-    spacing: u64,
-    /// The load per tick, in units of 1 / `WHOLE`, rounded down.
-    share: u64,
-    /// What the counted firings bring.
-    brought: u64,
-    /// The largest D that they are enough for.
-    end: u64,
-}
-
-impl Counted {
-    /// One firing: even D = 0 has one.
-    fn first(load: u64, spacing: u64) -> Counted {
-        Counted { load, spacing, share: load * WHOLE / spacing, brought: load, end: spacing }
-    }
-
-    /// Counts the firings that `delay` needs beyond those counted, and returns their load.
-    #[inline]
-    fn count_until(&mut self, delay: u64) -> u64 {
-        if delay <= self.end {
-            return 0;
-        }
-        let more = (delay - self.end).div_ceil(self.spacing);
-        self.end += more * self.spacing;
-        self.brought += more * self.load;
-        more * self.load
-    }
+/// What was done on the way.
+#[derive(Clone, Copy, Debug, Default, PartialEq, Eq)]
+pub struct Work {
+    pub rounds: u64,
+    /// Stretches looked at, passed or not.
+    pub stretches: u64,
+    /// Entries of tables looked up: one for each stretch and wheel.
+    pub entries: u64,
+    /// Segments between firings and ends of blocks, looked at while tables were filled.
+    pub segments: u64,
 }
 
 impl Level {
     /// Rounds one after the other, `most` of them at most.
     pub fn plain(&self, most: u64) -> Outcome {
-        self.settle(most, |_, next| next)
-    }
-
-    /// Rounds with a jump after each but the first 32, `most` of them at most.
-    pub fn jumping(&self, most: u64) -> Outcome {
-        let mut rounds = 0;
-        self.settle(most, |sources, next| {
-            rounds += 1;
-            if rounds > PATIENCE { bound(sources, next) } else { next }
-        })
-    }
-
-    /// Rounds, `go_on` saying at which D the next is, given what the last came to.
-    fn settle(&self, most: u64, mut go_on: impl FnMut(&[Counted], u64) -> u64) -> Outcome {
-        let mut sources: Vec<Counted> =
-            self.sources.iter().map(|&(load, spacing)| Counted::first(load, spacing)).collect();
-        let mut delay = 0;
-        let mut next = sources.iter().map(|source| source.load).sum();
-        let mut rounds = 1;
-        while next < self.limit && rounds < most {
-            if next == delay {
-                return Outcome { delay: Some(delay), rounds, reached: delay };
+        let mut counts = Counts::first(&self.sources);
+        let mut work = Work { rounds: 1, ..Work::default() };
+        let mut reached = 0;
+        while counts.sum < self.limit && work.rounds < most {
+            if counts.sum == reached {
+                return Outcome { delay: Some(reached), reached, work };
             }
-            delay = go_on(&sources, next);
-            if delay >= self.limit {
-                break;
-            }
-            next += sources.iter_mut().map(|source| source.count_until(delay)).sum::<u64>();
-            rounds += 1;
+            reached = counts.sum;
+            counts.round(reached);
+            work.rounds += 1;
         }
-        Outcome { delay: None, rounds, reached: delay.min(self.limit) }
+        Outcome { delay: None, reached, work }
     }
-}
 
-/// A D that no fixed point is below, given what a round came to.
-///
-/// A fixed point L takes from each source what is counted at least, and at least its share of L.
-/// Shares are taken of the sources whose counted firings end before the bound found so far, the
-/// rest as counted. Both keep within 64 bits, as a round comes to less than 10⁹ here.
-fn bound(sources: &[Counted], next: u64) -> u64 {
-    let mut bound = next;
-    loop {
-        let (mut counted, mut free) = (next, WHOLE);
-        for source in sources.iter().filter(|source| source.end < bound) {
-            counted -= source.brought;
-            let Some(less) = free.checked_sub(source.share).filter(|&less| less > 0) else {
-                return u64::MAX;
-            };
-            free = less;
-        }
-        let higher = (counted * WHOLE).div_ceil(free);
-        if higher <= bound {
-            return bound;
-        }
-        bound = higher;
+    /// Few rounds with jumps, then rounds between stretches without a fixed point: what the proved library does.
+    pub fn on_wheels(&self) -> Outcome {
+        let mut work = Work::default();
+        let reached = between::reach(self, &mut work);
+        Outcome { delay: Some(reached).filter(|&delay| delay < self.limit), reached, work }
+    }
+
+    /// About how many nanoseconds that takes: rounds and segments look at every source.
+    pub fn cost(&self) -> u64 {
+        let Work { rounds, stretches, entries, segments } = self.on_wheels().work;
+        let sources = self.sources.len() as u64;
+        sources * (6 * rounds + 5 * segments / 2) + 3 * stretches + 2 * entries
     }
 }
 
@@ -121,25 +75,61 @@ mod tests {
     use super::*;
     use crate::generate::Random;
 
-    /// Jumps alter the number of rounds and nothing else.
-    #[test]
-    fn jumps_pass_no_fixed_point() {
-        let mut random = Random::new(5);
-        let mut held = 0;
-        for _ in 0..20_000 {
-            let limit = u64::from(random.within(1..=100_000));
-            let mut sources = vec![(1, limit)];
-            let others = random.within(3..=9);
-            for _ in 0..others {
-                let spacing = random.within(2..=100);
-                sources.push((random.within(1..=(2 * spacing / others).max(1)).into(), spacing.into()));
-            }
-            let level = Level { limit, sources };
-            let (plain, jumping) = (level.plain(u64::MAX), level.jumping(u64::MAX));
-            assert_eq!(plain.delay, jumping.delay, "{level:?}");
-            assert!(jumping.rounds <= plain.rounds, "{level:?}");
-            held += u32::from(plain.delay.is_some_and(|_| plain.rounds > PATIENCE));
+    fn random_level(random: &mut Random) -> Level {
+        let limit = u64::from(random.within(1..=3_000_000));
+        let mut sources = vec![(1, limit)];
+        let others = random.within(3..=9);
+        for _ in 0..others {
+            let spacing = random.within(2..=100);
+            sources.push((random.within(1..=(2 * spacing / others).max(1)).into(), spacing.into()));
         }
-        assert!(held > 100, "{held} of them held after a jump");
+        Level { limit, sources }
+    }
+
+    /// A level of spacings from 10 to 200 that leaves next to nothing of each tick.
+    fn tuned_level(random: &mut Random) -> Level {
+        let limit = u64::from(random.within(1_000_000..=3_000_000));
+        let others = random.within(5..=15);
+        let mut source = || {
+            let spacing = random.within(10..=200);
+            (u64::from(random.within(1..=(2 * spacing / others).max(1))), u64::from(spacing))
+        };
+        let free = |sources: &[(u64, u64)]| {
+            1.0 - sources.iter().map(|&(load, spacing)| load as f64 / spacing as f64).sum::<f64>()
+        };
+        let mut sources = vec![(1, limit)];
+        sources.extend((2..others).map(|_| source()));
+        let left = free(&sources);
+        let pairs = (0..2_000).map(|_| [source(), source()]);
+        let fitting = pairs.filter(|pair| left - 1.0 + free(pair) > 1e-6);
+        let closest = fitting.min_by(|one, other| free(one).total_cmp(&free(other)));
+        sources.extend(closest.into_iter().flatten());
+        Level { limit, sources }
+    }
+
+    /// Wheels alter the work and nothing else.
+    #[test]
+    fn wheels_pass_no_fixed_point() {
+        let mut random = Random::new(5);
+        let (mut held, mut refused) = (0, 0);
+        for turn in 0..20_000 {
+            let level = if turn % 2 == 0 { tuned_level(&mut random) } else { random_level(&mut random) };
+            let (plain, on_wheels) = (level.plain(u64::MAX), level.on_wheels());
+            assert_eq!(plain.delay, on_wheels.delay, "{level:?}");
+            if on_wheels.work.stretches > on_wheels.work.rounds {
+                held += u32::from(plain.delay.is_some());
+                refused += u32::from(plain.delay.is_none());
+            }
+        }
+        assert!(held > 300 && refused > 30, "{held} held and {refused} did not after stretches were passed");
+    }
+
+    /// A level that settles soon needs no wheels.
+    #[test]
+    fn few_rounds_come_first() {
+        let level = Level { limit: 1_000, sources: vec![(1, 1_000), (1, 2), (1, 3)] };
+        let outcome = level.on_wheels();
+        assert_eq!(outcome.delay, level.plain(u64::MAX).delay);
+        assert_eq!((outcome.work.stretches, outcome.work.segments), (0, 0));
     }
 }

@@ -52,13 +52,16 @@ fn main() {
     }
 }
 
-/// Files with slow levels. The last are the slowest: a report that is given up goes on beside what follows.
+/// Files with slow levels. The last is the slowest for plain Rust: a report that is given up goes on beside what follows.
 fn slow_files() -> Vec<(&'static str, Vec<u8>)> {
+    let small_spacings = generate::many_levels(&generate::small_spacings_of_many());
     vec![
         ("one level (2, 3, 7, 43, 1807, 3290000)", generate::level_1807().bytes()),
         ("ten such levels", generate::ten_levels().bytes()),
         ("the worst level found", generate::one_level(&generate::worst_level()).bytes()),
-        ("many like it (32 tasks)", generate::many_levels(&generate::worst_of_many()).bytes()),
+        ("the worst of many found (32 tasks)", generate::many_levels(&generate::worst_of_many()).bytes()),
+        ("the worst level for jumps alone", generate::one_level(&generate::small_spacings()).bytes()),
+        ("the worst of many for jumps alone (32 tasks)", small_spacings.bytes()),
     ]
 }
 

@@ -1,7 +1,8 @@
-//! `worst`: a seeded search for the level with the most rounds, jumps and all, and files that have it.
+//! `worst`: a seeded search for the level that takes longest, wheels and all, and files that have it.
 
 use compare::generate::{self, Random};
-use compare::rounds::{Level, Outcome};
+use compare::rounds::{Level, Outcome, Work};
+use std::ops::Range;
 use std::path::Path;
 use std::time::Instant;
 use std::{fs, io};
@@ -10,11 +11,16 @@ const USAGE: &str = "usage: worst [--seed S] [--tries N] [--load L] [--out DIR]"
 /// The widest spacing, so that the rounds may go on for longest.
 const LIMIT: u64 = 1_000_000_000;
 const SOURCES: usize = 16;
-/// A level is followed no further than this, with jumps and without.
-const MOST_JUMPING: u64 = 100_000_000;
+/// A level is followed no further than this without wheels.
 const MOST_PLAIN: u64 = 400_000_000;
 /// Tries in a row without a worse level before the search begins anew.
-const PATIENCE: u32 = 400;
+const PATIENCE: u32 = 200;
+
+/// The spacings that levels of one scale mostly have.
+const SCALES: [Range<u64>; 3] = [10..160, 100..400, 300..2_000];
+const ALL: Range<u64> = 10..2_000;
+/// Sources to choose from at one scale.
+const POOL: usize = 1_400;
 
 /// Unit fractions that leave next to nothing of 1.
 const UNITS: [u64; 6] = [2, 3, 7, 43, 1_807, 3_290_000];
@@ -28,7 +34,6 @@ fn main() -> io::Result<()> {
         std::process::exit(2);
     };
     let worst = search(&mut Random::new(arguments.seed), arguments.tries, arguments.load);
-    tell(&worst);
     arguments.out.map_or(Ok(()), |folder| write(Path::new(&folder), &worst))
 }
 
@@ -56,54 +61,93 @@ fn arguments() -> Option<Arguments> {
     Some(chosen)
 }
 
-/// Climbs from random levels and from the worst known, again and again, and returns the one with the most rounds.
+/// Climbs at each scale, then from the worst so far among all spacings; tells what it found and returns the worst.
 fn search(random: &mut Random, tries: u64, load: u64) -> Level {
-    let pairs = Pairs::new();
-    let mut best = if load == 1 { generate::worst_level() } else { generate::worst_of_many() };
-    best.sources[0].0 = load;
-    let mut most = best.jumping(MOST_JUMPING).rounds;
-    let (mut here, mut height) = (anew(load, &pairs, random), 0);
+    let known = if load == 1 { generate::worst_level() } else { generate::worst_of_many() };
+    let mut found = vec![("known".to_string(), with_load(&known, load))];
+    for spacings in SCALES {
+        let pairs = Pairs::new(&spacings, random);
+        let start = anew(load, &pairs, random);
+        let level = climb(random, tries, start, &pairs);
+        found.push((format!("of spacings like {} to {}", spacings.start, spacings.end), level));
+    }
+    let pairs = Pairs::new(&ALL, random);
+    let level = climb(random, tries, worst_of(&found), &pairs);
+    found.push(("from there".to_string(), level));
+    for (origin, level) in &found {
+        tell(origin, level);
+    }
+    worst_of(&found)
+}
+
+fn worst_of(found: &[(String, Level)]) -> Level {
+    let levels = found.iter().map(|(_, level)| level);
+    levels.max_by_key(|level| cost(level)).cloned().unwrap_or_else(generate::worst_level)
+}
+
+/// What a file with the level is likely to cost: the level once, or if it stands for many, as often as 32 tasks can
+/// have it, with the mean of three loads of the critical source.
+fn cost(level: &Level) -> u64 {
+    match level.sources[0].0 {
+        1 => level.cost(),
+        load => {
+            let loads = [load.div_ceil(3), load, load * 5 / 3];
+            loads.map(|load| with_load(level, load).cost()).iter().sum::<u64>() * levels_of(level) / 3
+        }
+    }
+}
+
+/// What it costs, each level of the file counted.
+fn whole_cost(level: &Level) -> u64 {
+    (1..=levels_of(level)).map(|load| with_load(level, load).cost()).sum()
+}
+
+fn levels_of(level: &Level) -> u64 {
+    match level.sources[0].0 {
+        1 => 1,
+        _ => generate::many_levels(level).links.iter().filter(|link| link[2] == 1).count() as u64,
+    }
+}
+
+/// The level with another load of the critical source.
+fn with_load(level: &Level, load: u64) -> Level {
+    let mut level = level.clone();
+    level.sources[0].0 = load;
+    level
+}
+
+/// Climbs from a level, and again and again from random ones or the worst so far, and returns the worst.
+fn climb(random: &mut Random, tries: u64, start: Level, pairs: &Pairs) -> Level {
+    let load = start.sources[0].0;
+    let (mut here, mut height) = (start.clone(), cost(&start));
+    let (mut best, mut most) = (start, height);
     let mut failed = 0;
     for _ in 0..tries {
         if failed > PATIENCE {
-            here = if random.chance(30) { best.clone() } else { anew(load, &pairs, random) };
-            height = likely_rounds(&here);
+            here = if random.chance(40) { best.clone() } else { anew(load, pairs, random) };
+            height = cost(&here);
             failed = 0;
         }
-        let near = neighbour(&here, &pairs, random);
-        let reached = likely_rounds(&near);
+        let near = neighbour(&here, pairs, random);
+        let reached = cost(&near);
         failed = if reached > height { 0 } else { failed + 1 };
         if reached < height {
             continue;
         }
         (here, height) = (near, reached);
-        if height > most + most / 50 {
-            height = here.jumping(MOST_JUMPING).rounds;
-            if height > most {
-                (best, most) = (here.clone(), height);
-                eprintln!("{most} {}", words(&best));
-            }
+        if height > most {
+            (best, most) = (here.clone(), height);
+            eprintln!("{:.1} ms {}", most as f64 / 1e6, words(&best));
         }
     }
     best
 }
 
-/// The rounds that a level takes, reckoned from its pace if they are many.
-fn likely_rounds(level: &Level) -> u64 {
-    const FEW: u64 = 1_000;
-    const SOME: u64 = 20_000;
-    let some = level.jumping(SOME);
-    if some.rounds < SOME {
-        return some.rounds;
-    }
-    let stretch = some.reached - level.jumping(FEW).reached;
-    SOME + (SOME - FEW) * (level.limit - some.reached) / stretch.max(1)
-}
-
-/// A level of the unit fractions, of random sources, or of sources of about one spacing, with a sum just below 1.
+/// A level of the unit fractions, of random sources, or of sources of about one scale with a heavy one or without,
+/// with a sum just below 1.
 fn anew(load: u64, pairs: &Pairs, random: &mut Random) -> Level {
     let mut sources = vec![(load, LIMIT)];
-    match random.below(4) {
+    match random.below(8) {
         0 => sources.extend(UNITS.iter().map(|&spacing| (1, spacing))),
         1 => {
             for _ in 0..random.within(1..=9) {
@@ -112,7 +156,11 @@ fn anew(load: u64, pairs: &Pairs, random: &mut Random) -> Level {
             }
         }
         _ => {
-            for _ in 0..random.within(5..=SOURCES as u32 - 2) {
+            if random.chance(50) {
+                let (_, spacing) = pairs.pool[random.index(pairs.pool.len())];
+                sources.push((spacing * u64::from(random.within(15..=60)) / 100, spacing));
+            }
+            for _ in 0..random.within(5..=SOURCES as u32 - 3) {
                 sources.push(pairs.pool[random.index(pairs.pool.len())]);
             }
         }
@@ -152,18 +200,20 @@ fn neighbour(level: &Level, pairs: &Pairs, random: &mut Random) -> Level {
     near
 }
 
-/// Sources of about one spacing, and two of them by the sum of their shares.
+/// Sources of about one scale, and two of them by the sum of their shares.
 struct Pairs {
     pool: Vec<(u64, u64)>,
     sums: Vec<(f64, usize, usize)>,
 }
 
 impl Pairs {
-    fn new() -> Pairs {
-        let pool: Vec<(u64, u64)> =
-            (10..160).flat_map(|spacing| (1..=spacing / 8).map(move |load| (load, spacing))).collect();
-        let places = 0..pool.len();
-        let mut sums: Vec<(f64, usize, usize)> = places
+    fn new(spacings: &Range<u64>, random: &mut Random) -> Pairs {
+        let source = |_| {
+            let spacing = spacings.start + random.below(spacings.end - spacings.start);
+            (1 + random.below(spacing / 8), spacing)
+        };
+        let pool: Vec<(u64, u64)> = (0..POOL).map(source).collect();
+        let mut sums: Vec<(f64, usize, usize)> = (0..POOL)
             .flat_map(|one| (0..=one).map(move |other| (one, other)))
             .map(|(one, other)| (share(pool[one]) + share(pool[other]), one, other))
             .collect();
@@ -171,8 +221,9 @@ impl Pairs {
         Pairs { pool, sums }
     }
 
-    /// Replaces three sources so that the sum comes close to 1, by a distance of a random size.
+    /// Replaces three sources so that the sum comes close to 1, by a distance like that before or of a random size.
     fn renew(&self, level: &mut Level, random: &mut Random) {
+        let before = free(level).max(1) as f64 / WHOLE as f64;
         for _ in 0..3 {
             let place = random.index(level.sources.len() - 1) + 1;
             level.sources.swap_remove(place);
@@ -180,7 +231,10 @@ impl Pairs {
         if level.sources.len() + 4 <= SOURCES && random.chance(20) {
             level.sources.push(self.pool[random.index(self.pool.len())]);
         }
-        let spare = 1e-9 * 2f64.powi(random.below(12) as i32);
+        let spare = match random.below(2) {
+            0 => before * 2f64.powf(random.below(9) as f64 / 4.0 - 1.0),
+            _ => 1e-9 * 2f64.powi(random.below(12) as i32),
+        };
         let left = 1.0 - level.sources.iter().map(|&source| share(source)).sum::<f64>() - spare;
         let closest = |&third: &(u64, u64)| {
             let sum = left - share(third);
@@ -227,20 +281,22 @@ fn words(level: &Level) -> String {
     sources.collect::<Vec<_>>().join(" ")
 }
 
-fn tell(level: &Level) {
-    println!("{} (load/spacing, the critical source first)", words(level));
-    println!("with jumps: {}", timed(level, |level| level.jumping(u64::MAX)));
-    println!("without:    {}", timed(level, |level| level.plain(MOST_PLAIN)));
+fn tell(origin: &str, level: &Level) {
+    println!("{origin}: {} (load/spacing, the critical source first)", words(level));
+    println!("  about {:.1} ms for a file with {} of it", whole_cost(level) as f64 / 1e6, levels_of(level));
+    println!("  on wheels: {}", timed(level, Level::on_wheels));
+    println!("  without:   {}", timed(level, |level| level.plain(MOST_PLAIN)));
 }
 
 fn timed(level: &Level, settle: impl Fn(&Level) -> Outcome) -> String {
     let start = Instant::now();
-    let outcome = settle(level);
-    let end = match outcome {
-        Outcome { delay: Some(delay), .. } => format!("delay {delay}"),
-        Outcome { reached, .. } => format!("no delay up to {reached}"),
-    };
-    format!("{} rounds, {end}, in {:.2} s", outcome.rounds, start.elapsed().as_secs_f64())
+    let Outcome { delay, reached, work } = settle(level);
+    let milliseconds = start.elapsed().as_secs_f64() * 1e3;
+    let end = delay.map_or(format!("no delay up to {reached}"), |delay| format!("delay {delay}"));
+    let Work { rounds, stretches, entries, segments } = work;
+    format!(
+        "{end}, {rounds} rounds, {stretches} stretches ({entries} entries), {segments} segments, {milliseconds:.1} ms"
+    )
 }
 
 /// Writes the level as one, and as often as 32 tasks can have it.

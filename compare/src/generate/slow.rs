@@ -11,8 +11,8 @@ const WIDEST: u32 = 1_000_000_000;
 const UNITS: [u32; 5] = [2, 3, 7, 43, 1_807];
 const SIXTH: u32 = 3_290_000;
 
-/// Load and spacing of each source of the worst level found, the critical one first.
-const WORST: [(u64, u64); 16] = [
+/// Load and spacing of each source of the worst level for jumps alone, the critical one first.
+const SMALL_SPACINGS: [(u64, u64); 16] = [
     (1, 1_000_000_000),
     (5, 73),
     (3, 64),
@@ -32,7 +32,7 @@ const WORST: [(u64, u64); 16] = [
 ];
 
 /// The same for the level that stands for many.
-const WORST_OF_MANY: [(u64, u64); 16] = [
+const SMALL_SPACINGS_OF_MANY: [(u64, u64); 16] = [
     (15, 1_000_000_000),
     (5, 89),
     (10, 113),
@@ -49,6 +49,46 @@ const WORST_OF_MANY: [(u64, u64); 16] = [
     (1, 78),
     (7, 141),
     (3, 139),
+];
+
+/// The same for the worst level on wheels, among those found.
+const WORST: [(u64, u64); 16] = [
+    (1, 1_000_000_000),
+    (26, 71),
+    (4, 134),
+    (4, 83),
+    (6, 156),
+    (16, 148),
+    (3, 31),
+    (7, 97),
+    (1, 55),
+    (5, 139),
+    (1, 49),
+    (1, 61),
+    (4, 151),
+    (7, 137),
+    (3, 46),
+    (1, 154),
+];
+
+/// And for the one that stands for many, which is of another kind.
+const WORST_OF_MANY: [(u64, u64); 16] = [
+    (15, 1_000_000_000),
+    (1, 2),
+    (25, 990),
+    (19, 502),
+    (163, 1_743),
+    (7, 672),
+    (1, 1_970),
+    (5, 852),
+    (237, 1_973),
+    (3, 626),
+    (2, 1_748),
+    (11, 1_329),
+    (47, 687),
+    (15, 651),
+    (47, 493),
+    (9, 1_647),
 ];
 
 /// One level: a critical source of the widest spacing beside the five and a sixth, all to task 1.
@@ -76,14 +116,24 @@ pub fn exactly_one() -> Draft {
     Draft::new(&[1], &sources, &[[33, 1, 1], [34, 1, 0], [35, 1, 0], [36, 1, 0]])
 }
 
-/// The same where the critical source has a load of 15, about the mean of many levels.
-pub fn worst_of_many() -> Level {
-    Level { limit: WIDEST.into(), sources: WORST_OF_MANY.to_vec() }
+/// The level with the most rounds that was found while jumps were all that there was between them.
+pub fn small_spacings() -> Level {
+    Level { limit: WIDEST.into(), sources: SMALL_SPACINGS.to_vec() }
 }
 
-/// The level with the most rounds that `worst` has found.
+/// The same where the critical source has a load of 15, about the mean of many levels.
+pub fn small_spacings_of_many() -> Level {
+    Level { limit: WIDEST.into(), sources: SMALL_SPACINGS_OF_MANY.to_vec() }
+}
+
+/// The level that takes longest on wheels of those that `worst` has found.
 pub fn worst_level() -> Level {
     Level { limit: WIDEST.into(), sources: WORST.to_vec() }
+}
+
+/// The one that takes longest where the critical source has a load of 15 and 32 tasks have it as often as they can.
+pub fn worst_of_many() -> Level {
+    Level { limit: WIDEST.into(), sources: WORST_OF_MANY.to_vec() }
 }
 
 /// A file with this one level, at task 1, which the level's first source wakes by a critical link.
@@ -150,6 +200,8 @@ mod tests {
             ("level-1807", level_1807()),
             ("ten-levels", ten_levels()),
             ("exactly-one", exactly_one()),
+            ("small-spacings", one_level(&small_spacings())),
+            ("small-spacings-32", many_levels(&small_spacings_of_many())),
             ("worst-level", one_level(&worst_level())),
             ("worst-32", many_levels(&worst_of_many())),
         ];
@@ -162,8 +214,9 @@ mod tests {
     /// The levels of the files are the given one, but for the load of the critical source.
     #[test]
     fn levels_are_the_given_one() {
-        let (one, many) = (worst_level(), worst_of_many());
-        for (draft, level) in [(one_level(&one), one), (many_levels(&many), many)] {
+        let one = [small_spacings(), worst_level()].map(|level| (one_level(&level), level));
+        let many = [small_spacings_of_many(), worst_of_many()].map(|level| (many_levels(&level), level));
+        for (draft, level) in one.into_iter().chain(many) {
             let given: Vec<u64> = level.sources.iter().map(|&(load, _)| load).collect();
             let levels = draft.links.iter().filter(|link| link[2] == 1).count();
             let plan = Plan::read(&draft.bytes()).unwrap_or_else(|refusal| panic!("{refusal:?}"));

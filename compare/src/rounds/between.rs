@@ -6,12 +6,13 @@ use super::{Level, Work};
 
 /// Rounds before the wheels.
 const FEW: u64 = 256;
-/// Rounds before the first jump: most levels settle in fewer. From there on, each eighth has one.
+/// Rounds before the first jump: most levels settle in fewer. From there on, each eighth has one, and between stretches each 64th.
 const PATIENCE: u64 = 32;
 const JUMP_EVERY: u64 = 8;
+const JUMP_SELDOM: u64 = 64;
 /// Rounds before stretches are judged, and how many a round is worth.
 const TRIAL: u64 = 1_000;
-const WORTH: u64 = 7;
+const WORTH: u64 = 11;
 /// The widest spacing of a source on a wheel, and the most bits of a block.
 const WIDEST: u64 = 1_000_000;
 const MOST_BITS: u32 = 16;
@@ -72,7 +73,7 @@ fn rounds_between(level: &Level, from: u64, shift: u32, work: &mut Work) -> Reac
         if shift > 0 && rounds >= TRIAL && passed < rounds * WORTH * wheels.width() {
             return Open(place);
         }
-        let jumps = last >= (STRETCHES - 1) * wheels.width() || rounds % JUMP_EVERY == 0;
+        let jumps = last >= (STRETCHES - 1) * wheels.width() || rounds % JUMP_SELDOM == 0;
         let far = if jumps { counts.jump(level.limit) } else { counts.sum };
         place = wheels.pass(&counts, far, level.limit, work);
         last = place - far;

@@ -9,13 +9,13 @@ pub struct Wheel {
 
 /// Entries of all tables less 10 for each of 16 wheels, and ticks of all periods: there are no more.
 const BLOCKS: u64 = 32_608;
-const TICKS: u64 = 4_000_000;
+const TICKS: u64 = 3_000_000;
 const WHEELS: usize = 15;
 
-/// The wheels of a level, one after the other as long as there is room. One takes a quarter of all room at most.
+/// The wheels of a level, one after the other as long as there is room. One takes a third of all room at most.
 pub fn plan(sources: &[(u64, u64)], block: u64) -> Vec<Wheel> {
     let mut room = (BLOCKS * block).min(TICKS);
-    let largest = room / 4;
+    let largest = room / 3;
     let mut free: Vec<usize> = (0..sources.len()).collect();
     let mut wheels = Vec::new();
     while wheels.len() < WHEELS {

@@ -107,14 +107,14 @@ fn waste_table(wheel: &Wheel, part: &[(u64, u64)], flow: u64, shift: u32, work: 
     entries
 }
 
-/// The least waste in each block, segment by segment.
+/// The least waste in each block, segment by segment: to where a source fires anew, and a 32nd of a block at least.
 fn fill(entries: &mut [u32], part: &[(u64, u64)], flow: u64, block: u64, work: &mut Work) {
     let mut counts = Counts::first(part);
     let mut done = 0;
     for (entry, end) in entries.iter_mut().zip((1..).map(|blocks| blocks * block)) {
         while done < end {
             counts.round(done + 1);
-            done = counts.quiet_until(end);
+            done = counts.quiet_until(end).max(done + block / 32).min(end);
             *entry = (*entry).min(waste(counts.sum, flow, done));
             work.segments += 1;
         }

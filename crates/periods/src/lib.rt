@@ -70,16 +70,13 @@ fn joined(load: u64, gap: u32, wheel: usize, period: u64, most: u64) -> u64
     multiple
 }
 
-// How good a choice a source is, 0 if it cannot join: the larger its load the better on an empty wheel, else the smaller the period with it.
+// How good a choice a source is, 0 if it cannot join: the shorter the period with it, the better.
 fn worth(load: u64, gap: u32, wheel: usize, period: u64, most: u64) -> u64
     requires { ⌜ (period ≤ 1048576) × (most ≤ 1048576) ⌝ }
 {
     let multiple = joined(load, gap, wheel, period, most);
     if multiple == 0 {
         return 0;
-    }
-    if period == 1 {
-        return load;
     }
     most - multiple + 1
 }
@@ -145,7 +142,7 @@ fn fill(
 }
 
 // The wheels of a level, one after the other as long as there is room: the wheel of each source, the period of each wheel, and how many there are.
-// All periods together are at most 32768 blocks less 10 for each of 16 wheels, and at most 3000000 ticks; one is at most a third of that.
+// All periods together are at most 65536 blocks less 10 for each of 16 wheels, and at most 3000000 ticks; one is at most a third of that.
 pub fn plan(
     loads: &[u64; 16],
     gaps: &[u32; 16],
@@ -157,7 +154,7 @@ pub fn plan(
     requires { ⌜ (n ≤ 16) × (block ≤ 65536) × (length (now wheels) ≡ 16) × (length (now periods) ≡ 16) ⌝ }
     ensures { λ r. ⌜ (r ≤ 16) × (length (now (wheels .exit)) ≡ 16) × (length (now (periods .exit)) ≡ 16) ⌝ }
 {
-    let mut room = smaller(32608 * block, 3000000);
+    let mut room = smaller(65376 * block, 3000000);
     let largest = room / 3;
     let mut k: usize = 0;
     while k < 15 {

@@ -57,7 +57,7 @@ fn rounds_between(
     wheels: &[usize; 16],
     periods: &[u64; 16],
     places: &[usize; 16],
-    table: &[u32; 32768],
+    table: &[u16; 65536],
     built: Built,
 ) -> Reached
     requires { ⌜ LevelOn start (now loads) (now gaps) n × (limit ≤ 1000000000) × OpenAt start (now loads) (now gaps) n limit from × (shift < 17) × BuiltOn (now loads) (now gaps) (now wheels) n (now periods) (2 ^ shift) (now places) (now table) built ⌝ }
@@ -135,7 +135,7 @@ fn attempt(
     let mut wheels = [16usize; 16];
     let mut periods = [1u64; 16];
     let mut places = [0usize; 16];
-    let mut table = [4294967295u32; 32768];
+    let mut table = [65535u16; 65536];
     let block = block_of(shift);
     let planned = plan(loads, gaps, n, block, &mut wheels, &mut periods);
     sift(loads, gaps, n, &periods, planned, &mut wheels);

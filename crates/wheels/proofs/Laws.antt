@@ -134,7 +134,7 @@ pub covers-one : (start : ℕ) (loads gaps wheels part : List ℕ) (n k block en
 covers-one start loads gaps wheels part n k block entries place table after g o f i z h p q =
     go (getD after (place + i) 0) (f .at i z (omega arith) p q)
   where
-    go : (low : ℕ) → (0 < low → 268435456 * low + partFlow loads gaps wheels n k * z ≤ 4398046511104 * roundIn 0 part gaps n z) → Wastes loads gaps wheels n k low z
+    go : (low : ℕ) → (0 < low → 17179869184 * low + partFlow loads gaps wheels n k * z ≤ 4398046511104 * roundIn 0 part gaps n z) → Wastes loads gaps wheels n k low z
     go zero y = flow-any start loads gaps wheels n k z g
     go (suc low) y = omega (arith, y (omega arith), part-whole loads gaps wheels part n k z o)
 
@@ -233,7 +233,7 @@ wastes-seen start loads gaps wheels n block periods places table count k g w l h
     rw e at v
 
 -- in a stretch that ends within seven blocks the first few wheels waste together what their entries say
-wastes-all : (start : ℕ) (loads gaps wheels : List ℕ) (n block : ℕ) (periods places table turns : List ℕ) (count D L : ℕ) → LevelOn start loads gaps n → WheelsOn loads gaps wheels n block periods places table count → Placed periods places block count → 1 ≤ block → 1 ≤ D → Turned periods count D turns → D ≤ L → L ≤ D + 7 * block → 268435456 * wasteOn block places table turns count + flowOn loads gaps wheels n count * L ≤ 4398046511104 * sumN (λ k. partIn loads gaps wheels n k L) 0 count
+wastes-all : (start : ℕ) (loads gaps wheels : List ℕ) (n block : ℕ) (periods places table turns : List ℕ) (count D L : ℕ) → LevelOn start loads gaps n → WheelsOn loads gaps wheels n block periods places table count → Placed periods places block count → 1 ≤ block → 1 ≤ D → Turned periods count D turns → D ≤ L → L ≤ D + 7 * block → 17179869184 * wasteOn block places table turns count + flowOn loads gaps wheels n count * L ≤ 4398046511104 * sumN (λ k. partIn loads gaps wheels n k L) 0 count
 unfolding wasteOn
 wastes-all start loads gaps wheels n block periods places table turns count D L g w l o d t a b =
     let low : ℕ → ℕ = λ k. getD table (getD places k 0 + getD turns k 0 / block) 0 in
@@ -241,20 +241,20 @@ wastes-all start loads gaps wheels n block periods places table turns count D L 
     let x : ℕ → ℕ = λ k. partIn loads gaps wheels n k L in
     omega (
       arith,
-      sumN-le (λ k. 268435456 * low k + L * f k) (λ k. 4398046511104 * x k) 0 count each,
-      sumN-add (λ k. 268435456 * low k) (λ k. L * f k) 0 count,
-      sumN-mul 268435456 low 0 count,
+      sumN-le (λ k. 17179869184 * low k + L * f k) (λ k. 4398046511104 * x k) 0 count each,
+      sumN-add (λ k. 17179869184 * low k) (λ k. L * f k) 0 count,
+      sumN-mul 17179869184 low 0 count,
       sumN-mul L f 0 count,
       sumN-mul 4398046511104 x 0 count,
     )
   where
-    each : Each (λ k. 268435456 * getD table (getD places k 0 + getD turns k 0 / block) 0 + L * partFlow loads gaps wheels n k ≤ 4398046511104 * partIn loads gaps wheels n k L) 0 count
+    each : Each (λ k. 17179869184 * getD table (getD places k 0 + getD turns k 0 / block) 0 + L * partFlow loads gaps wheels n k ≤ 4398046511104 * partIn loads gaps wheels n k L) 0 count
     each k p q =
         let h : k < count = omega arith in
         rw (t .at k h) (omega (arith, wastes-seen start loads gaps wheels n block periods places table count k g w l h o D L d a b))
 
 -- the wastes and the rest leave no fixed point within seven blocks
-pub stretch-free : (start : ℕ) (loads gaps wheels : List ℕ) (n block : ℕ) (periods places table turns : List ℕ) (count D slope rest : ℕ) → LevelOn start loads gaps n → WheelsOn loads gaps wheels n block periods places table count → Placed periods places block count → 1 ≤ block → 1 ≤ D → Turned periods count D turns → 4398046511104 ≤ flowOn loads gaps wheels n count + 512 * slope → RestFrom start loads gaps wheels n count D rest → slope * (D + 7 * block) < 8589934592 * rest + 524288 * wasteOn block places table turns count → LowerBound start loads gaps n D → LowerBound start loads gaps n (D + 7 * block)
+pub stretch-free : (start : ℕ) (loads gaps wheels : List ℕ) (n block : ℕ) (periods places table turns : List ℕ) (count D slope rest : ℕ) → LevelOn start loads gaps n → WheelsOn loads gaps wheels n block periods places table count → Placed periods places block count → 1 ≤ block → 1 ≤ D → Turned periods count D turns → 4398046511104 ≤ flowOn loads gaps wheels n count + 512 * slope → RestFrom start loads gaps wheels n count D rest → slope * (D + 7 * block) < 8589934592 * rest + 33554432 * wasteOn block places table turns count → LowerBound start loads gaps n D → LowerBound start loads gaps n (D + 7 * block)
 stretch-free start loads gaps wheels n block periods places table turns count D slope rest g w l o d t s r h b L e = go (cmp L (D + 7 * block))
   where
     go : Cmp L (D + 7 * block) → D + 7 * block ≤ L

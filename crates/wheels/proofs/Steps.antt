@@ -44,17 +44,17 @@ sum-none f = refl
 
 -- a table whose first i entries from a place on are lowered to those that many places on
 pub record Lowering (place many i : ℕ) (before table : List ℕ) : Type 0 where
-  pub sized : length table ≡ 32768
+  pub sized : length table ≡ 65536
   pub own : (j : ℕ) → getD table (place + j) 0 ≤ getD before (place + j) 0
   pub next : (j : ℕ) → j < i → getD table (place + j) 0 ≤ getD before (place + j + many) 0
   pub after : (x : ℕ) → place + i ≤ x → getD table x 0 ≡ getD before x 0
   pub below : (x : ℕ) → x < place → getD table x 0 ≡ getD before x 0
 
-pub lowering-none : (place many : ℕ) (table : List ℕ) → length table ≡ 32768 → Lowering place many 0 table table
+pub lowering-none : (place many : ℕ) (table : List ℕ) → length table ≡ 65536 → Lowering place many 0 table table
 lowering-none place many table e =
     record { sized = e; own = λ j. omega arith; next = λ j p. absurd (omega arith); after = λ x p. refl; below = λ x p. refl }
 
-pub lowering-more : (place many i v : ℕ) (before table : List ℕ) → place + i < 32768 → Lowering place many i before table → v ≤ getD table (place + i) 0 → v ≤ getD table (place + i + many) 0 → Lowering place many (i + 1) before (set table (place + i) v)
+pub lowering-more : (place many i v : ℕ) (before table : List ℕ) → place + i < 65536 → Lowering place many i before table → v ≤ getD table (place + i) 0 → v ≤ getD table (place + i + many) 0 → Lowering place many (i + 1) before (set table (place + i) v)
 lowering-more place many i v before table b l h m =
     record {
       sized = length-set table (place + i) v ∙ l .sized;
@@ -80,15 +80,15 @@ one-block i j block z a b c d h =
 
 -- a table that holds wastes up to a place, in blocks from a place of its own on
 pub record Filling (part gaps : List ℕ) (n flow block place done : ℕ) (before table : List ℕ) : Type 0 where
-  pub sized : length table ≡ 32768
-  pub at : (i z : ℕ) → i * block < z → z ≤ (i + 1) * block → z ≤ done → 0 < getD table (place + i) 0 → 268435456 * getD table (place + i) 0 + flow * z ≤ 4398046511104 * roundIn 0 part gaps n z
+  pub sized : length table ≡ 65536
+  pub at : (i z : ℕ) → i * block < z → z ≤ (i + 1) * block → z ≤ done → 0 < getD table (place + i) 0 → 17179869184 * getD table (place + i) 0 + flow * z ≤ 4398046511104 * roundIn 0 part gaps n z
   pub below : (x : ℕ) → x < place → getD table x 0 ≡ getD before x 0
 
-pub filling-none : (part gaps : List ℕ) (n flow block place : ℕ) (table : List ℕ) → length table ≡ 32768 → Filling part gaps n flow block place 0 table table
+pub filling-none : (part gaps : List ℕ) (n flow block place : ℕ) (table : List ℕ) → length table ≡ 65536 → Filling part gaps n flow block place 0 table table
 filling-none part gaps n flow block place table e =
     record { sized = e; at = λ i z p q r. absurd (omega arith); below = λ x p. refl }
 
-pub filling-more : (part gaps : List ℕ) (n flow block place done end i sum w r : ℕ) (before table : List ℕ) → LevelOn 0 part gaps n → Filling part gaps n flow block place done before table → place + i < 32768 → i * block ≤ done → done < end → end ≤ (i + 1) * block → sum ≡ roundIn 0 part gaps n (done + 1) → WasteOf sum flow end w → r ≤ getD table (place + i) 0 → r ≤ w → Filling part gaps n flow block place end before (set table (place + i) r)
+pub filling-more : (part gaps : List ℕ) (n flow block place done end i sum w r : ℕ) (before table : List ℕ) → LevelOn 0 part gaps n → Filling part gaps n flow block place done before table → place + i < 65536 → i * block ≤ done → done < end → end ≤ (i + 1) * block → sum ≡ roundIn 0 part gaps n (done + 1) → WasteOf sum flow end w → r ≤ getD table (place + i) 0 → r ≤ w → Filling part gaps n flow block place end before (set table (place + i) r)
 filling-more part gaps n flow block place done end i sum w r before table g f b lo up hi e s old new =
     record {
       sized = length-set table (place + i) r ∙ f .sized;
@@ -99,20 +99,20 @@ filling-more part gaps n flow block place done end i sum w r before table g f b 
     here : getD (set table (place + i) r) (place + i) 0 ≡ r
     here = getD-set-same table (place + i) r 0 (omega (arith, f .sized))
 
-    other : (j z : ℕ) → (j ≡ i → ⊥) → j * block < z → z ≤ (j + 1) * block → z ≤ done → 0 < getD (set table (place + i) r) (place + j) 0 → 268435456 * getD (set table (place + i) r) (place + j) 0 + flow * z ≤ 4398046511104 * roundIn 0 part gaps n z
+    other : (j z : ℕ) → (j ≡ i → ⊥) → j * block < z → z ≤ (j + 1) * block → z ≤ done → 0 < getD (set table (place + i) r) (place + j) 0 → 17179869184 * getD (set table (place + i) r) (place + j) 0 + flow * z ≤ 4398046511104 * roundIn 0 part gaps n z
     other j z ne p q m x =
         let d = getD-set-other table (place + i) (place + j) r 0 (λ e. ne (omega arith)) in
         rw d (f .at j z p q m (omega (arith, d)))
 
-    late : (z : ℕ) → done < z → z ≤ end → 0 < r → 268435456 * r + flow * z ≤ 4398046511104 * roundIn 0 part gaps n z
+    late : (z : ℕ) → done < z → z ≤ end → 0 < r → 17179869184 * r + flow * z ≤ 4398046511104 * roundIn 0 part gaps n z
     late z p q x =
         omega
         (arith, s .left (omega arith), mul-le-mul-left flow q, round-in-mono 0 part gaps n g (done + 1) z (omega arith))
 
-    early : (z : ℕ) → i * block < z → z ≤ (i + 1) * block → z ≤ done → 0 < r → 268435456 * r + flow * z ≤ 4398046511104 * roundIn 0 part gaps n z
+    early : (z : ℕ) → i * block < z → z ≤ (i + 1) * block → z ≤ done → 0 < r → 17179869184 * r + flow * z ≤ 4398046511104 * roundIn 0 part gaps n z
     early z p q m x = omega (arith, f .at i z p q m (omega arith))
 
-    go : (j z : ℕ) → j * block < z → z ≤ (j + 1) * block → z ≤ end → 0 < getD (set table (place + i) r) (place + j) 0 → Cmp j i → Cmp z (done + 1) → 268435456 * getD (set table (place + i) r) (place + j) 0 + flow * z ≤ 4398046511104 * roundIn 0 part gaps n z
+    go : (j z : ℕ) → j * block < z → z ≤ (j + 1) * block → z ≤ end → 0 < getD (set table (place + i) r) (place + j) 0 → Cmp j i → Cmp z (done + 1) → 17179869184 * getD (set table (place + i) r) (place + j) 0 + flow * z ≤ 4398046511104 * roundIn 0 part gaps n z
     go j z p q m x (less k) (less t) = other j z (λ e. omega arith) p q (omega arith) x
     go j z p q m x (less k) (same t) = absurd (one-block j i block z p q (omega arith) (omega arith) k)
     go j z p q m x (less k) (more t) = absurd (one-block j i block z p q (omega arith) (omega arith) k)
@@ -177,7 +177,7 @@ block-of done block entries o h =
     )
 
 -- a wheel that stands in a stretch has its entry in the table
-pub inside-at : (periods places turns : List ℕ) (shift count d k : ℕ) → Placed periods places (2 ^ shift) count → Turned periods count d turns → k < count → getD places k 0 + getD turns k 0 / 2 ^ shift < 32768
+pub inside-at : (periods places turns : List ℕ) (shift count d k : ℕ) → Placed periods places (2 ^ shift) count → Turned periods count d turns → k < count → getD places k 0 + getD turns k 0 / 2 ^ shift < 65536
 inside-at periods places turns shift count d k p t h =
     let m : (d - 1) % getD periods k 0 < getD periods k 0 = mod-lt (d - 1) (p .some k h) in
     let s : getD turns k 0 / 2 ^ shift ≤ getD periods k 0 / 2 ^ shift = shr-mono shift (omega (arith, t .at k h)) in
@@ -220,7 +220,7 @@ building-more loads gaps wheels part n block periods places table after k place 
     }
 
 -- the wheels that are built
-pub built-on : (loads gaps wheels : List ℕ) (n : ℕ) (periods : List ℕ) (block planned : ℕ) (places table : List ℕ) (k place flow slope : ℕ) → Sifted loads gaps wheels periods n planned → k ≤ planned → planned ≤ 16 → place ≤ 32768 → Building loads gaps wheels n block periods places table k place → flow ≡ flowOn loads gaps wheels n k → 4398046511104 ≤ flow + 512 * slope → slope ≤ 8589934592 → BuiltOn loads gaps wheels n periods block places table (record { count = k; slope = slope })
+pub built-on : (loads gaps wheels : List ℕ) (n : ℕ) (periods : List ℕ) (block planned : ℕ) (places table : List ℕ) (k place flow slope : ℕ) → Sifted loads gaps wheels periods n planned → k ≤ planned → planned ≤ 16 → place ≤ 65536 → Building loads gaps wheels n block periods places table k place → flow ≡ flowOn loads gaps wheels n k → 4398046511104 ≤ flow + 512 * slope → slope ≤ 8589934592 → BuiltOn loads gaps wheels n periods block places table (record { count = k; slope = slope })
 built-on loads gaps wheels n periods block planned places table k place flow slope s p q r b e l m =
     record {
       placed = record { few = omega arith; some = b .some; inside = λ j h. omega (arith, b .inside j h) };

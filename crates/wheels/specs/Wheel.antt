@@ -1,5 +1,5 @@
 -- Sources on wheels. A wheel has sources whose spacings divide one period, and a table of the least that they waste in a stretch: what
--- they bring beyond their steady flow. Flows are in parts of 2 ^ 42 for each tick, wastes in parts of 2 ^ 14 of a tick.
+-- they bring beyond their steady flow. Flows are in parts of 2 ^ 42 for each tick, wastes in parts of 2 ^ 8 of a tick.
 use Prim.Native.Nat.{ℕ, suc, _+_, _-_, _*_, _/_, _%_, _≤_, _<_}
 use mathlib.Core.Path.{_≡_}
 use mathlib.Core.Bool.{cond}
@@ -49,7 +49,7 @@ Light part gaps n = (u : ℕ) → u < n → (getD part u 0 ≤ 2097151) × (getD
 
 -- the sources of wheel k waste at least low in a stretch of z
 abbrev pub Wastes : List ℕ → List ℕ → List ℕ → ℕ → ℕ → ℕ → ℕ → Type 0
-Wastes loads gaps wheels n k low z = 268435456 * low + partFlow loads gaps wheels n k * z ≤ 4398046511104 * partIn loads gaps wheels n k z
+Wastes loads gaps wheels n k low z = 17179869184 * low + partFlow loads gaps wheels n k * z ≤ 4398046511104 * partIn loads gaps wheels n k z
 
 -- each entry of the table of wheel k, from a place on, is good for that many blocks
 abbrev pub Covers : List ℕ → List ℕ → List ℕ → ℕ → ℕ → ℕ → ℕ → ℕ → ℕ → List ℕ → Type 0
@@ -60,7 +60,7 @@ Covers loads gaps wheels n k block many place entries table =
 pub record Placed (periods places : List ℕ) (block count : ℕ) : Type 0 where
   pub few : count ≤ 16
   pub some : (k : ℕ) → k < count → 1 ≤ getD periods k 0
-  pub inside : (k : ℕ) → k < count → getD places k 0 + (getD periods k 0 / block + 8) ≤ 32768
+  pub inside : (k : ℕ) → k < count → getD places k 0 + (getD periods k 0 / block + 8) ≤ 65536
 
 -- the first few wheels with their tables, of which each entry is good for eight blocks
 pub record WheelsOn (loads gaps wheels : List ℕ) (n block : ℕ) (periods places table : List ℕ) (count : ℕ) : Type 0 where
@@ -82,18 +82,18 @@ wasteOn block places table turns count = sumN (λ k. getD table (getD places k 0
 
 -- a waste that loads and a flow leave at a place, or 0
 pub record WasteOf (brought flow place r : ℕ) : Type 0 where
-  pub left : 0 < r → 268435456 * r + flow * place ≤ 4398046511104 * brought
-  pub most : r ≤ 4294967295
+  pub left : 0 < r → 17179869184 * r + flow * place ≤ 4398046511104 * brought
+  pub most : r ≤ 65535
 
 -- the table from a place on: each entry is 0, or a waste of the sources of a part wherever its block is
 pub record Filled (part gaps : List ℕ) (n flow block entries place : ℕ) (table after : List ℕ) : Type 0 where
-  pub sized : length after ≡ 32768
-  pub at : (i z : ℕ) → i < entries → i * block < z → z ≤ (i + 1) * block → 0 < getD after (place + i) 0 → 268435456 * getD after (place + i) 0 + flow * z ≤ 4398046511104 * roundIn 0 part gaps n z
+  pub sized : length after ≡ 65536
+  pub at : (i z : ℕ) → i < entries → i * block < z → z ≤ (i + 1) * block → 0 < getD after (place + i) 0 → 17179869184 * getD after (place + i) 0 + flow * z ≤ 4398046511104 * roundIn 0 part gaps n z
   pub before : (x : ℕ) → x < place → getD after x 0 ≡ getD table x 0
 
 -- each entry from a place on is lowered to the one that many places on
 pub record Lowered (place entries many : ℕ) (table after : List ℕ) : Type 0 where
-  pub sized : length after ≡ 32768
+  pub sized : length after ≡ 65536
   pub own : (i : ℕ) → getD after (place + i) 0 ≤ getD table (place + i) 0
   pub next : (i : ℕ) → i + many < entries → getD after (place + i) 0 ≤ getD table (place + i + many) 0
   pub before : (x : ℕ) → x < place → getD after x 0 ≡ getD table x 0

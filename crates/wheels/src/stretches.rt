@@ -78,15 +78,15 @@ fn block_at(turn: u64, shift: u32) -> u64
 }
 
 // An entry in 64 bits.
-fn wide(entry: u32) -> u64
-    ensures { λ r. ⌜ (r ≡ entry) × (r ≤ 4294967295) ⌝ }
+fn wide(entry: u16) -> u64
+    ensures { λ r. ⌜ (r ≡ entry) × (r ≤ 65535) ⌝ }
 {
     entry as u64
 }
 
 // The least waste of all wheels together in the stretch from where they stand; then each is turned some ticks on.
 fn waste_passed(
-    table: &[u32; 32768],
+    table: &[u16; 65536],
     periods: &[u64; 16],
     places: &[usize; 16],
     count: usize,
@@ -94,8 +94,8 @@ fn waste_passed(
     width: u64,
     turns: &mut [u64; 16],
 ) -> u64
-    requires { ⌜ (count ≤ 16) × (shift < 17) × (width ≤ 1000000000) × ((k : ℕ) → k < count → 1 ≤ getD (now periods) k 0) × ((k : ℕ) → k < count → getD (now turns) k 0 ≤ 1000000000) × ((k : ℕ) → k < count → getD (now places) k 0 + getD (now turns) k 0 / 2 ^ shift < 32768) × (length (now turns) ≡ 16) ⌝ }
-    ensures { λ r. ⌜ (r ≡ wasteOn (2 ^ shift) (now (places .entry)) (now (table .entry)) (now (turns .entry)) count) × (r ≤ 68719476720) × ((d : ℕ) → 1 ≤ d → Turned (now (periods .entry)) count d (now (turns .entry)) → Turned (now (periods .entry)) count (d + width) (now (turns .exit))) ⌝ }
+    requires { ⌜ (count ≤ 16) × (shift < 17) × (width ≤ 1000000000) × ((k : ℕ) → k < count → 1 ≤ getD (now periods) k 0) × ((k : ℕ) → k < count → getD (now turns) k 0 ≤ 1000000000) × ((k : ℕ) → k < count → getD (now places) k 0 + getD (now turns) k 0 / 2 ^ shift < 65536) × (length (now turns) ≡ 16) ⌝ }
+    ensures { λ r. ⌜ (r ≡ wasteOn (2 ^ shift) (now (places .entry)) (now (table .entry)) (now (turns .entry)) count) × (r ≤ 1048560) × ((d : ℕ) → 1 ≤ d → Turned (now (periods .entry)) count d (now (turns .entry)) → Turned (now (periods .entry)) count (d + width) (now (turns .exit))) ⌝ }
 {
     let mut sum: u64 = 0;
     let mut k: usize = 0;
@@ -119,7 +119,7 @@ pub fn width_of(shift: u32) -> u64
 
 // Goes on from a place, stretch by stretch, 128 at most, as long as no stretch can have a fixed point.
 pub fn pass(
-    table: &[u32; 32768],
+    table: &[u16; 65536],
     periods: &[u64; 16],
     places: &[usize; 16],
     count: usize,
@@ -142,7 +142,7 @@ pub fn pass(
             return d;
         }
         let waste = waste_passed(table, periods, places, count, shift, width, &mut turns);
-        if rest * 8589934592 + waste * 524288 <= slope * (d + width) {
+        if rest * 8589934592 + waste * 33554432 <= slope * (d + width) {
             return d;
         }
         d = d + width;

@@ -99,7 +99,7 @@ fn part_of(
     flow
 }
 
-// What a flow up to a place leaves of what is brought, in parts of 2^14; 0 where it is nothing, or beyond the scale.
+// What a flow up to a place leaves of what is brought, in parts of 2^8; 0 where it is nothing, or beyond the scale.
 fn waste(brought: u64, flow: u64, place: u64) -> u64
     ensures { λ r. ⌜ WasteOf brought flow place r ⌝ }
 {
@@ -117,9 +117,9 @@ fn waste(brought: u64, flow: u64, place: u64) -> u64
     if whole <= gone {
         return 0;
     }
-    let left = (whole - gone) / 268435456;
-    if 4294967295 < left {
-        return 4294967295;
+    let left = (whole - gone) / 17179869184;
+    if 65535 < left {
+        return 65535;
     }
     left
 }
@@ -167,12 +167,12 @@ fn at_least(end: u64, least: u64, last: u64) -> u64
 }
 
 // An entry lowered to a waste.
-fn lowered(entry: u32, waste: u64) -> u32
-    requires { ⌜ waste ≤ 4294967295 ⌝ }
+fn lowered(entry: u16, waste: u64) -> u16
+    requires { ⌜ waste ≤ 65535 ⌝ }
     ensures { λ r. ⌜ (r ≤ entry) × (r ≤ waste) ⌝ }
 {
     if waste < entry as u64 {
-        return waste as u32;
+        return waste as u16;
     }
     entry
 }
@@ -187,9 +187,9 @@ fn fill(
     block: u64,
     entries: usize,
     place: usize,
-    table: &mut [u32; 32768],
+    table: &mut [u16; 65536],
 )
-    requires { ⌜ LevelOn 0 (now part) (now gaps) n × Light (now part) (now gaps) n × (1 ≤ block) × (block ≤ 65536) × (entries * block ≤ 8388608) × (place + entries ≤ 32768) × (length (now table) ≡ 32768) ⌝ }
+    requires { ⌜ LevelOn 0 (now part) (now gaps) n × Light (now part) (now gaps) n × (1 ≤ block) × (block ≤ 65536) × (entries * block ≤ 8388608) × (place + entries ≤ 65536) × (length (now table) ≡ 65536) ⌝ }
     ensures { λ _. ⌜ Filled (now (part .entry)) (now (gaps .entry)) n flow block entries place (now (table .entry)) (now (table .exit)) ⌝ }
 {
     let mut ends = [0u64; 16];
@@ -209,7 +209,7 @@ fn fill(
 }
 
 // The smaller of two entries.
-fn smaller(a: u32, b: u32) -> u32
+fn smaller(a: u16, b: u16) -> u16
     ensures { λ r. ⌜ (r ≤ a) × (r ≤ b) ⌝ }
 {
     if a < b {
@@ -219,8 +219,8 @@ fn smaller(a: u32, b: u32) -> u32
 }
 
 // Lowers each entry of a wheel to the one that many places on.
-fn spread(place: usize, entries: usize, many: usize, table: &mut [u32; 32768])
-    requires { ⌜ (place + entries ≤ 32768) × (1 ≤ many) × (many ≤ 8) × (length (now table) ≡ 32768) ⌝ }
+fn spread(place: usize, entries: usize, many: usize, table: &mut [u16; 65536])
+    requires { ⌜ (place + entries ≤ 65536) × (1 ≤ many) × (many ≤ 8) × (length (now table) ≡ 65536) ⌝ }
     ensures { λ _. ⌜ Lowered place entries many (now (table .entry)) (now (table .exit)) ⌝ }
 {
     let mut i: usize = 0;
@@ -233,8 +233,8 @@ fn spread(place: usize, entries: usize, many: usize, table: &mut [u32; 32768])
 
 // How many entries a wheel takes; 0 where there is no room for them.
 fn entries_for(period: u64, block: u64, place: usize) -> usize
-    requires { ⌜ (1 ≤ block) × (block ≤ 65536) × (place ≤ 32768) ⌝ }
-    ensures { λ r. ⌜ (0 < r → (r ≡ period / block + 8) × (1 ≤ period) × (place + r ≤ 32768) × (r * block ≤ 8388608)) ⌝ }
+    requires { ⌜ (1 ≤ block) × (block ≤ 65536) × (place ≤ 65536) ⌝ }
+    ensures { λ r. ⌜ (0 < r → (r ≡ period / block + 8) × (1 ≤ period) × (place + r ≤ 65536) × (r * block ≤ 8388608)) ⌝ }
 {
     if period == 0 {
         return 0;
@@ -243,7 +243,7 @@ fn entries_for(period: u64, block: u64, place: usize) -> usize
         return 0;
     }
     let entries = period / block + 8;
-    if 32768 < place as u64 + entries {
+    if 65536 < place as u64 + entries {
         return 0;
     }
     entries as usize
@@ -268,9 +268,9 @@ fn put_wheel(
     block: u64,
     entries: usize,
     place: usize,
-    table: &mut [u32; 32768],
+    table: &mut [u16; 65536],
 )
-    requires { ⌜ LevelOn 0 (now part) (now gaps) n × Light (now part) (now gaps) n × (1 ≤ block) × (block ≤ 65536) × (entries * block ≤ 8388608) × (place + entries ≤ 32768) × (length (now table) ≡ 32768) ⌝ }
+    requires { ⌜ LevelOn 0 (now part) (now gaps) n × Light (now part) (now gaps) n × (1 ≤ block) × (block ≤ 65536) × (entries * block ≤ 8388608) × (place + entries ≤ 65536) × (length (now table) ≡ 65536) ⌝ }
     ensures { λ _. ⌜ PutWheel (now (part .entry)) (now (gaps .entry)) n flow block entries place (now (table .entry)) (now (table .exit)) ⌝ }
 {
     fill(part, gaps, n, flow, block, entries, place, table);
@@ -289,9 +289,9 @@ pub fn build(
     planned: usize,
     block: u64,
     places: &mut [usize; 16],
-    table: &mut [u32; 32768],
+    table: &mut [u16; 65536],
 ) -> Built
-    requires { ⌜ LevelOn 0 (now loads) (now gaps) n × Sifted (now loads) (now gaps) (now wheels) (now periods) n planned × (planned ≤ 16) × (1 ≤ block) × (block ≤ 65536) × (length (now places) ≡ 16) × (length (now table) ≡ 32768) ⌝ }
+    requires { ⌜ LevelOn 0 (now loads) (now gaps) n × Sifted (now loads) (now gaps) (now wheels) (now periods) n planned × (planned ≤ 16) × (1 ≤ block) × (block ≤ 65536) × (length (now places) ≡ 16) × (length (now table) ≡ 65536) ⌝ }
     ensures { λ r. ⌜ BuiltOn (now (loads .entry)) (now (gaps .entry)) (now (wheels .entry)) n (now (periods .entry)) block (now (places .exit)) (now (table .exit)) r ⌝ }
 {
     let mut part = [0u64; 16];

@@ -18,7 +18,7 @@ sift-requires : tie.Need-sift-requires
 sift-requires c κs = let a = c .before .before .before .before .before .before .args in (level-any (a .start) (a .loads .now) (a .gaps .now) (a .n) (c .before .before .before .before .before .before .pre .0), c .before .before .plan .ensures .0, c .before .before .plan .ensures .1)
 
 build-requires : tie.Need-build-requires
-build-requires c κs = let a = c .before .before .before .before .before .before .before .before .before .before .before .args in (level-any (a .start) (a .loads .now) (a .gaps .now) (a .n) (c .before .before .before .before .before .before .before .before .before .before .before .pre .0), c .before .before .before .before .sift .ensures .0, c .before .before .before .before .before .before .before .plan .ensures .0, c .before .before .before .before .before .before .before .before .before .before .block-of .ensures .1, c .before .before .before .before .before .before .before .before .before .before .block-of .ensures .2, refl, length-replicate {A = ℕ} 32768 4294967295)
+build-requires c κs = let a = c .before .before .before .before .before .before .before .before .before .before .before .args in (level-any (a .start) (a .loads .now) (a .gaps .now) (a .n) (c .before .before .before .before .before .before .before .before .before .before .before .pre .0), c .before .before .before .before .sift .ensures .0, c .before .before .before .before .before .before .before .plan .ensures .0, c .before .before .before .before .before .before .before .before .before .before .block-of .ensures .1, c .before .before .before .before .before .before .before .before .before .before .block-of .ensures .2, refl, length-replicate {A = ℕ} 65536 65535)
 
 rounds-between-requires : tie.Need-rounds-between-requires
 rounds-between-requires c κs = let a = c .before .before .before .before .before .before .before .before .before .before .before .before .before .before .before .before .args in (c .before .before .before .before .before .before .before .before .before .before .before .before .before .before .before .before .pre .0, c .before .before .before .before .before .before .before .before .before .before .before .before .before .before .before .before .pre .1, c .before .before .before .before .before .before .before .before .before .before .before .before .before .before .before .before .pre .2, c .before .before .before .before .before .before .before .before .before .before .before .before .before .before .before .before .pre .3, built-by (a .loads .now) (a .gaps .now) _ (a .n) _ (c .before .before .before .before .before .before .before .before .before .before .before .before .before .before .before .block-of .result) (2 ^ a .shift) _ _ _ (c .before .before .before .before .before .before .before .before .before .before .before .before .before .before .before .block-of .ensures .0) (c .before .before .before .before .build .ensures))

@@ -86,7 +86,7 @@ loop-again c =
     let o : 1 ≤ L .d = omega (arith, L .inv .3, S .pre .4) in
     let e : w ≡ 7 * 2 ^ a .shift = L .inv .0 in
     let v : a .slope * (L .d + w) ≡ a .slope * (L .d + 7 * 2 ^ a .shift) = ap (λ x. a .slope * (L .d + x)) e in
-    let t : a .slope * (L .d + 7 * 2 ^ a .shift) < 8589934592 * a .rest + 524288 * wasteOn (2 ^ a .shift) (a .places .now) (a .table .now) (L .turns) (a .count) = omega (arith, v, c .if2 .left, c .before .waste-passed .ensures .0) in (
+    let t : a .slope * (L .d + 7 * 2 ^ a .shift) < 8589934592 * a .rest + 33554432 * wasteOn (2 ^ a .shift) (a .places .now) (a .table .now) (L .turns) (a .count) = omega (arith, v, c .if2 .left, c .before .waste-passed .ensures .0) in (
       e,
       L .inv .1,
       omega arith,

@@ -11,7 +11,7 @@ use Rattle.wheels.proofs.stretches.waste_passed.Statement.{statement}
 use Rattle.wheels.proofs.stretches.waste_passed.Tie as tie
 
 abbrev Inv-loop : tie.InvT-loop
-Inv-loop table periods places count shift width turns₀ sum₀ k₀ turns sum k = (k ≤ count) × (length turns ≡ 16) × ((j : ℕ) → j < k → getD turns j 0 ≡ (getD turns₀ j 0 + width) % getD periods j 0) × ((j : ℕ) → k ≤ j → getD turns j 0 ≡ getD turns₀ j 0) × (sum ≡ wasteOn (2 ^ shift) places table turns₀ k) × (sum ≤ k * 4294967295)
+Inv-loop table periods places count shift width turns₀ sum₀ k₀ turns sum k = (k ≤ count) × (length turns ≡ 16) × ((j : ℕ) → j < k → getD turns j 0 ≡ (getD turns₀ j 0 + width) % getD periods j 0) × ((j : ℕ) → k ≤ j → getD turns j 0 ≡ getD turns₀ j 0) × (sum ≡ wasteOn (2 ^ shift) places table turns₀ k) × (sum ≤ k * 65535)
 
 abbrev μ-loop : tie.MeasureT-loop
 μ-loop table periods places count shift width turns₀ sum₀ k₀ turns sum k = count - k
@@ -38,7 +38,7 @@ block-at-requires c κs = c .before .before .before .before .pre .1
 standing : (c : tie.After-block-at Inv-loop μ-loop) → c .block-at .result ≡ getD (c .before .before .before .before .before .args .turns .now) (c .before .before .before .before .loop .k) 0 / 2 ^ c .before .before .before .before .before .args .shift
 standing c = c .block-at .ensures ∙ ap (λ x. x / 2 ^ c .before .before .before .before .before .args .shift) (c .before .before .before .before .loop .inv .3 (c .before .before .before .before .loop .k) (omega arith))
 
-inside : (c : tie.After-block-at Inv-loop μ-loop) → getD (c .before .before .before .before .before .args .places .now) (c .before .before .before .before .loop .k) 0 + c .block-at .result < 32768
+inside : (c : tie.After-block-at Inv-loop μ-loop) → getD (c .before .before .before .before .before .args .places .now) (c .before .before .before .before .loop .k) 0 + c .block-at .result < 65536
 inside c = omega (arith, standing c, c .before .before .before .before .before .pre .5 (c .before .before .before .before .loop .k) (omega arith))
 
 add-at : tie.Need-add-at Inv-loop μ-loop

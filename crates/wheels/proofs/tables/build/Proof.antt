@@ -11,7 +11,7 @@ use Rattle.wheels.proofs.tables.build.Statement.{statement}
 use Rattle.wheels.proofs.tables.build.Tie as tie
 
 abbrev Inv-loop : tie.InvT-loop
-Inv-loop loads gaps n wheels periods planned block places₀ table₀ part₀ place₀ flow₀ k₀ places table part place flow k = (k ≤ planned) × (length places ≡ 16) × (length table ≡ 32768) × (length part ≡ 16) × (place ≤ 32768) × (flow ≡ flowOn loads gaps wheels n k) × (flow ≤ k * 70368744177664) × Building loads gaps wheels n block periods places table k place
+Inv-loop loads gaps n wheels periods planned block places₀ table₀ part₀ place₀ flow₀ k₀ places table part place flow k = (k ≤ planned) × (length places ≡ 16) × (length table ≡ 65536) × (length part ≡ 16) × (place ≤ 65536) × (flow ≡ flowOn loads gaps wheels n k) × (flow ≤ k * 70368744177664) × Building loads gaps wheels n block periods places table k place
 
 abbrev μ-loop : tie.MeasureT-loop
 μ-loop loads gaps n wheels periods planned block places₀ table₀ part₀ place₀ flow₀ k₀ places table part place flow k = planned - k

@@ -8,7 +8,7 @@ pub struct Wheel {
 }
 
 /// Entries of all tables less 10 for each of 16 wheels, and ticks of all periods: there are no more.
-const BLOCKS: u64 = 32_608;
+const BLOCKS: u64 = 65_376;
 const TICKS: u64 = 3_000_000;
 const WHEELS: usize = 15;
 
@@ -29,16 +29,16 @@ pub fn plan(sources: &[(u64, u64)], block: u64) -> Vec<Wheel> {
     wheels
 }
 
-/// One wheel: the source with the largest load first, then as long as one can join, that with which the period is least.
+/// One wheel: as long as a source can join, the one with which the period is least does.
 fn fill(sources: &[(u64, u64)], free: &mut Vec<usize>, most: u64) -> Wheel {
     let mut wheel = Wheel { period: 1, members: Vec::new() };
     loop {
         let joining = free.iter().enumerate().filter_map(|(at, &source)| {
             let (load, spacing) = sources[source];
             let period = joined(load, spacing, wheel.period, most)?;
-            Some((if wheel.period == 1 { u64::MAX - load } else { period }, at, period))
+            Some((period, at))
         });
-        let Some((_, at, period)) = joining.min() else {
+        let Some((period, at)) = joining.min() else {
             return wheel;
         };
         wheel.members.push(free.remove(at));

@@ -6,7 +6,7 @@ use super::{Level, Work};
 
 /// The scale of a wheel's flow, and that of waste in a table.
 const FINE: u64 = 1 << 42;
-const COARSE: u64 = 1 << 14;
+const COARSE: u64 = 1 << 8;
 /// Beyond these, waste counts as 0.
 const MOST_BROUGHT: u64 = (1 << 21) - 1;
 const FARTHEST: u64 = 1 << 21;
@@ -20,7 +20,7 @@ pub struct Wheels {
     /// The period of each wheel, and where its table begins.
     wheels: Vec<(u64, usize)>,
     /// For each block of a period, the least that a wheel's sources waste in eight blocks from there on.
-    table: Vec<u32>,
+    table: Vec<u16>,
     /// What the flow of all wheels leaves of each tick, in units of 1 / `WHOLE`, rounded up.
     slope: u64,
     /// The sources on no wheel.
@@ -96,8 +96,8 @@ impl Wheels {
 }
 
 /// The table of one wheel: the waste in each block, then in two, in four, in eight.
-fn waste_table(wheel: &Wheel, part: &[(u64, u64)], flow: u64, shift: u32, work: &mut Work) -> Vec<u32> {
-    let mut entries = vec![u32::MAX; (wheel.period >> shift) as usize + 8];
+fn waste_table(wheel: &Wheel, part: &[(u64, u64)], flow: u64, shift: u32, work: &mut Work) -> Vec<u16> {
+    let mut entries = vec![u16::MAX; (wheel.period >> shift) as usize + 8];
     fill(&mut entries, part, flow, 1 << shift, work);
     for many in [1, 2, 4] {
         for place in many..entries.len() {
@@ -108,7 +108,7 @@ fn waste_table(wheel: &Wheel, part: &[(u64, u64)], flow: u64, shift: u32, work: 
 }
 
 /// The least waste in each block, segment by segment: to where a source fires anew, and a 32nd of a block at least.
-fn fill(entries: &mut [u32], part: &[(u64, u64)], flow: u64, block: u64, work: &mut Work) {
+fn fill(entries: &mut [u16], part: &[(u64, u64)], flow: u64, block: u64, work: &mut Work) {
     let mut counts = Counts::first(part);
     let mut done = 0;
     for (entry, end) in entries.iter_mut().zip((1..).map(|blocks| blocks * block)) {
@@ -122,10 +122,10 @@ fn fill(entries: &mut [u32], part: &[(u64, u64)], flow: u64, block: u64, work: &
 }
 
 /// What a flow up to a place leaves of what is brought; 0 where it is nothing, or beyond the scale.
-fn waste(brought: u64, flow: u64, place: u64) -> u32 {
+fn waste(brought: u64, flow: u64, place: u64) -> u16 {
     if brought > MOST_BROUGHT || flow > FINE || place > FARTHEST {
         return 0;
     }
     let left = (brought * FINE).saturating_sub(flow * place) / (FINE / COARSE);
-    u32::try_from(left).unwrap_or(u32::MAX)
+    u16::try_from(left).unwrap_or(u16::MAX)
 }

@@ -1,4 +1,4 @@
--- Demand 3 at two files of document 01, its hypotheses met by computation, so that it is known to speak of something. Assumes nothing.
+-- Demand 3 at two files of document 01 and at a swung one, its hypotheses met by computation, so that it is known to speak of something. Assumes nothing.
 use Prim.Native.Nat.{ℕ, suc, _^_, _≤_, _<_}
 use mathlib.Core.Path.{_≡_, refl}
 use mathlib.Core.Bool.{Bool, true, false}
@@ -8,7 +8,7 @@ use lib.ListN.{length, getD}
 use lib.Dec.{ltb}
 use borrow.Author.Tests.{ltb-true}
 use Rattle.model.specs.declared.Source.{Source}
-use Rattle.model.specs.declared.Source.the-variants.{Fixed, Paced}
+use Rattle.model.specs.declared.Source.the-variants.{Fixed, Paced, Swung}
 use Rattle.model.specs.declared.Description.{Description}
 use Rattle.model.specs.declared.Outcome.the-variants.{Done}
 use Rattle.model.specs.declared.Quote.the-variants.{Tempo}
@@ -27,6 +27,7 @@ use Rattle.model.specs.History.{Call, ticks, tickAt, fires, waitOf}
 use Rattle.model.specs.Report.{reportOf}
 use Rattle.model.specs.Page.{HeldLine, FromPage}
 use Rattle.model.specs.Figures.{box, boxFile, boxPage, twin}
+use Rattle.model.specs.SwingFigures.{swungBox}
 use Rattle.model.proofs.Figures.{figures}
 use Rattle.lemmas.proofs.Range.{all-at}
 use Rattle.lemmas.proofs.Decimal.{every-at}
@@ -46,11 +47,13 @@ computing = 0
 fits : Source → Bool
 fits (Fixed m) = ltb m (2 ^ 32)
 fits (Paced p) = ltb p (2 ^ 16)
+fits (Swung p swing) = ltb p (2 ^ 16)
 
 source-fits : (s : Source) → fits s ≡ true → SourceFits s
 unfolding fits
 source-fits (Fixed m) e = ltb-true m (2 ^ 32) e
 source-fits (Paced p) e = ltb-true p (2 ^ 16) e
+source-fits (Swung p swing) e = ltb-true p (2 ^ 16) e
 
 widths-by : (d : Description) → allN (λ k. ltb (getD (d .runs) k 0) (2 ^ 32)) 0 (d .«task_count») ≡ true → allN (λ k. fits (getD (d .sources) k noSource .source)) 0 (d .«source_count») ≡ true → Widths d
 widths-by d e f = record {
@@ -103,6 +106,29 @@ box-paper =
 
 pub box-line : HeldLine box 1783 3 33 2 700 701
 box-line = rw (figures .p2-read) at (box-paper .held 3 33 2 700 701 (3, omega (arith, figures .page-box-lines), figures .page-box-link-3))
+
+-- Box with a swing of 66: quoted at 121.2
+swung-widths : Widths swungBox
+unfolding computing fits
+swung-widths = widths-by swungBox refl refl
+
+swung-judged : judge swungBox ≡ Done
+unfolding computing
+swung-judged = refl
+
+swung-held : allHeld swungBox 1212 ≡ true
+unfolding computing
+swung-held = refl
+
+swung-doubtful : allHeld swungBox 1213 ≡ false
+unfolding computing
+swung-doubtful = refl
+
+pub swung-quote : quoteOf swungBox ≡ Tempo 1212
+swung-quote = quote-by swungBox 1212 swung-widths swung-judged (omega arith) (omega arith) swung-held (λ h. swung-doubtful)
+
+pub swung-assured : (t : ℕ) → 200 ≤ t → t ≤ 1212 → (cs : List Call) → AssuredOf swungBox 1212 t cs
+swung-assured t low high cs = plain-assured swungBox 1212 t swung-widths swung-quote low high cs
 
 -- Twin with spacing 9: quoted at 300.0
 twin-widths : Widths (twin 9)

@@ -5,7 +5,8 @@ use model::Progress;
 use model::Refusal;
 use model::Source;
 ghost use mathlib.Core.Path.{_≡_};
-ghost use mathlib.Core.Bool.{true, _||_};
+ghost use mathlib.Core.Bool.{true, _||_, _&&_};
+ghost use lib.Dec.{leb};
 ghost use Rattle.model.specs.Field.{inTurn, hasRoom, onScale, hasEnds, isTask, isSource, checkField, passed};
 
 // Whether a field comes in its turn.
@@ -30,15 +31,23 @@ fn has_room(p: Progress, f: Field) -> bool
     }
 }
 
+// Whether a number is in a range.
+fn within(low: u32, x: u32, high: u32) -> bool
+    ensures { λ r. ⌜ r ≡ (leb low x && leb x high) ⌝ }
+{
+    low <= x && x <= high
+}
+
 // Whether the numbers of a field are in their ranges.
 fn on_scale(f: Field) -> bool
     ensures { λ r. ⌜ r ≡ onScale f ⌝ }
 {
     match f {
-        Field::OfTask(e) => 1 <= e && e <= 10000000,
+        Field::OfTask(e) => within(1, e, 10000000),
         Field::OfSource(s) => match s {
-            Source::Fixed(m) => 1 <= m && m <= 1000000000,
-            Source::Paced(n) => 1 <= n && n <= 960,
+            Source::Fixed(m) => within(1, m, 1000000000),
+            Source::Paced(n) => within(1, n as u32, 960),
+            Source::Swung(n, swing) => within(1, n as u32, 960) && within(51, swing as u32, 75),
         },
         Field::OfLink(l) => l.critical <= 1,
     }

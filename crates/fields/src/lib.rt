@@ -6,9 +6,10 @@ use model::Refusal;
 use model::Source;
 use model::Taken;
 ghost use mathlib.Core.Path.{_≡_};
+ghost use mathlib.Core.Bool.{true};
 ghost use Prim.Native.Nat.{_+_, _≤_, _<_};
 ghost use lib.ListN.{length, getD};
-ghost use Rattle.model.specs.Field.{numberIn, bodyLength, fieldIn, takeField, fieldOf, fieldBytes};
+ghost use Rattle.model.specs.Field.{numberIn, lengthFits, pacedIn, fieldIn, takeField, fieldOf, fieldBytes};
 
 pub mod reader;
 
@@ -42,23 +43,35 @@ fn word_at(s: &[u8], at: usize) -> u32
     ((a * 256 + b) * 256 + c) * 256 + d
 }
 
-// The length of the body that a tag has.
-fn body_length(tag: u8) -> u16
-    ensures { λ r. ⌜ r ≡ bodyLength tag ⌝ }
+// Whether a length is the tag's.
+fn length_fits(tag: u8, n: u16) -> bool
+    ensures { λ r. ⌜ r ≡ lengthFits tag n ⌝ }
 {
     if tag <= 2 {
-        return 4;
+        return n == 4;
     }
     if tag == 3 {
-        return 2;
+        return n == 2 || n == 3;
     }
-    3
+    n == 3
 }
 
-// The field of a tag whose body begins at b.
-fn field_in(s: &[u8], tag: u8, b: usize) -> Field
-    requires { ⌜ b + bodyLength tag ≤ length (now s) ⌝ }
-    ensures { λ r. ⌜ r ≡ fieldIn (now (s .entry)) tag b ⌝ }
+// A paced source whose body begins at b and has n bytes.
+fn paced_in(s: &[u8], b: usize, n: u16) -> Source
+    requires { ⌜ (lengthFits 3 n ≡ true) × (b + n ≤ length (now s)) ⌝ }
+    ensures { λ r. ⌜ r ≡ pacedIn (now (s .entry)) b n ⌝ }
+{
+    let pulses = half_at(s, b);
+    if n == 2 {
+        return Source::Paced(pulses);
+    }
+    Source::Swung(pulses, s[b + 2])
+}
+
+// The field of a tag whose body begins at b and has n bytes.
+fn field_in(s: &[u8], tag: u8, b: usize, n: u16) -> Field
+    requires { ⌜ (lengthFits tag n ≡ true) × (b + n ≤ length (now s)) ⌝ }
+    ensures { λ r. ⌜ r ≡ fieldIn (now (s .entry)) tag b n ⌝ }
 {
     if tag == 1 {
         return Field::OfTask(word_at(s, b));
@@ -67,7 +80,7 @@ fn field_in(s: &[u8], tag: u8, b: usize) -> Field
         return Field::OfSource(Source::Fixed(word_at(s, b)));
     }
     if tag == 3 {
-        return Field::OfSource(Source::Paced(half_at(s, b)));
+        return Field::OfSource(paced_in(s, b, n));
     }
     Field::OfLink(Link {
         from: s[b],
@@ -94,14 +107,14 @@ pub fn field_at(s: &[u8], at: usize) -> Taken
     if 4 < tag {
         return Taken::Broken(Refusal::StrangeTag);
     }
-    let size = body_length(tag);
-    if half_at(s, at + 1) != size {
+    let size = half_at(s, at + 1);
+    if !length_fits(tag, size) {
         return Taken::Broken(Refusal::WrongLength);
     }
     if left - 3 < size as usize {
         return Taken::Broken(Refusal::CutShort);
     }
-    Taken::Whole(field_in(s, tag, at + 3), at + 3 + size as usize)
+    Taken::Whole(field_in(s, tag, at + 3, size), at + 3 + size as usize)
 }
 
 // Field k of a record's file.
@@ -132,6 +145,7 @@ pub fn field_length(f: Field) -> usize
         Field::OfSource(s) => match s {
             Source::Fixed(_) => 7,
             Source::Paced(_) => 5,
+            Source::Swung(_, _) => 6,
         },
         Field::OfLink(_) => 6,
     }

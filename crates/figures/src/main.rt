@@ -1,10 +1,12 @@
-// The figures of document 01, document 000's printed example and published response times, run and compared. A line for each group says how many agree.
+// The figures of document 01 and its change requests, document 000's printed example and published response times, run and compared. A line for each group says how many agree.
 
 use cases::Tally;
 use libc::STDOUT_FILENO;
 use model::Description;
 use model::Link;
 use model::Machine;
+use model::Source;
+use model::SourceSlot;
 
 mod build;
 mod calls;
@@ -13,6 +15,20 @@ mod cases;
 // Document 01's Box.
 const BOX: [u8; 57] =
     *b"\x01\x00\x04\x00\x00\x01\x90\x01\x00\x04\x00\x00\x01\x2c\x01\x00\x04\x00\x00\x00\xc8\x03\x00\x02\x01\xe0\x02\x00\x04\x00\x00\x07\xd0\x04\x00\x03\x02\x01\x00\x04\x00\x03\x02\x03\x01\x04\x00\x03\x21\x02\x01\x04\x00\x03\x22\x03\x01";
+
+// Box with a swing of 66.
+const SWUNG_BOX: [u8; 58] =
+    *b"\x01\x00\x04\x00\x00\x01\x90\x01\x00\x04\x00\x00\x01\x2c\x01\x00\x04\x00\x00\x00\xc8\x03\x00\x03\x01\xe0\x42\x02\x00\x04\x00\x00\x07\xd0\x04\x00\x03\x02\x01\x00\x04\x00\x03\x02\x03\x01\x04\x00\x03\x21\x02\x01\x04\x00\x03\x22\x03\x01";
+
+// A task of run 1, a paced source with a swing, and the critical link between them.
+fn swung(pulses: u16, swing: u8) -> [u8; 19] {
+    let mut file =
+        *b"\x01\x00\x04\x00\x00\x00\x01\x03\x00\x03\x00\x00\x00\x04\x00\x03\x21\x01\x01";
+    file[10] = (pulses / 256 % 256) as u8;
+    file[11] = (pulses % 256) as u8;
+    file[12] = swing;
+    file
+}
 
 // Document 01's Twin: runs 2, 2, 2; links 1>3, 2>3, 33>1, 33>2, all critical.
 fn twin(spacing: u8) -> [u8; 52] {
@@ -122,6 +138,78 @@ fn pulses() -> Tally {
     let t = cases::reads(t, b"\x01\x00\x04\x00\x00\x00\x01\x03\x00\x02\x00\x01", 0, 0);
     let t = cases::reads(t, b"\x01\x00\x04\x00\x00\x00\x01\x03\x00\x02\x03\xc0", 0, 0);
     cases::reads(t, b"\x01\x00\x04\x00\x00\x00\x01\x03\x00\x02\x03\xc1", 6, 7)
+}
+
+// A swing is 51 to 75, also where the pulses are good, and straight time has no third byte.
+fn swings() -> Tally {
+    let t = cases::none();
+    let t = cases::reads(t, &swung(480, 0), 6, 7);
+    let t = cases::reads(t, &swung(480, 49), 6, 7);
+    let t = cases::reads(t, &swung(480, 50), 6, 7);
+    let t = cases::reads(t, &swung(480, 51), 0, 0);
+    let t = cases::reads(t, &swung(480, 75), 0, 0);
+    let t = cases::reads(t, &swung(480, 76), 6, 7);
+    let t = cases::reads(t, &swung(480, 255), 6, 7);
+    let t = cases::reads(t, &swung(0, 66), 6, 7);
+    let t = cases::reads(t, &swung(1, 66), 0, 0);
+    let t = cases::reads(t, &swung(960, 66), 0, 0);
+    cases::reads(t, &swung(961, 66), 6, 7)
+}
+
+// Of a paced source the lengths 2 and 3 are right, any other is 3, told before a body that passes the end.
+fn lengths() -> Tally {
+    let t = cases::none();
+    let t = cases::reads(t, b"\x01\x00\x04\x00\x00\x00\x01\x03\x00\x00", 3, 7);
+    let t = cases::reads(t, b"\x01\x00\x04\x00\x00\x00\x01\x03\x00\x01\x18", 3, 7);
+    let t = cases::reads(t, b"\x01\x00\x04\x00\x00\x00\x01\x03\x00\x02\x00\x18", 0, 0);
+    let t = cases::reads(t, b"\x01\x00\x04\x00\x00\x00\x01\x03\x00\x02\x00", 1, 7);
+    let t = cases::reads(t, b"\x01\x00\x04\x00\x00\x00\x01\x03\x00\x03\x00\x18\x42", 0, 0);
+    let t = cases::reads(t, b"\x01\x00\x04\x00\x00\x00\x01\x03\x00\x03\x00\x18", 1, 7);
+    let t = cases::reads(t, b"\x01\x00\x04\x00\x00\x00\x01\x03\x00\x04\x00\x18\x42\x42", 3, 7);
+    let t = cases::reads(t, b"\x01\x00\x04\x00\x00\x00\x01\x03\x00\x04\x00", 3, 7);
+    cases::reads(t, b"\x01\x00\x04\x00\x00\x00\x01\x03\x01\x03\x00\x18\x42", 3, 7)
+}
+
+// C-11: 480 pulses at 120.0 with the swings 66 and 75; the least and the widest spacing with a swing.
+fn swung_spacings() -> Tally {
+    let t = cases::none();
+    let t = cases::held(t, &swung(480, 66), 1200, 1, 1, 708);
+    let t = cases::held(t, &swung(480, 75), 1200, 1, 1, 520);
+    let t = cases::held(t, &swung(960, 75), 3000, 1, 1, 104);
+    cases::held(t, &swung(1, 51), 200, 1, 1, 2940000)
+}
+
+// Box with a swing of 66: its report, its file, its field from a reading place, its quote, and its first source's age at a start.
+fn swung_box() -> Tally {
+    let d = calls::described(&SWUNG_BOX);
+    let t = cases::reports(
+        cases::none(),
+        &SWUNG_BOX,
+        b"tempo 121.2\nlink 1 2>1 free\nlink 2 2>3 held order\nlink 3 33>2 held 700 of 701\nlink 4 34>3 held 400 of 2000\n",
+    );
+    let t = cases::writes_back(t, &SWUNG_BOX);
+    let t = calls::takes_field(t, &SWUNG_BOX, 21, 27);
+    let t = cases::doubtful(t, &SWUNG_BOX, 1213, 3, 700);
+    let t = calls::quotes(t, d, 0, 1212);
+    let t = calls::starts(t, d, 1200, 0, 708);
+    let mut straight = d;
+    straight.sources[0] = SourceSlot {
+        source: Source::Swung(480, 50),
+    };
+    calls::judges(t, straight, 6, 21)
+}
+
+// A swung source on the machine: 960 pulses with a swing of 75 have at 20.0 the spacing 1,562.
+fn swung_ticks() -> Tally {
+    let d = calls::described(&swung(960, 75));
+    let first_source = calls::arriving(true, false);
+    let mut m = calls::idle(d);
+    let t = calls::shows(cases::none(), m, 0, 1562, false);
+    let t = calls::ticks_once(t, d, 200, m, first_source, 0);
+    m.ages[0] = 1561;
+    let t = calls::ticks_once(t, d, 200, m, first_source, 14);
+    m.ages[0] = 1563;
+    calls::ticks_once(t, d, 200, m, first_source, 16)
 }
 
 // A critical number is 0 or 1.
@@ -541,6 +629,8 @@ fn main() {
     print_group(b"spacings", spacings());
     print_group(b"loads", weights());
     print_group(b"pulses", pulses());
+    print_group(b"swings", swings());
+    print_group(b"lengths of a paced source", lengths());
     print_group(b"critical numbers", criticals());
     print_group(b"counts", counts());
     print_group(b"tempos", tempos());
@@ -563,4 +653,7 @@ fn main() {
     print_group(b"knob", knobs());
     print_group(b"ticks of a lent record", ticking());
     print_group(b"rules of the record", rules());
+    print_group(b"C-11, spacings", swung_spacings());
+    print_group(b"C-11, Box", swung_box());
+    print_group(b"C-11, ticks", swung_ticks());
 }

@@ -21,7 +21,7 @@ use Rattle.model.specs.declared.Check.the-variants.{Fine, Unfit}
 use Rattle.model.specs.declared.Outcome.the-variants.{Done}
 use Rattle.model.specs.declared.Reading.{Reading}
 use Rattle.model.specs.Refusals.{blank}
-use Rattle.model.specs.Field.{bodyLength, numberIn, fieldIn, takeField, checkField, passed, withField, noProgress}
+use Rattle.model.specs.Field.{lengthFits, numberIn, fieldIn, takeField, checkField, passed, withField, noProgress}
 use Rattle.model.specs.File.{refusedReading, parseFrom, parseFile}
 use Rattle.lemmas.proofs.Tests.{same-test}
 use Rattle.theory.proofs.NumberBytes.{Bytes}
@@ -38,9 +38,9 @@ number-left s a b (suc n) =
     let e : a + b + n ≡ a + (b + n) = omega arith in
     rw (e, number-left s a b n, getD-drop a s (b + n) 0)
 
-field-left : (s : List ℕ) (a t b : ℕ) → fieldIn s t (a + b) ≡ fieldIn (drop a s) t b
+field-left : (s : List ℕ) (a t b n : ℕ) → fieldIn s t (a + b) n ≡ fieldIn (drop a s) t b n
 unfolding fieldIn
-field-left s a t b =
+field-left s a t b n =
     let e : a + b + 1 ≡ a + (b + 1) = omega arith in
     let f : a + b + 2 ≡ a + (b + 2) = omega arith in
     rw (e, f, number-left s a b 4, number-left s a b 2, getD-drop a s b 0, getD-drop a s (b + 1) 0, getD-drop a s (b + 2) 0)
@@ -71,18 +71,18 @@ takenBy end left tag size f next =
     cond end End
     (cond (ltb left 3) (Broken CutShort)
     (cond (eqb tag 0 || ltb 4 tag) (Broken StrangeTag)
-    (cond (not (eqb size (bodyLength tag))) (Broken WrongLength)
-    (cond (ltb (left - 3) (bodyLength tag)) (Broken CutShort)
+    (cond (not (lengthFits tag size)) (Broken WrongLength)
+    (cond (ltb (left - 3) size) (Broken CutShort)
     (Whole f next)))))
 
-take-by : (s : List ℕ) (at : ℕ) → takeField s at ≡ takenBy (leb (length s) at) (length s - at) (getD s at 0) (numberIn s (at + 1) 2) (fieldIn s (getD s at 0) (at + 3)) (at + 3 + bodyLength (getD s at 0))
+take-by : (s : List ℕ) (at : ℕ) → takeField s at ≡ takenBy (leb (length s) at) (length s - at) (getD s at 0) (numberIn s (at + 1) 2) (fieldIn s (getD s at 0) (at + 3) (numberIn s (at + 1) 2)) (at + 3 + numberIn s (at + 1) 2)
 unfolding takeField takenBy
 take-by s at = refl
 
 taken-further : (a : ℕ) (end : Bool) (left tag size : ℕ) (f : Field) (next : ℕ) → takenBy end left tag size f (a + next) ≡ further a (takenBy end left tag size f next)
 unfolding takenBy
 taken-further a end left tag size f next =
-    further-tests a end (ltb left 3) (eqb tag 0 || ltb 4 tag) (not (eqb size (bodyLength tag))) (ltb (left - 3) (bodyLength tag)) f next
+    further-tests a end (ltb left 3) (eqb tag 0 || ltb 4 tag) (not (lengthFits tag size)) (ltb (left - 3) size) f next
 
 -- the field at a place is the one in the bytes that are left
 take-left : (s : List ℕ) (a k : ℕ) → takeField s (a + k) ≡ further a (takeField (drop a s) k)
@@ -92,8 +92,8 @@ take-left s a k =
     let one : a + k + 1 ≡ a + (k + 1) = omega arith in
     let three : a + k + 3 ≡ a + (k + 3) = omega arith in
     let size : numberIn s (a + k + 1) 2 ≡ numberIn (drop a s) (k + 1) 2 = ap (λ (x : ℕ). numberIn s x 2) one ∙ number-left s a (k + 1) 2 in
-    let f : fieldIn s (getD s (a + k) 0) (a + k + 3) ≡ fieldIn (drop a s) (getD (drop a s) k 0) (k + 3) = (λ i. fieldIn s (tag i) (three i)) ∙ field-left s a (getD (drop a s) k 0) (k + 3) in
-    let next : a + k + 3 + bodyLength (getD s (a + k) 0) ≡ a + (k + 3 + bodyLength (getD (drop a s) k 0)) = (λ i. a + k + 3 + bodyLength (tag i)) ∙ onward a k (bodyLength (getD (drop a s) k 0)) in
+    let f : fieldIn s (getD s (a + k) 0) (a + k + 3) (numberIn s (a + k + 1) 2) ≡ fieldIn (drop a s) (getD (drop a s) k 0) (k + 3) (numberIn (drop a s) (k + 1) 2) = (λ i. fieldIn s (tag i) (three i) (size i)) ∙ field-left s a (getD (drop a s) k 0) (k + 3) (numberIn (drop a s) (k + 1) 2) in
+    let next : a + k + 3 + numberIn s (a + k + 1) 2 ≡ a + (k + 3 + numberIn (drop a s) (k + 1) 2) = (λ i. a + k + 3 + size i) ∙ onward a k (numberIn (drop a s) (k + 1) 2) in
     take-by s (a + k) ∙ (λ i. takenBy (end-left s a k i) (left i) (tag i) (size i) (f i) (next i)) ∙ taken-further a _ _ _ _ _ _ ∙ ap (further a) (sym (take-by (drop a s) k))
   where
     onward : (x y z : ℕ) → x + y + 3 + z ≡ x + (y + 3 + z)

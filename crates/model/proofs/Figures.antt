@@ -17,7 +17,7 @@ use Rattle.model.specs.Report.{digits, decimal, tempoText, tempoLine, ve
 use Rattle.model.specs.Page.{linesOf, tempoWords, heldWords}
 
 -- to unfold this is to unfold every definition that a row computes with
-computing : ℕ
+unfoldable pub computing : ℕ
 unfolding sumN topN anyN allN upTo tab joined bytesOf numberIn bodyOf fieldBytes fieldIn takeField checkField fieldOf linked system walks cyclic workF work added load tooHeavy fileOf lastChecks parseFrom parseFile readFile overfull judge spacing spacingOf spacings startOf roundOf settle delayOf visit walk inOrder sourceVerdict orderVerdict verdictOf verdictAt allHeld judgeAt largestBelow quoteOf idle lawful fireLink fire arriveOne arrive highestIn runTask clearLink clearInto endRun ageOne ageAll stepped strangers tooSoon judgeTick plainTick answers left observe ticks endsWithin ticksUntil servedBefore waitOf codes digits decimal tempoText tempoLine verdictText linkLine linkLines refusedLine reportFor reportOf linesOf tempoWords heldWords
 computing = 0
 

@@ -1,3 +1,4 @@
 -- Facts about the definitions that pin them, beside them.
 pub mod Figures
+pub mod SwingFigures
 pub mod Steps

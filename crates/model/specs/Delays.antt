@@ -3,16 +3,21 @@ use Prim.Native.Nat.{ℕ, zero, suc, _+_, _-_, _*_, _/_, max}
 use mathlib.Core.Bool.{true, false}
 use lib.Dec.{ltb, eqb}
 use Rattle.model.specs.declared.Source.{Source}
-use Rattle.model.specs.declared.Source.the-variants.{Fixed, Paced}
+use Rattle.model.specs.declared.Source.the-variants.{Fixed, Paced, Swung}
 use Rattle.model.specs.declared.Description.{Description}
 use Rattle.model.specs.Basics.{sumN, topTo}
 use Rattle.model.specs.Graph.{System, sourceAt}
 use Rattle.model.specs.Loads.{load}
 
--- "a paced source with d pulses has at tempo T the spacing 600,000,000 / (T × d), rounded down. A fixed source ignores the tempo"
+-- "the spacing becomes 12,000,000 × (100 − swing) / (T × pulses), rounded down" (C-11)
+abbrev pub pacedSpacing : ℕ → ℕ → ℕ → ℕ
+pacedSpacing swing p t = 12000000 * (100 - swing) / (t * p)
+
+-- "straight time counting as 50", which is document 01's 600,000,000 / (T × d). "A fixed source ignores the tempo"
 unfoldable pub spacing : Source → ℕ → ℕ
 spacing (Fixed m) t = m
-spacing (Paced p) t = 600000000 / (t * p)
+spacing (Paced p) t = pacedSpacing 50 p t
+spacing (Swung p swing) t = pacedSpacing swing p t
 
 -- the spacing (minimum inter-arrival time) of source u at tempo t
 unfoldable pub spacingOf : Description → ℕ → ℕ → ℕ

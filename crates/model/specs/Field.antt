@@ -4,7 +4,8 @@ use mathlib.Core.Bool.{Bool, true, cond, _&&_, _||_, not}
 use mathlib.Core.List.{List, [], _∷_, _++_}
 use lib.ListN.{length, getD, set}
 use lib.Dec.{leb, ltb, eqb}
-use Rattle.model.specs.declared.Source.the-variants.{Fixed, Paced}
+use Rattle.model.specs.declared.Source.{Source}
+use Rattle.model.specs.declared.Source.the-variants.{Fixed, Paced, Swung}
 use Rattle.model.specs.declared.Description.{Description}
 use Rattle.model.specs.declared.Field.{Field}
 use Rattle.model.specs.declared.Field.the-variants.{OfTask, OfSource, OfLink}
@@ -28,32 +29,47 @@ unfoldable pub numberIn : List ℕ → ℕ → ℕ → ℕ
 numberIn s at zero = 0
 numberIn s at (suc n) = numberIn s at n * 256 + getD s (at + n) 0
 
--- the table of fields: tag, length of the body, body
+-- the table of fields: tag, length of the body, body. "A paced source may have a length of 3, the third byte being the swing in percent;
+-- straight time keeps length 2" (C-11)
 abbrev pub tagOf : Field → ℕ
 tagOf (OfTask e) = 1
 tagOf (OfSource (Fixed m)) = 2
 tagOf (OfSource (Paced p)) = 3
+tagOf (OfSource (Swung p swing)) = 3
 tagOf (OfLink l) = 4
 
-abbrev pub bodyLength : ℕ → ℕ
-bodyLength tag = cond (leb tag 2) 4 (cond (eqb tag 3) 2 3)
+abbrev pub bodyLength : Field → ℕ
+bodyLength (OfTask e) = 4
+bodyLength (OfSource (Fixed m)) = 4
+bodyLength (OfSource (Paced p)) = 2
+bodyLength (OfSource (Swung p swing)) = 3
+bodyLength (OfLink l) = 3
 
 unfoldable pub bodyOf : Field → List ℕ
 bodyOf (OfTask e) = bytesOf 4 e
 bodyOf (OfSource (Fixed m)) = bytesOf 4 m
 bodyOf (OfSource (Paced p)) = bytesOf 2 p
+bodyOf (OfSource (Swung p swing)) = bytesOf 2 p ++ (swing ∷ [])
 bodyOf (OfLink l) = l .from ∷ l .to ∷ l .critical ∷ []
 
 -- "one byte of tag, two bytes of length, the body"
 unfoldable pub fieldBytes : Field → List ℕ
-fieldBytes f = tagOf f ∷ bytesOf 2 (bodyLength (tagOf f)) ++ bodyOf f
+fieldBytes f = tagOf f ∷ bytesOf 2 (bodyLength f) ++ bodyOf f
 
--- the field of a tag whose body begins at b
-unfoldable pub fieldIn : List ℕ → ℕ → ℕ → Field
-fieldIn s tag b =
+-- whether a length is the tag's: of a paced source 2 or 3
+abbrev pub lengthFits : ℕ → ℕ → Bool
+lengthFits tag n = cond (leb tag 2) (eqb n 4) (cond (eqb tag 3) (eqb n 2 || eqb n 3) (eqb n 3))
+
+-- a paced source whose body begins at b and has n bytes: straight in two, and in three with a swing
+abbrev pub pacedIn : List ℕ → ℕ → ℕ → Source
+pacedIn s b n = cond (eqb n 2) (Paced (numberIn s b 2)) (Swung (numberIn s b 2) (getD s (b + 2) 0))
+
+-- the field of a tag whose body begins at b and has n bytes
+unfoldable pub fieldIn : List ℕ → ℕ → ℕ → ℕ → Field
+fieldIn s tag b n =
     cond (eqb tag 1) (OfTask (numberIn s b 4))
     (cond (eqb tag 2) (OfSource (Fixed (numberIn s b 4)))
-    (cond (eqb tag 3) (OfSource (Paced (numberIn s b 2)))
+    (cond (eqb tag 3) (OfSource (pacedIn s b n))
     (OfLink (record { from = getD s b 0; to = getD s (b + 1) 0; critical = getD s (b + 2) 0 }))))
 
 -- the field at a reading place, checked for a "whole header (1), tag (2), length (3), whole body (1)"
@@ -62,9 +78,9 @@ takeField s at =
     cond (leb (length s) at) End
     (cond (ltb (length s - at) 3) (Broken CutShort)
     (cond (eqb (getD s at 0) 0 || ltb 4 (getD s at 0)) (Broken StrangeTag)
-    (cond (not (eqb (numberIn s (at + 1) 2) (bodyLength (getD s at 0)))) (Broken WrongLength)
-    (cond (ltb (length s - at - 3) (bodyLength (getD s at 0))) (Broken CutShort)
-    (Whole (fieldIn s (getD s at 0) (at + 3)) (at + 3 + bodyLength (getD s at 0)))))))
+    (cond (not (lengthFits (getD s at 0) (numberIn s (at + 1) 2))) (Broken WrongLength)
+    (cond (ltb (length s - at - 3) (numberIn s (at + 1) 2)) (Broken CutShort)
+    (Whole (fieldIn s (getD s at 0) (at + 3) (numberIn s (at + 1) 2)) (at + 3 + numberIn s (at + 1) 2))))))
 
 -- one step from a reading place: past a whole field; a refused one, with "the offset of the field's tag", and the end leave the place where it is
 abbrev pub stepOf : Taken → ℕ → Step
@@ -93,11 +109,13 @@ hasRoom p (OfTask e) = ltb (p .tasks) 32
 hasRoom p (OfSource s) = ltb (p .sources) 16
 hasRoom p (OfLink l) = ltb (p .links) 256
 
--- "longest run 1 to 10,000,000; least spacing 1 to 1,000,000,000; pulses 1 to 960; critical 0 or 1"
+-- "longest run 1 to 10,000,000; least spacing 1 to 1,000,000,000; pulses 1 to 960; critical 0 or 1"; "the swing in percent, 51 to 75",
+-- "a third byte of 50 is off scale, so a description still has one file only" (C-11)
 abbrev pub onScale : Field → Bool
 onScale (OfTask e) = leb 1 e && leb e 10000000
 onScale (OfSource (Fixed m)) = leb 1 m && leb m 1000000000
 onScale (OfSource (Paced p)) = leb 1 p && leb p 960
+onScale (OfSource (Swung p swing)) = (leb 1 p && leb p 960) && (leb 51 swing && leb swing 75)
 onScale (OfLink l) = leb (l .critical) 1
 
 -- "the first task is number 1", "the first source is number 33, whatever the count of tasks"; a node is a task or a source

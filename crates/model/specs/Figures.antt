@@ -65,8 +65,11 @@ boxFile =
     0x04 ∷ 0x00 ∷ 0x03 ∷ 0x02 ∷ 0x03 ∷ 0x01 ∷ 0x04 ∷ 0x00 ∷ 0x03 ∷ 0x21 ∷ 0x02 ∷ 0x01 ∷
     0x04 ∷ 0x00 ∷ 0x03 ∷ 0x22 ∷ 0x03 ∷ 0x01 ∷ []
 
+abbrev pub boxWith : Source → Description
+boxWith pulse = describe (400 ∷ 300 ∷ 200 ∷ []) (pulse ∷ Fixed 2000 ∷ []) (free 2 1 ∷ critical 2 3 ∷ critical 33 2 ∷ critical 34 3 ∷ [])
+
 abbrev pub box : Description
-box = describe (400 ∷ 300 ∷ 200 ∷ []) (Paced 480 ∷ Fixed 2000 ∷ []) (free 2 1 ∷ critical 2 3 ∷ critical 33 2 ∷ critical 34 3 ∷ [])
+box = boxWith (Paced 480)
 
 -- what Box "prints", five lines
 abbrev pub boxPage : List ℕ

@@ -6,7 +6,7 @@ use mathlib.Core.Path.{_≡_}
 use lib.ListN.{length, getD, take, drop, replicate}
 use lib.Dec.{eqb, ltb}
 use Rattle.model.specs.declared.Source.{Source}
-use Rattle.model.specs.declared.Source.the-variants.{Fixed, Paced}
+use Rattle.model.specs.declared.Source.the-variants.{Fixed, Paced, Swung}
 use Rattle.model.specs.declared.Description.{Description}
 use Rattle.model.specs.declared.Field.{Field}
 use Rattle.model.specs.declared.Refusal.{Refusal}
@@ -27,10 +27,11 @@ use Rattle.model.specs.Field.{fieldBytes, takeField, checkField, withFie
 use Rattle.model.specs.Graph.{system, cyclic}
 use Rattle.model.specs.Loads.{tooHeavy, sheet, noRow}
 
--- the numbers of a record below its counts fit the widths that its type and the file have for them; of links the bytes are given
+-- the numbers of a record below its counts fit the widths that its type and the file have for them; of links and of a swing the bytes are given
 abbrev pub SourceFits : Source → Type 0
 SourceFits (Fixed m) = m < 2 ^ 32
 SourceFits (Paced p) = p < 2 ^ 16
+SourceFits (Swung p swing) = p < 2 ^ 16
 
 pub record Widths (d : Description) : Type 0 where
   pub run-width : (k : ℕ) → k < d .«task_count» → getD (d .runs) k 0 < 2 ^ 32

@@ -15,3 +15,4 @@ pub mod Promise
 pub mod Run
 pub mod Page
 pub mod Figures
+pub mod SwingFigures

@@ -1,10 +1,12 @@
 // The types that the definitions of `specs/` and every other crate share: a firmware description, the refusals,
 // the answers of the calls and the tick machine's record. There is no code here.
 
-// A source: the minimum inter-arrival time in ticks (document 01's spacing), or the pulses per quarter note that give it.
+// A source: the minimum inter-arrival time in ticks (document 01's spacing), or the pulses per quarter note that give it, in straight time or
+// with a swing in percent.
 pub enum Source {
     Fixed(u32),
     Paced(u16),
+    Swung(u16, u8),
 }
 
 pub struct SourceSlot {

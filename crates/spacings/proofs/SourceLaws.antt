@@ -1,38 +1,57 @@
--- Sources in plain numbers, one after the other. Assumes nothing.
-use Prim.Native.Nat.{ℕ, _+_, _<_}
-use mathlib.Core.Path.{_≡_, refl, _∙_}
-use mathlib.Core.Bool.{Bool, false}
+-- Sources in plain numbers: their spacings, and one source after the other. Assumes nothing.
+use Prim.Native.Nat.{ℕ, _+_, _≤_, _<_}
+use mathlib.Core.Path.{_≡_, refl, sym, _∙_}
+use mathlib.Core.Bool.{true}
 use mathlib.Core.List.{List}
 use native.Mathlib.Omega.{arith}
 use lib.ListN.{length, getD, set, length-set}
 use lib.Seq.{getD-set-same, getD-set-other}
+use borrow.Author.Tests.{ne-eqb}
 use Rattle.model.specs.declared.Source.{Source}
-use Rattle.model.specs.declared.Source.the-variants.{Fixed, Paced}
+use Rattle.model.specs.declared.Source.the-variants.{Fixed, Paced, Swung}
 use Rattle.model.specs.declared.Description.{Description}
+use Rattle.model.specs.declared.Field.the-variants.{OfSource}
 use Rattle.model.specs.Refusals.{noSource}
+use Rattle.model.specs.Field.{onScale}
+use Rattle.model.specs.Delays.{spacing}
 use Rattle.lemmas.proofs.Tests.{Cmp, less, same, more, cmp}
-use Rattle.spacings.specs.Sources.{numberIn, pacedIn, sourceBy}
+use Rattle.theory.proofs.Spacing.{paced-scale, swung-scale}
+use Rattle.spacings.specs.Sources.{ticksIn, pulsesIn, spacingBy, PlainOf}
 
--- a source from its number and its kind
-source-back : (s : Source) → sourceBy (pacedIn s) (numberIn s) ≡ s
-source-back (Fixed m) = refl
-source-back (Paced p) = refl
+-- the spacing of a source from its plain numbers
+source-spacing : (x : Source) (t : ℕ) → onScale (OfSource x) ≡ true → spacing x t ≡ spacingBy (ticksIn x) (pulsesIn x) t
+unfolding spacing
+source-spacing (Fixed m) t c = refl
+source-spacing (Paced p) t c = rw (ne-eqb p 0 (λ e. omega (arith, paced-scale p c .0)))
+source-spacing (Swung p swing) t c = rw (ne-eqb p 0 (λ e. omega (arith, swung-scale p swing c .0)))
+
+source-pulses : (x : Source) → onScale (OfSource x) ≡ true → pulsesIn x ≤ 960
+source-pulses (Fixed m) c = omega arith
+source-pulses (Paced p) c = paced-scale p c .1
+source-pulses (Swung p swing) c = swung-scale p swing c .1
+
+module _ {x : Source} {ticks pulses : ℕ} (k : PlainOf x ticks pulses) where
+  pub plain-spacing : (t : ℕ) → spacingBy ticks pulses t ≡ spacing x t
+  plain-spacing t = rw (k .ticks-are, k .pulses-are) (sym (source-spacing x t (k .on)))
+
+  pub plain-pulses : pulses ≤ 960
+  plain-pulses = rw (k .pulses-are) (source-pulses x (k .on))
 
 -- the first n sources
-pub record SourcesTo (d : Description) (numbers : List ℕ) (paced : List Bool) (n : ℕ) : Type 0 where
-  pub numbers-sized : length numbers ≡ 16
-  pub paced-sized : length paced ≡ 16
-  pub at : (u : ℕ) → u < n → sourceBy (getD paced u false) (getD numbers u 0) ≡ getD (d .sources) u noSource .source
+pub record SourcesTo (d : Description) (ticks pulses : List ℕ) (n : ℕ) : Type 0 where
+  pub ticks-sized : length ticks ≡ 16
+  pub pulses-sized : length pulses ≡ 16
+  pub at : (u : ℕ) → u < n → PlainOf (getD (d .sources) u noSource .source) (getD ticks u 0) (getD pulses u 0)
 
-pub sources-more : (d : Description) (numbers : List ℕ) (paced : List Bool) (n f : ℕ) (p : Bool) → n < 16 → f ≡ numberIn (getD (d .sources) n noSource .source) → p ≡ pacedIn (getD (d .sources) n noSource .source) → SourcesTo d numbers paced n → SourcesTo d (set numbers n f) (set paced n p) (n + 1)
-sources-more d numbers paced n f p h a b r =
+pub sources-more : (d : Description) (ticks pulses : List ℕ) (n a b : ℕ) → n < 16 → PlainOf (getD (d .sources) n noSource .source) a b → SourcesTo d ticks pulses n → SourcesTo d (set ticks n a) (set pulses n b) (n + 1)
+sources-more d ticks pulses n a b h k r =
     record {
-      numbers-sized = length-set numbers n f ∙ r .numbers-sized;
-      paced-sized = length-set paced n p ∙ r .paced-sized;
+      ticks-sized = length-set ticks n a ∙ r .ticks-sized;
+      pulses-sized = length-set pulses n b ∙ r .pulses-sized;
       at = λ u q. go u q (cmp u n);
     }
   where
-    go : (u : ℕ) → u < n + 1 → Cmp u n → sourceBy (getD (set paced n p) u false) (getD (set numbers n f) u 0) ≡ getD (d .sources) u noSource .source
-    go u q (less x) = rw (getD-set-other numbers n u f 0 (λ e. omega arith), getD-set-other paced n u p false (λ e. omega arith)) (r .at u x)
-    go u q (same x) = rw (x, getD-set-same numbers n f 0 (omega (arith, r .numbers-sized)), getD-set-same paced n p false (omega (arith, r .paced-sized)), a, b) (source-back (getD (d .sources) n noSource .source))
+    go : (u : ℕ) → u < n + 1 → Cmp u n → PlainOf (getD (d .sources) u noSource .source) (getD (set ticks n a) u 0) (getD (set pulses n b) u 0)
+    go u q (less x) = rw (getD-set-other ticks n u a 0 (λ e. omega arith), getD-set-other pulses n u b 0 (λ e. omega arith)) (r .at u x)
+    go u q (same x) = rw (x, getD-set-same ticks n a 0 (omega (arith, r .ticks-sized)), getD-set-same pulses n b 0 (omega (arith, r .pulses-sized))) k
     go u q (more x) = absurd (omega arith)

@@ -4,9 +4,9 @@ use mathlib.Core.Path.{_≡_}
 use mathlib.Core.List.{List}
 use lib.ListN.{getD}
 use Rattle.model.specs.declared.Description.{Description}
-use Rattle.model.specs.Delays.{spacing, spacingOf}
+use Rattle.model.specs.Delays.{spacingOf}
 use Rattle.spacings.specs.declared.Sources.{Sources}
-use Rattle.spacings.specs.Sources.{sourceIn}
+use Rattle.spacings.specs.Sources.{spacingBy}
 
 -- spacings of n sources from the scale
 pub record Fit (n : ℕ) (gaps : List ℕ) : Type 0 where
@@ -24,5 +24,5 @@ GapsOf d t gaps = GapsIn (spacingOf d t) (d .«source_count») gaps
 
 -- the same of sources in plain numbers
 pub record GapsBy (s : Sources) (t : ℕ) (gaps : List ℕ) : Type 0 where
-  pub at : (u : ℕ) → u < s .count → getD gaps u 0 ≡ spacing (sourceIn s u) t
+  pub at : (u : ℕ) → u < s .count → getD gaps u 0 ≡ spacingBy (getD (s .ticks) u 0) (getD (s .pulses) u 0) t
   pub fit : Fit (s .count) gaps

@@ -1,40 +1,48 @@
--- A description's sources in plain numbers.
-use Prim.Native.Nat.{ℕ, _≤_, _<_}
+-- A description's sources in plain numbers, from which their spacings are worked out.
+use Prim.Native.Nat.{ℕ, _-_, _*_, _/_, _≤_, _<_}
 use mathlib.Core.Path.{_≡_}
-use mathlib.Core.Bool.{Bool, true, false}
+use mathlib.Core.Bool.{true, cond}
+use lib.Dec.{eqb}
 use lib.ListN.{getD}
 use Rattle.model.specs.declared.Source.{Source}
-use Rattle.model.specs.declared.Source.the-variants.{Fixed, Paced}
+use Rattle.model.specs.declared.Source.the-variants.{Fixed, Paced, Swung}
 use Rattle.model.specs.declared.Description.{Description}
 use Rattle.model.specs.declared.Field.the-variants.{OfSource}
 use Rattle.model.specs.Refusals.{noSource}
 use Rattle.model.specs.Field.{onScale}
 use Rattle.spacings.specs.declared.Sources.{Sources}
 
--- a source's number: of pulses where it is paced
-abbrev pub numberIn : Source → ℕ
-numberIn (Fixed m) = m
-numberIn (Paced p) = p
+-- a source's ticks: of a paced one what tempo and pulses divide
+abbrev pub pacedTicks : ℕ → ℕ
+pacedTicks swing = 12000000 * (100 - swing)
 
-abbrev pub pacedIn : Source → Bool
-pacedIn (Fixed m) = false
-pacedIn (Paced p) = true
+abbrev pub ticksIn : Source → ℕ
+ticksIn (Fixed m) = m
+ticksIn (Paced p) = pacedTicks 50
+ticksIn (Swung p swing) = pacedTicks swing
 
--- the source of a number
-abbrev pub sourceBy : Bool → ℕ → Source
-sourceBy true n = Paced n
-sourceBy false n = Fixed n
+-- a source's pulses, 0 of a fixed one
+abbrev pub pulsesIn : Source → ℕ
+pulsesIn (Fixed m) = 0
+pulsesIn (Paced p) = p
+pulsesIn (Swung p swing) = p
 
--- the source at place u of the plain numbers
-abbrev pub sourceIn : Sources → ℕ → Source
-sourceIn s u = sourceBy (getD (s .paced) u false) (getD (s .numbers) u 0)
+-- the spacing at a tempo, from these two numbers
+abbrev pub spacingBy : ℕ → ℕ → ℕ → ℕ
+spacingBy ticks pulses t = cond (eqb pulses 0) ticks (ticks / (t * pulses))
+
+-- they are those of a source on the scale
+pub record PlainOf (x : Source) (ticks pulses : ℕ) : Type 0 where
+  pub on : onScale (OfSource x) ≡ true
+  pub ticks-are : ticks ≡ ticksIn x
+  pub pulses-are : pulses ≡ pulsesIn x
 
 -- they are the sources of a description
 pub record SourcesOf (d : Description) (s : Sources) : Type 0 where
   pub counted : s .count ≡ d .«source_count»
-  pub at : (u : ℕ) → u < s .count → sourceIn s u ≡ getD (d .sources) u noSource .source
+  pub at : (u : ℕ) → u < s .count → PlainOf (getD (d .sources) u noSource .source) (getD (s .ticks) u 0) (getD (s .pulses) u 0)
 
--- at most 16, and each on the scale
+-- at most 16, and each that of some source on the scale
 pub record Scaled (s : Sources) : Type 0 where
   pub few : s .count ≤ 16
-  pub on : (u : ℕ) → u < s .count → onScale (OfSource (sourceIn s u)) ≡ true
+  pub at : (u : ℕ) → u < s .count → (x : Source) × PlainOf x (getD (s .ticks) u 0) (getD (s .pulses) u 0)

@@ -6,17 +6,17 @@ ghost use mathlib.Core.Bool.{true};
 ghost use Prim.Native.Nat.{_≤_};
 ghost use Rattle.model.specs.declared.Field.the-variants.{OfSource};
 ghost use Rattle.model.specs.Field.{onScale};
-ghost use Rattle.model.specs.Delays.{spacing};
 ghost use Rattle.model.specs.Verdicts.{onKnob};
 ghost use Rattle.theory.proofs.WellFormed.{WellFormed};
-ghost use Rattle.spacings.specs.Sources.{numberIn, pacedIn, sourceBy, SourcesOf, Scaled};
+ghost use Rattle.spacings.specs.Sources.{pacedTicks, ticksIn, pulsesIn, spacingBy, SourcesOf, Scaled};
 ghost use Rattle.spacings.specs.Gaps.{GapsBy, GapsOf};
 
-// The sources of a description in plain numbers: for each its pulses where it is paced, else its ticks.
+// The sources of a description in plain numbers: a paced one has pulses, and its spacing is its ticks divided by tempo and pulses; of a fixed one
+// the pulses are 0, and its spacing is its ticks.
 pub struct Sources {
     pub count: usize,
-    pub numbers: [u32; 16],
-    pub paced: [bool; 16],
+    pub ticks: [u32; 16],
+    pub pulses: [u32; 16],
 }
 
 // Whether a tempo is on the knob (11).
@@ -26,23 +26,34 @@ pub fn on_knob(t: u32) -> bool
     200 <= t && t <= 3000
 }
 
-// A source's number.
-fn number_in(source: Source) -> u32
-    ensures { λ r. ⌜ r ≡ numberIn source ⌝ }
+// The ticks of a paced source: the one rule for all of them, straight time counting as a swing of 50.
+fn paced_ticks(swing: u8) -> u32
+    requires { ⌜ swing ≤ 100 ⌝ }
+    ensures { λ r. ⌜ r ≡ pacedTicks swing ⌝ }
+{
+    12000000 * (100 - swing as u32)
+}
+
+// A source's ticks.
+fn ticks_in(source: Source) -> u32
+    requires { ⌜ onScale (OfSource source) ≡ true ⌝ }
+    ensures { λ r. ⌜ r ≡ ticksIn source ⌝ }
 {
     match source {
         Source::Fixed(m) => m,
-        Source::Paced(p) => p as u32,
+        Source::Paced(_) => paced_ticks(50),
+        Source::Swung(_, swing) => paced_ticks(swing),
     }
 }
 
-// Whether a source is paced.
-fn is_paced(source: Source) -> bool
-    ensures { λ r. ⌜ r ≡ pacedIn source ⌝ }
+// A source's pulses.
+fn pulses_in(source: Source) -> u32
+    ensures { λ r. ⌜ r ≡ pulsesIn source ⌝ }
 {
     match source {
-        Source::Fixed(_) => false,
-        Source::Paced(_) => true,
+        Source::Fixed(_) => 0,
+        Source::Paced(p) => p as u32,
+        Source::Swung(p, _) => p as u32,
     }
 }
 
@@ -51,32 +62,32 @@ pub fn sources_of(d: Description) -> Sources
     requires { ⌜ WellFormed d ⌝ }
     ensures { λ r. ⌜ SourcesOf d r ⌝ }
 {
-    let mut numbers = [0u32; 16];
-    let mut paced = [false; 16];
+    let mut ticks = [0u32; 16];
+    let mut pulses = [0u32; 16];
     let mut u: usize = 0;
     while u < d.source_count {
         let slot = d.sources[u];
         let source = slot.source;
-        numbers[u] = number_in(source);
-        paced[u] = is_paced(source);
+        ticks[u] = ticks_in(source);
+        pulses[u] = pulses_in(source);
         u += 1;
     }
     Sources {
         count: d.source_count,
-        numbers,
-        paced,
+        ticks,
+        pulses,
     }
 }
 
 // The spacing of a source at tempo t.
-fn spacing_by(number: u32, paced: bool, t: u32) -> u32
-    requires { ⌜ (onScale (OfSource (sourceBy paced number)) ≡ true) × (200 ≤ t) × (t ≤ 3000) ⌝ }
-    ensures { λ r. ⌜ r ≡ spacing (sourceBy paced number) t ⌝ }
+fn spacing_by(ticks: u32, pulses: u32, t: u32) -> u32
+    requires { ⌜ (pulses ≤ 960) × (200 ≤ t) × (t ≤ 3000) ⌝ }
+    ensures { λ r. ⌜ r ≡ spacingBy ticks pulses t ⌝ }
 {
-    if paced {
-        return 600000000 / (t * number);
+    if pulses == 0 {
+        return ticks;
     }
-    number
+    ticks / (t * pulses)
 }
 
 // The spacing of each source at tempo t.
@@ -87,7 +98,7 @@ pub fn gaps_by(s: Sources, t: u32) -> [u32; 16]
     let mut gaps = [0u32; 16];
     let mut u: usize = 0;
     while u < s.count {
-        gaps[u] = spacing_by(s.numbers[u], s.paced[u], t);
+        gaps[u] = spacing_by(s.ticks[u], s.pulses[u], t);
         u += 1;
     }
     gaps

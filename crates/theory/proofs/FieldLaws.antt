@@ -1,6 +1,6 @@
 -- One field of a description file: what is written is taken whole, and what is taken whole was written. Assumes nothing.
 use Prim.Native.Nat.{ℕ, zero, suc, _+_, _-_, _^_, _≤_, _<_}
-use mathlib.Core.Path.{_≡_, refl, sym, ap, _∙_}
+use mathlib.Core.Path.{_≡_, refl, sym, ap, subst, _∙_}
 use mathlib.Core.Bool.{Bool, true, false, cond, not, _||_}
 use mathlib.Core.List.{List, [], _∷_, _++_, append-assoc}
 use native.Mathlib.Omega.{arith}
@@ -10,13 +10,13 @@ use lib.Dec.{leb, ltb, eqb}
 use lib.ListN.{length, getD, take, drop, length-append}
 use lib.Seq.{getD-append-add, take-add, drop-drop, drop-cons}
 use borrow.Author.Tests.{lt-leb, le-ltb, eq-eqb, ne-eqb, leb-true, leb-false, ltb-false, eqb-true, eqb-false, not-false}
-use Rattle.model.specs.declared.Source.the-variants.{Fixed, Paced}
+use Rattle.model.specs.declared.Source.the-variants.{Fixed, Paced, Swung}
 use Rattle.model.specs.declared.Field.{Field}
 use Rattle.model.specs.declared.Field.the-variants.{OfTask, OfSource, OfLink}
 use Rattle.model.specs.declared.Refusal.{Refusal}
 use Rattle.model.specs.declared.Refusal.the-variants.{CutShort, StrangeTag, WrongLength}
 use Rattle.model.specs.declared.Taken.the-variants.{Whole, Broken, End}
-use Rattle.model.specs.Field.{bytesOf, numberIn, tagOf, bodyLength, bodyOf, fieldBytes, fieldIn, takeField}
+use Rattle.model.specs.Field.{bytesOf, numberIn, tagOf, bodyLength, lengthFits, bodyOf, fieldBytes, fieldIn, takeField}
 use Rattle.lemmas.proofs.Tests.{or-false, or-false-left, or-false-right}
 pub use Rattle.model.specs.File.{SourceFits}
 use Rattle.theory.proofs.NumberBytes.{Bytes, length-bytesOf, number-bytes, number-fits, bytes-number, number-same}
@@ -27,67 +27,80 @@ FieldFits (OfTask e) = e < 2 ^ 32
 FieldFits (OfSource s) = SourceFits s
 FieldFits (OfLink l) = Unit {0}
 
-pub length-body : (f : Field) → length (bodyOf f) ≡ bodyLength (tagOf f)
+pub length-body : (f : Field) → length (bodyOf f) ≡ bodyLength f
 unfolding bodyOf
 length-body (OfTask e) = length-bytesOf 4 e
 length-body (OfSource (Fixed m)) = length-bytesOf 4 m
 length-body (OfSource (Paced p)) = length-bytesOf 2 p
+length-body (OfSource (Swung p swing)) = length-append (bytesOf 2 p) (swing ∷ []) ∙ ap (λ (x : ℕ). x + 1) (length-bytesOf 2 p)
 length-body (OfLink l) = refl
 
-pub length-field : (f : Field) → length (fieldBytes f) ≡ 3 + bodyLength (tagOf f)
+pub length-field : (f : Field) → length (fieldBytes f) ≡ 3 + bodyLength f
 unfolding fieldBytes
 length-field f =
-    let e = length-append (bytesOf 2 (bodyLength (tagOf f))) (bodyOf f) in
+    let e = length-append (bytesOf 2 (bodyLength f)) (bodyOf f) in
     let b = length-body f in
-    let h = length-bytesOf 2 (bodyLength (tagOf f)) in
+    let h = length-bytesOf 2 (bodyLength f) in
     omega arith
+
+-- a field's length is one of its tag's
+length-fits : (f : Field) → lengthFits (tagOf f) (bodyLength f) ≡ true
+length-fits (OfTask e) = refl
+length-fits (OfSource (Fixed m)) = refl
+length-fits (OfSource (Paced p)) = refl
+length-fits (OfSource (Swung p swing)) = refl
+length-fits (OfLink l) = refl
 
 pub tag-some : (f : Field) → 1 ≤ tagOf f
 tag-some (OfTask e) = omega arith
 tag-some (OfSource (Fixed m)) = omega arith
 tag-some (OfSource (Paced p)) = omega arith
+tag-some (OfSource (Swung p swing)) = omega arith
 tag-some (OfLink l) = omega arith
 
 pub tag-most : (f : Field) → tagOf f ≤ 4
 tag-most (OfTask e) = omega arith
 tag-most (OfSource (Fixed m)) = omega arith
 tag-most (OfSource (Paced p)) = omega arith
+tag-most (OfSource (Swung p swing)) = omega arith
 tag-most (OfLink l) = omega arith
 
 -- a field that passes the four tests is taken
-pub take-whole : (s : List ℕ) (at tag : ℕ) → getD s at 0 ≡ tag → 1 ≤ tag → tag ≤ 4 → numberIn s (at + 1) 2 ≡ bodyLength tag → at + 3 + bodyLength tag ≤ length s → takeField s at ≡ Whole (fieldIn s tag (at + 3)) (at + 3 + bodyLength tag)
+pub take-whole : (s : List ℕ) (at tag n : ℕ) → getD s at 0 ≡ tag → 1 ≤ tag → tag ≤ 4 → numberIn s (at + 1) 2 ≡ n → lengthFits tag n ≡ true → at + 3 + n ≤ length s → takeField s at ≡ Whole (fieldIn s tag (at + 3) n) (at + 3 + n)
 unfolding takeField
-take-whole s at tag e lo hi len fits =
-    rw (e, lt-leb (length s) at (omega arith), le-ltb (length s - at) 3 (omega arith), or-false (eqb tag 0) (ltb 4 tag) (ne-eqb tag 0 (λ q. omega arith)) (le-ltb 4 tag hi), eq-eqb (numberIn s (at + 1) 2) (bodyLength tag) len, le-ltb (length s - at - 3) (bodyLength tag) (omega arith))
+take-whole s at tag n e lo hi size right fits =
+    rw (e, size, lt-leb (length s) at (omega arith), le-ltb (length s - at) 3 (omega arith), or-false (eqb tag 0) (ltb 4 tag) (ne-eqb tag 0 (λ q. omega arith)) (le-ltb 4 tag hi), right, le-ltb (length s - at - 3) n (omega arith))
 
 -- reading past what stands before
 number-shift : (pre ys : List ℕ) (b n : ℕ) → numberIn (pre ++ ys) (length pre + b) n ≡ numberIn ys b n
 number-shift pre ys b n = number-same (pre ++ ys) ys (length pre + b) b n (λ i p. rw (add-assoc (length pre) b i) (getD-append-add pre ys (b + i) 0))
 
-field-shift : (pre ys : List ℕ) (tag b : ℕ) → fieldIn (pre ++ ys) tag (length pre + b) ≡ fieldIn ys tag b
+field-shift : (pre ys : List ℕ) (tag b n : ℕ) → fieldIn (pre ++ ys) tag (length pre + b) n ≡ fieldIn ys tag b n
 unfolding fieldIn
-field-shift pre ys tag b =
+field-shift pre ys tag b n =
     rw (number-shift pre ys b 4, number-shift pre ys b 2, add-assoc (length pre) b 1, add-assoc (length pre) b 2, getD-append-add pre ys b 0, getD-append-add pre ys (b + 1) 0, getD-append-add pre ys (b + 2) 0)
 
 -- the body of a written field reads back
-body-back : (f : Field) (rest : List ℕ) → FieldFits f → fieldIn (fieldBytes f ++ rest) (tagOf f) 3 ≡ f
+body-back : (f : Field) (rest : List ℕ) → FieldFits f → fieldIn (fieldBytes f ++ rest) (tagOf f) 3 (bodyLength f) ≡ f
 unfolding fieldIn fieldBytes bodyOf bytesOf
 body-back (OfTask e) rest h = ap (λ (x : ℕ). OfTask x) (number-bytes 4 e (1 ∷ 0 ∷ 4 ∷ []) rest h)
 body-back (OfSource (Fixed m)) rest h = ap (λ (x : ℕ). OfSource (Fixed x)) (number-bytes 4 m (2 ∷ 0 ∷ 4 ∷ []) rest h)
 body-back (OfSource (Paced p)) rest h = ap (λ (x : ℕ). OfSource (Paced x)) (number-bytes 2 p (3 ∷ 0 ∷ 2 ∷ []) rest h)
+body-back (OfSource (Swung p swing)) rest h = ap (λ (x : ℕ). OfSource (Swung x swing)) (number-bytes 2 p (3 ∷ 0 ∷ 3 ∷ []) (swing ∷ rest) h)
 body-back (OfLink l) rest h = refl
 
-pub body-most : (f : Field) → bodyLength (tagOf f) ≤ 4
+pub body-most : (f : Field) → bodyLength f ≤ 4
 body-most (OfTask e) = omega arith
 body-most (OfSource (Fixed m)) = omega arith
 body-most (OfSource (Paced p)) = omega arith
+body-most (OfSource (Swung p swing)) = omega arith
 body-most (OfLink l) = omega arith
 
-header-back : (f : Field) (rest : List ℕ) → numberIn (fieldBytes f ++ rest) 1 2 ≡ bodyLength (tagOf f)
+header-back : (f : Field) (rest : List ℕ) → numberIn (fieldBytes f ++ rest) 1 2 ≡ bodyLength f
 unfolding fieldBytes
 header-back f rest =
-    rw (append-assoc (bytesOf 2 (bodyLength (tagOf f))) (bodyOf f) rest)
-    (number-bytes 2 (bodyLength (tagOf f)) (tagOf f ∷ []) (bodyOf f ++ rest) (omega (arith, body-most f)))
+    rw (append-assoc (bytesOf 2 (bodyLength f)) (bodyOf f) rest)
+    (number-bytes 2 (bodyLength f) (tagOf f ∷ []) (bodyOf f ++ rest) (omega (arith, body-most f)))
 
 tag-back : (f : Field) (rest : List ℕ) → getD (fieldBytes f ++ rest) 0 0 ≡ tagOf f
 unfolding fieldBytes
@@ -98,19 +111,19 @@ pub take-written : (pre : List ℕ) (f : Field) (rest : List ℕ) → FieldFits 
 take-written pre f rest h =
     let s : List ℕ = pre ++ (fieldBytes f ++ rest) in
     let g : getD s (length pre) 0 ≡ tagOf f = rw add-zero at (getD-append-add pre (fieldBytes f ++ rest) 0 0 ∙ tag-back f rest) in
-    let n : numberIn s (length pre + 1) 2 ≡ bodyLength (tagOf f) = number-shift pre (fieldBytes f ++ rest) 1 2 ∙ header-back f rest in
-    let l : length pre + 3 + bodyLength (tagOf f) ≤ length s = omega (arith, length-append pre (fieldBytes f ++ rest), length-append (fieldBytes f) rest, length-field f) in
-    let e : length pre + length (fieldBytes f) ≡ length pre + 3 + bodyLength (tagOf f) = omega (arith, length-field f) in
-    rw (e, take-whole s (length pre) (tagOf f) g (tag-some f) (tag-most f) n l, field-shift pre (fieldBytes f ++ rest) (tagOf f) 3, body-back f rest h)
+    let n : numberIn s (length pre + 1) 2 ≡ bodyLength f = number-shift pre (fieldBytes f ++ rest) 1 2 ∙ header-back f rest in
+    let l : length pre + 3 + bodyLength f ≤ length s = omega (arith, length-append pre (fieldBytes f ++ rest), length-append (fieldBytes f) rest, length-field f) in
+    let e : length pre + length (fieldBytes f) ≡ length pre + 3 + bodyLength f = omega (arith, length-field f) in
+    rw (e, take-whole s (length pre) (tagOf f) (bodyLength f) g (tag-some f) (tag-most f) n (length-fits f) l, field-shift pre (fieldBytes f ++ rest) (tagOf f) 3 (bodyLength f), body-back f rest h)
 
 -- what is known of a field that was taken whole
 pub record Took (s : List ℕ) (at : ℕ) (f : Field) (next : ℕ) : Type 0 where
   pub tag-low : 1 ≤ getD s at 0
   pub tag-high : getD s at 0 ≤ 4
-  pub header : numberIn s (at + 1) 2 ≡ bodyLength (getD s at 0)
-  pub inside : at + 3 + bodyLength (getD s at 0) ≤ length s
-  pub is : fieldIn s (getD s at 0) (at + 3) ≡ f
-  pub ends : next ≡ at + 3 + bodyLength (getD s at 0)
+  pub header : lengthFits (getD s at 0) (numberIn s (at + 1) 2) ≡ true
+  pub inside : at + 3 + numberIn s (at + 1) 2 ≤ length s
+  pub is : fieldIn s (getD s at 0) (at + 3) (numberIn s (at + 1) 2) ≡ f
+  pub ends : next ≡ at + 3 + numberIn s (at + 1) 2
 
 cond-else : {A : Type 0} (b : Bool) (x y z : A) → cond b x y ≡ z → (x ≡ z → ⊥) → (b ≡ false) × (y ≡ z)
 cond-else true x y z e n = absurd (n e)
@@ -128,18 +141,18 @@ take-took s at f next e =
     let a = cond-else (leb (length s) at) _ _ (Whole f next) e end-whole in
     let b = cond-else (ltb (length s - at) 3) _ _ (Whole f next) (a .1) broken-whole in
     let c = cond-else (eqb (getD s at 0) 0 || ltb 4 (getD s at 0)) _ _ (Whole f next) (b .1) broken-whole in
-    let d = cond-else (not (eqb (numberIn s (at + 1) 2) (bodyLength (getD s at 0)))) _ _ (Whole f next) (c .1) broken-whole in
-    let g = cond-else (ltb (length s - at - 3) (bodyLength (getD s at 0))) _ _ (Whole f next) (d .1) broken-whole in
-    let q : Whole (fieldIn s (getD s at 0) (at + 3)) (at + 3 + bodyLength (getD s at 0)) ≡ Whole f next = g .1 in
+    let d = cond-else (not (lengthFits (getD s at 0) (numberIn s (at + 1) 2))) _ _ (Whole f next) (c .1) broken-whole in
+    let g = cond-else (ltb (length s - at - 3) (numberIn s (at + 1) 2)) _ _ (Whole f next) (d .1) broken-whole in
+    let q : Whole (fieldIn s (getD s at 0) (at + 3) (numberIn s (at + 1) 2)) (at + 3 + numberIn s (at + 1) 2) ≡ Whole f next = g .1 in
     let h1 = leb-false (length s) at (a .0) in
     let h2 = ltb-false (length s - at) 3 (b .0) in
     let h3 = eqb-false (getD s at 0) 0 (or-false-left (eqb (getD s at 0) 0) (ltb 4 (getD s at 0)) (c .0)) in
     let h4 = ltb-false 4 (getD s at 0) (or-false-right (eqb (getD s at 0) 0) (ltb 4 (getD s at 0)) (c .0)) in
-    let h5 = ltb-false (length s - at - 3) (bodyLength (getD s at 0)) (g .0) in
+    let h5 = ltb-false (length s - at - 3) (numberIn s (at + 1) 2) (g .0) in
     record {
       tag-low = omega (arith, h3);
       tag-high = h4;
-      header = eqb-true (numberIn s (at + 1) 2) (bodyLength (getD s at 0)) (not-false _ (d .0));
+      header = not-false _ (d .0);
       inside = omega arith;
       is = cc;
       ends = cc;
@@ -166,23 +179,34 @@ take-end s at e = go (leb (length s) at) refl
         absurd
         (cond-not (ltb (length s - at) 3) (Broken CutShort) _ End broken-end
         (cond-not (eqb (getD s at 0) 0 || ltb 4 (getD s at 0)) (Broken StrangeTag) _ End broken-end
-        (cond-not (not (eqb (numberIn s (at + 1) 2) (bodyLength (getD s at 0)))) (Broken WrongLength) _ End broken-end
-        (cond-not (ltb (length s - at - 3) (bodyLength (getD s at 0))) (Broken CutShort) _ End broken-end whole-end)))
+        (cond-not (not (lengthFits (getD s at 0) (numberIn s (at + 1) 2))) (Broken WrongLength) _ End broken-end
+        (cond-not (ltb (length s - at - 3) (numberIn s (at + 1) 2)) (Broken CutShort) _ End broken-end whole-end)))
         (rw q at e))
 
--- a tag from 1 to 4
-pub by-tag : (P : ℕ → Type 0) (t : ℕ) → 1 ≤ t → t ≤ 4 → P 1 → P 2 → P 3 → P 4 → P t
-by-tag P zero lo hi a b c d = absurd (omega arith)
-by-tag P (suc zero) lo hi a b c d = a
-by-tag P (suc (suc zero)) lo hi a b c d = b
-by-tag P (suc (suc (suc zero))) lo hi a b c d = c
-by-tag P (suc (suc (suc (suc zero)))) lo hi a b c d = d
-by-tag P (suc (suc (suc (suc (suc t))))) lo hi a b c d = absurd (omega arith)
+-- a tag from 1 to 4 and a length of its own
+by-length : (P : ℕ → Type 0) (n m : ℕ) → eqb n m ≡ true → P m → P n
+by-length P n m e x = subst P (sym (eqb-true n m e)) x
 
--- the field of a tag has that tag, and the body that was read
-tag-of-field : (s : List ℕ) (b t : ℕ) → 1 ≤ t → t ≤ 4 → tagOf (fieldIn s t b) ≡ t
+pub by-form : (P : ℕ → ℕ → Type 0) (t n : ℕ) → 1 ≤ t → t ≤ 4 → lengthFits t n ≡ true → P 1 4 → P 2 4 → P 3 2 → P 3 3 → P 4 3 → P t n
+by-form P zero n lo hi e a b c d f = absurd (omega arith)
+by-form P (suc zero) n lo hi e a b c d f = by-length (P 1) n 4 e a
+by-form P (suc (suc zero)) n lo hi e a b c d f = by-length (P 2) n 4 e b
+by-form P (suc (suc (suc zero))) n lo hi e a b c d f = go (eqb n 2) refl
+  where
+    go : (x : Bool) → eqb n 2 ≡ x → P 3 n
+    go true q = by-length (P 3) n 2 q c
+    go false q = by-length (P 3) n 3 (rw q at e) d
+by-form P (suc (suc (suc (suc zero)))) n lo hi e a b c d f = by-length (P 4) n 3 e f
+by-form P (suc (suc (suc (suc (suc t))))) n lo hi e a b c d f = absurd (omega arith)
+
+-- the field of a tag has that tag, the length and the body that were read
+tag-of-field : (s : List ℕ) (b t n : ℕ) → 1 ≤ t → t ≤ 4 → lengthFits t n ≡ true → tagOf (fieldIn s t b n) ≡ t
 unfolding fieldIn
-tag-of-field s b t lo hi = by-tag (λ x. tagOf (fieldIn s x b) ≡ x) t lo hi refl refl refl refl
+tag-of-field s b t n lo hi e = by-form (λ x y. tagOf (fieldIn s x b y) ≡ x) t n lo hi e refl refl refl refl refl
+
+length-of-field : (s : List ℕ) (b t n : ℕ) → 1 ≤ t → t ≤ 4 → lengthFits t n ≡ true → bodyLength (fieldIn s t b n) ≡ n
+unfolding fieldIn
+length-of-field s b t n lo hi e = by-form (λ x y. bodyLength (fieldIn s x b y) ≡ y) t n lo hi e refl refl refl refl refl
 
 drop-one : (s : List ℕ) (b : ℕ) → b < length s → drop b s ≡ getD s b 0 ∷ drop (b + 1) s
 drop-one s b h = drop-cons s b 0 h ∙ ap (λ (x : ℕ). getD s b 0 ∷ drop x s) (sym (add-one b))
@@ -192,26 +216,37 @@ three s b h =
     rw
     (drop-one s b (omega arith), drop-one s (b + 1) (omega arith), add-assoc b 1 1, drop-one s (b + 2) (omega arith))
 
-body-of-field : (s : List ℕ) (b t : ℕ) → Bytes s → 1 ≤ t → t ≤ 4 → b + bodyLength t ≤ length s → bodyOf (fieldIn s t b) ≡ take (bodyLength t) (drop b s)
+-- two bytes as a number, and the one after them
+two-and-one : (s : List ℕ) (b : ℕ) → Bytes s → b + 3 ≤ length s → bytesOf 2 (numberIn s b 2) ++ (getD s (b + 2) 0 ∷ []) ≡ take 3 (drop b s)
+two-and-one s b h l = rw (bytes-number s b 2 h (omega arith)) (pair ∙ three s b l)
+  where
+    pair : take 2 (drop b s) ++ (getD s (b + 2) 0 ∷ []) ≡ getD s b 0 ∷ getD s (b + 1) 0 ∷ getD s (b + 2) 0 ∷ []
+    pair = rw (drop-one s b (omega arith), drop-one s (b + 1) (omega arith))
+
+body-of-field : (s : List ℕ) (b t n : ℕ) → Bytes s → 1 ≤ t → t ≤ 4 → lengthFits t n ≡ true → b + n ≤ length s → bodyOf (fieldIn s t b n) ≡ take n (drop b s)
 unfolding fieldIn bodyOf
-body-of-field s b t h lo hi = by-tag (λ x. b + bodyLength x ≤ length s → bodyOf (fieldIn s x b) ≡ take (bodyLength x) (drop b s)) t lo hi
+body-of-field s b t n h lo hi e = by-form (λ x y. b + y ≤ length s → bodyOf (fieldIn s x b y) ≡ take y (drop b s)) t n lo hi e
     (λ l. bytes-number s b 4 h l)
     (λ l. bytes-number s b 4 h l)
     (λ l. bytes-number s b 2 h l)
+    (λ l. two-and-one s b h l)
     (λ l. three s b l)
 
-fits-of-field : (s : List ℕ) (b t : ℕ) → Bytes s → 1 ≤ t → t ≤ 4 → FieldFits (fieldIn s t b)
+fits-of-field : (s : List ℕ) (b t n : ℕ) → Bytes s → 1 ≤ t → t ≤ 4 → lengthFits t n ≡ true → FieldFits (fieldIn s t b n)
 unfolding fieldIn
-fits-of-field s b t h lo hi = by-tag (λ x. FieldFits (fieldIn s x b)) t lo hi (number-fits s b 4 h) (number-fits s b 4 h) (number-fits s b 2 h) tt
+fits-of-field s b t n h lo hi e = by-form (λ x y. FieldFits (fieldIn s x b y)) t n lo hi e (number-fits s b 4 h) (number-fits s b 4 h) (number-fits s b 2 h) (number-fits s b 2 h) tt
 
 pub took-fits : {s : List ℕ} {at : ℕ} {f : Field} {next : ℕ} → Bytes s → Took s at f next → FieldFits f
-took-fits {s} {at} {f} h k = rw (k .is) at (fits-of-field s (at + 3) (getD s at 0) h (k .tag-low) (k .tag-high))
+took-fits {s} {at} {f} h k = rw (k .is) at (fits-of-field s (at + 3) (getD s at 0) (numberIn s (at + 1) 2) h (k .tag-low) (k .tag-high) (k .header))
 
 pub took-tag : {s : List ℕ} {at : ℕ} {f : Field} {next : ℕ} → Took s at f next → tagOf f ≡ getD s at 0
-took-tag {s} {at} {f} k = rw (k .is) at (tag-of-field s (at + 3) (getD s at 0) (k .tag-low) (k .tag-high))
+took-tag {s} {at} {f} k = rw (k .is) at (tag-of-field s (at + 3) (getD s at 0) (numberIn s (at + 1) 2) (k .tag-low) (k .tag-high) (k .header))
+
+took-size : {s : List ℕ} {at : ℕ} {f : Field} {next : ℕ} → Took s at f next → bodyLength f ≡ numberIn s (at + 1) 2
+took-size {s} {at} {f} k = rw (k .is) at (length-of-field s (at + 3) (getD s at 0) (numberIn s (at + 1) 2) (k .tag-low) (k .tag-high) (k .header))
 
 pub took-length : {s : List ℕ} {at : ℕ} {f : Field} {next : ℕ} → Took s at f next → next ≡ at + length (fieldBytes f)
-took-length {s} {at} {f} {next} k = rw (k .ends, length-field f, took-tag k) (omega arith)
+took-length {s} {at} {f} {next} k = rw (k .ends, length-field f, took-size k) (omega arith)
 
 pub took-inside : {s : List ℕ} {at : ℕ} {f : Field} {next : ℕ} → Took s at f next → next ≤ length s
 took-inside k = omega (arith, k .ends, k .inside)
@@ -220,10 +255,10 @@ took-inside k = omega (arith, k .ends, k .inside)
 pub took-bytes : {s : List ℕ} {at : ℕ} {f : Field} {next : ℕ} → Bytes s → Took s at f next → take next s ≡ take at s ++ fieldBytes f
 unfolding fieldBytes
 took-bytes {s} {at} {f} {next} h k =
-    let t : ℕ = getD s at 0 in
-    let b : bodyOf f ≡ take (bodyLength t) (drop (at + 3) s) = rw (k .is) at (body-of-field s (at + 3) t h (k .tag-low) (k .tag-high) (omega (arith, k .inside))) in
-    let n : bytesOf 2 (bodyLength t) ≡ take 2 (drop (at + 1) s) = rw (k .header) at (bytes-number s (at + 1) 2 h (omega (arith, k .inside))) in
-    let e : next ≡ at + suc (2 + bodyLength t) = omega (arith, k .ends) in
+    let n : ℕ = numberIn s (at + 1) 2 in
+    let b : bodyOf f ≡ take n (drop (at + 3) s) = rw (k .is) at (body-of-field s (at + 3) (getD s at 0) n h (k .tag-low) (k .tag-high) (k .header) (omega (arith, k .inside))) in
+    let z : bytesOf 2 n ≡ take 2 (drop (at + 1) s) = bytes-number s (at + 1) 2 h (omega (arith, k .inside)) in
+    let e : next ≡ at + suc (2 + n) = omega (arith, k .ends) in
     let e1 : suc at ≡ at + 1 = omega arith in
     let e3 : at + 1 + 2 ≡ at + 3 = omega arith in
-    rw (e, took-tag k, b, n, take-add at (suc (2 + bodyLength t)) s, drop-cons s at 0 (omega (arith, k .inside)), e1, take-add 2 (bodyLength t) (drop (at + 1) s), drop-drop 2 (at + 1) s, e3)
+    rw (e, took-tag k, took-size k, b, z, take-add at (suc (2 + n)) s, drop-cons s at 0 (omega (arith, k .inside)), e1, take-add 2 n (drop (at + 1) s), drop-drop 2 (at + 1) s, e3)

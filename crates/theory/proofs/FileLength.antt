@@ -8,7 +8,7 @@ use native.Mathlib.Nat.{add-zero, add-suc}
 use lib.Dec.{leb, ltb, eqb}
 use lib.ListN.{length, getD, take}
 use lib.Seq.{getD-take, length-take-le, take-all}
-use borrow.Author.Tests.{lt-leb, le-ltb, ltb-true}
+use borrow.Author.Tests.{lt-leb, le-ltb, ltb-true, eqb-true}
 use Rattle.model.specs.declared.Source.{Source}
 use Rattle.model.specs.declared.Link.{Link}
 use Rattle.model.specs.declared.Description.{Description}
@@ -18,7 +18,7 @@ use Rattle.model.specs.declared.Progress.{Progress}
 use Rattle.model.specs.declared.Outcome.{Outcome}
 use Rattle.model.specs.declared.Outcome.the-variants.{Done, Refused}
 use Rattle.model.specs.declared.Refusal.{Refusal}
-use Rattle.model.specs.declared.Refusal.the-variants.{StrangeTag, WrongLength, NoTask, Loop, TooHeavy}
+use Rattle.model.specs.declared.Refusal.the-variants.{CutShort, StrangeTag, WrongLength, NoTask, Loop, TooHeavy}
 use Rattle.model.specs.declared.Taken.{Taken}
 use Rattle.model.specs.declared.Taken.the-variants.{Whole, Broken, End}
 use Rattle.model.specs.declared.Check.{Check}
@@ -27,7 +27,7 @@ use Rattle.model.specs.Basics.{joined}
 use Rattle.model.specs.Refusals.{blank, noLink, noSource, onDone}
 use Rattle.model.specs.Graph.{system, cyclic}
 use Rattle.model.specs.Loads.{tooHeavy}
-use Rattle.model.specs.Field.{numberIn, bodyLength, fieldBytes, fieldIn, takeField, checkField, withField, passed, noProgress, fieldOf}
+use Rattle.model.specs.Field.{numberIn, lengthFits, fieldBytes, fieldIn, takeField, checkField, withField, passed, noProgress, fieldOf}
 use Rattle.model.specs.File.{fileOf, parseFrom, parseFile, lastChecks, finished, refusedReading, readFile}
 use Rattle.lemmas.proofs.Tests.{Cmp, less, same, more, cmp}
 use Rattle.theory.proofs.NumberBytes.{number-same}
@@ -76,23 +76,34 @@ unfolding fileOf
 file-length d w = omega (arith, offset-links d (d .«link_count»), w .tasks, w .sources, w .links)
 
 -- where seven bytes or more are left, a field is not cut short
-length-most : (t : ℕ) → bodyLength t ≤ 4
-length-most t = go (leb t 2) (eqb t 3)
+length-most : (t n : ℕ) → lengthFits t n ≡ true → n ≤ 4
+length-most t n = go (leb t 2) (eqb t 3)
   where
-    go : (a b : Bool) → cond a 4 (cond b 2 3) ≤ 4
-    go true b = omega arith
-    go false true = omega arith
-    go false false = omega arith
+    either : (a : Bool) → eqb n 2 ≡ a → (a || eqb n 3) ≡ true → n ≤ 4
+    either true q e = omega (arith, eqb-true n 2 q)
+    either false q e = omega (arith, eqb-true n 3 e)
 
-take-roomy : (s : List ℕ) (at : ℕ) → at + 7 ≤ length s → takeField s at ≡ cond (eqb (getD s at 0) 0 || ltb 4 (getD s at 0)) (Broken StrangeTag) (cond (not (eqb (numberIn s (at + 1) 2) (bodyLength (getD s at 0)))) (Broken WrongLength) (Whole (fieldIn s (getD s at 0) (at + 3)) (at + 3 + bodyLength (getD s at 0))))
+    go : (a b : Bool) → cond a (eqb n 4) (cond b (eqb n 2 || eqb n 3) (eqb n 3)) ≡ true → n ≤ 4
+    go true b e = omega (arith, eqb-true n 4 e)
+    go false true e = either (eqb n 2) refl e
+    go false false e = omega (arith, eqb-true n 3 e)
+
+uncut : (left t n : ℕ) (w : Taken) → 4 ≤ left → cond (not (lengthFits t n)) (Broken WrongLength) (cond (ltb left n) (Broken CutShort) w) ≡ cond (not (lengthFits t n)) (Broken WrongLength) w
+uncut left t n w h = go (lengthFits t n) refl
+  where
+    go : (b : Bool) → lengthFits t n ≡ b → cond (not b) (Broken WrongLength) (cond (ltb left n) (Broken CutShort) w) ≡ cond (not b) (Broken WrongLength) w
+    go true q = rw (le-ltb left n (omega (arith, length-most t n q)))
+    go false q = refl
+
+take-roomy : (s : List ℕ) (at : ℕ) → at + 7 ≤ length s → takeField s at ≡ cond (eqb (getD s at 0) 0 || ltb 4 (getD s at 0)) (Broken StrangeTag) (cond (not (lengthFits (getD s at 0) (numberIn s (at + 1) 2))) (Broken WrongLength) (Whole (fieldIn s (getD s at 0) (at + 3) (numberIn s (at + 1) 2)) (at + 3 + numberIn s (at + 1) 2)))
 unfolding takeField
 take-roomy s at h =
     rw
-    (lt-leb (length s) at (omega arith), le-ltb (length s - at) 3 (omega arith), le-ltb (length s - at - 3) (bodyLength (getD s at 0)) (omega (arith, length-most (getD s at 0))))
+    (lt-leb (length s) at (omega arith), le-ltb (length s - at) 3 (omega arith), uncut (length s - at - 3) (getD s at 0) (numberIn s (at + 1) 2) (Whole (fieldIn s (getD s at 0) (at + 3) (numberIn s (at + 1) 2)) (at + 3 + numberIn s (at + 1) 2)) (omega arith))
 
-field-same : (s t : List ℕ) (b tag : ℕ) → ((i : ℕ) → i < 4 → getD s (b + i) 0 ≡ getD t (b + i) 0) → fieldIn s tag b ≡ fieldIn t tag b
+field-same : (s t : List ℕ) (b tag n : ℕ) → ((i : ℕ) → i < 4 → getD s (b + i) 0 ≡ getD t (b + i) 0) → fieldIn s tag b n ≡ fieldIn t tag b n
 unfolding fieldIn
-field-same s t b tag h =
+field-same s t b tag n h =
     let z : getD s b 0 ≡ getD t b 0 = rw add-zero at (h 0 (omega arith)) in
     rw
     (number-same s t b b 4 h, number-same s t b b 2 (λ i p. h i (omega arith)), z, h 1 (omega arith), h 2 (omega arith))
@@ -101,7 +112,7 @@ take-same : (s : List ℕ) (m at : ℕ) → at + 7 ≤ m → m ≤ length s → 
 take-same s m at h l =
     let g : (i : ℕ) → i < m → getD (take m s) i 0 ≡ getD s i 0 = λ i p. getD-take m s i 0 p in
     rw
-    (take-roomy (take m s) at (omega (arith, length-take-le m s l)), take-roomy s at (omega arith), g at (omega arith), number-same (take m s) s (at + 1) (at + 1) 2 (λ i p. g (at + 1 + i) (omega arith)), field-same (take m s) s (at + 3) (getD s at 0) (λ i p. g (at + 3 + i) (omega arith)))
+    (take-roomy (take m s) at (omega (arith, length-take-le m s l)), take-roomy s at (omega arith), g at (omega arith), number-same (take m s) s (at + 1) (at + 1) 2 (λ i p. g (at + 1 + i) (omega arith)), field-same (take m s) s (at + 3) (getD s at 0) (numberIn s (at + 1) 2) (λ i p. g (at + 3 + i) (omega arith)))
 
 -- a place that the fields before it can have come to
 record Near (at : ℕ) (p : Progress) : Type 0 where

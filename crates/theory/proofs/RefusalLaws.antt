@@ -19,7 +19,7 @@ use Rattle.model.specs.declared.Outcome.the-variants.{Done, Refused}
 use Rattle.model.specs.Refusals.{numberOf, onDone}
 use Rattle.model.specs.Graph.{system, cyclic}
 use Rattle.model.specs.Loads.{tooHeavy}
-use Rattle.model.specs.Field.{numberIn, bodyLength, fieldIn, takeField, checkField, inTurn, hasRoom, onScale, hasEnds, withField, passed}
+use Rattle.model.specs.Field.{numberIn, lengthFits, fieldIn, takeField, checkField, inTurn, hasRoom, onScale, hasEnds, withField, passed}
 use Rattle.model.specs.File.{fileOf, parseFrom, parseFile, lastChecks, finished, refusedReading, readFile, overfull, judge}
 use Rattle.theory.proofs.RecordLaws.{parse-fine, parse-unfit, parse-broken, parse-end}
 
@@ -42,8 +42,8 @@ taken-number : (s : List ℕ) (at : ℕ) → takenNumber (takeField s at) ≤ 7
 unfolding takeField
 taken-number s at =
     go (leb (length s) at) (ltb (length s - at) 3) (eqb (getD s at 0) 0 || ltb 4 (getD s at 0))
-    (not (eqb (numberIn s (at + 1) 2) (bodyLength (getD s at 0)))) (ltb (length s - at - 3) (bodyLength (getD s at 0)))
-    (Whole (fieldIn s (getD s at 0) (at + 3)) (at + 3 + bodyLength (getD s at 0)))
+    (not (lengthFits (getD s at 0) (numberIn s (at + 1) 2))) (ltb (length s - at - 3) (numberIn s (at + 1) 2))
+    (Whole (fieldIn s (getD s at 0) (at + 3) (numberIn s (at + 1) 2)) (at + 3 + numberIn s (at + 1) 2))
     (omega arith)
   where
     go : (a b c d e : Bool) (w : Taken) → takenNumber w ≤ 7 → takenNumber (cond a End (cond b (Broken CutShort) (cond c (Broken StrangeTag) (cond d (Broken WrongLength) (cond e (Broken CutShort) w))))) ≤ 7

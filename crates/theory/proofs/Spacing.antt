@@ -1,46 +1,74 @@
--- Laws of a source's spacing, one for both kinds: it does not grow with the tempo, and it is from 1 to 1,000,000,000. Assumes nothing.
+-- Laws of a source's spacing, one for all kinds: it does not grow with the tempo, and it is from 1 to 1,000,000,000. Assumes nothing.
 use Prim.Native.Nat.{ℕ, _+_, _-_, _*_, _/_, _≤_, _<_}
-use mathlib.Core.Path.{_≡_}
+use mathlib.Core.Path.{_≡_, refl}
 use mathlib.Core.Bool.{true, _&&_}
 use native.Mathlib.Omega.{arith}
 use native.Mathlib.Nat.{le-div-iff-mul-le, div-mul-le-self, mul-le-mul-left, mul-le-mul-right, div-le-self, mul-pos}
 use lib.Dec.{leb}
 use borrow.Author.Tests.{leb-true}
 use Rattle.model.specs.declared.Source.{Source}
-use Rattle.model.specs.declared.Source.the-variants.{Fixed, Paced}
+use Rattle.model.specs.declared.Source.the-variants.{Fixed, Paced, Swung}
 use Rattle.model.specs.declared.Description.{Description}
 use Rattle.model.specs.declared.Field.the-variants.{OfSource}
 use Rattle.model.specs.Field.{onScale}
 use Rattle.model.specs.Graph.{sourceAt}
-use Rattle.model.specs.Delays.{spacing, spacingOf}
+use Rattle.model.specs.Delays.{pacedSpacing, spacing, spacingOf}
 use Rattle.lemmas.proofs.Tests.{and-left, and-right}
 use Rattle.theory.proofs.WellFormed.{WellFormed}
 
--- a number from 1 to a limit, as the scale tests it
-within : (x y : ℕ) → (leb 1 x && leb x y) ≡ true → (1 ≤ x) × (x ≤ y)
-within x y e = (leb-true 1 x (and-left (leb 1 x) (leb x y) e), leb-true x y (and-right (leb 1 x) (leb x y) e))
+-- a number from one limit to another, as the scale tests it
+within : (a x b : ℕ) → (leb a x && leb x b) ≡ true → (a ≤ x) × (x ≤ b)
+within a x b e = (leb-true a x (and-left (leb a x) (leb x b) e), leb-true x b (and-right (leb a x) (leb x b) e))
 
 -- a larger divisor gives no larger quotient
 div-anti : (n k k′ : ℕ) → 1 ≤ k → k ≤ k′ → n / k′ ≤ n / k
 div-anti n k k′ p h = le-div-iff-mul-le p .1 (omega (arith, div-mul-le-self n k′, mul-le-mul-left (n / k′) h))
 
+-- the scale of pulses, and of pulses with a swing
+pub paced-scale : (p : ℕ) → onScale (OfSource (Paced p)) ≡ true → (1 ≤ p) × (p ≤ 960)
+paced-scale p c = within 1 p 960 c
+
+pub swung-scale : (p swing : ℕ) → onScale (OfSource (Swung p swing)) ≡ true → (1 ≤ p) × (p ≤ 960) × (51 ≤ swing) × (swing ≤ 75)
+swung-scale p swing c =
+    let w = within 1 p 960 (and-left (leb 1 p && leb p 960) (leb 51 swing && leb swing 75) c) in
+    let z = within 51 swing 75 (and-right (leb 1 p && leb p 960) (leb 51 swing && leb swing 75) c) in
+    (w .0, w .1, z .0, z .1)
+
+-- a paced source: its pulses, and its swing, which is 50 in straight time
+pub record Paces (s : Source) : Type 0 where
+  pub pulses : ℕ
+  pub swing : ℕ
+  pub low : 1 ≤ pulses
+  pub high : pulses ≤ 960
+  pub swing-low : 50 ≤ swing
+  pub swing-high : swing ≤ 75
+  pub is : (t : ℕ) → spacing s t ≡ pacedSpacing swing pulses t
+
+-- every source on the scale is a fixed one or paced
+pub by-kind : (P : Source → Type 0) → ((m : ℕ) → 1 ≤ m → m ≤ 1000000000 → P (Fixed m)) → ((s : Source) → Paces s → P s) → (s : Source) → onScale (OfSource s) ≡ true → P s
+unfolding spacing
+by-kind P f g (Fixed m) c = let w = within 1 m 1000000000 c in f m (w .0) (w .1)
+by-kind P f g (Paced p) c =
+    let w = paced-scale p c in
+    g (Paced p) (record { pulses = p; swing = 50; low = w .0; high = w .1; swing-low = omega arith; swing-high = omega arith; is = λ t. refl })
+by-kind P f g (Swung p swing) c =
+    let w = swung-scale p swing c in
+    g (Swung p swing) (record { pulses = p; swing = swing; low = w .0; high = w .1; swing-low = omega (arith, w .2); swing-high = w .3; is = λ t. refl })
+
 pub spacing-anti : (s : Source) (t t′ : ℕ) → onScale (OfSource s) ≡ true → 1 ≤ t → t ≤ t′ → spacing s t′ ≤ spacing s t
 unfolding spacing
-spacing-anti (Fixed m) t t′ c p h = omega arith
-spacing-anti (Paced d) t t′ c p h =
-    div-anti 600000000 (t * d) (t′ * d) (mul-pos p (within d 960 c .0)) (mul-le-mul-right d h)
+spacing-anti s t t′ c p h = by-kind (λ x. spacing x t′ ≤ spacing x t) (λ m a b. omega arith)
+    (λ x k. rw (k .is t, k .is t′) (div-anti (12000000 * (100 - k .swing)) (t * k .pulses) (t′ * k .pulses) (mul-pos p (k .low)) (mul-le-mul-right (k .pulses) h))) s c
 
 pub spacing-some : (s : Source) (t : ℕ) → onScale (OfSource s) ≡ true → 1 ≤ t → t ≤ 3000 → 1 ≤ spacing s t
 unfolding spacing
-spacing-some (Fixed m) t c p h = within m 1000000000 c .0
-spacing-some (Paced d) t c p h =
-    let w : (1 ≤ d) × (d ≤ 960) = within d 960 c in
-    le-div-iff-mul-le (mul-pos p (w .0)) .1 (omega (arith, mul-le-mul-left t (w .1), mul-le-mul-right 960 h))
+spacing-some s t c p h = by-kind (λ x. 1 ≤ spacing x t) (λ m a b. a)
+    (λ x k. rw (k .is t) (le-div-iff-mul-le (mul-pos p (k .low)) .1 (omega (arith, mul-le-mul-left t (k .high), mul-le-mul-right 960 h, k .swing-high)))) s c
 
 pub spacing-most : (s : Source) (t : ℕ) → onScale (OfSource s) ≡ true → spacing s t ≤ 1000000000
 unfolding spacing
-spacing-most (Fixed m) t c = within m 1000000000 c .1
-spacing-most (Paced d) t c = omega (arith, div-le-self 600000000 (t * d))
+spacing-most s t c = by-kind (λ x. spacing x t ≤ 1000000000) (λ m a b. b)
+    (λ x k. rw (k .is t) (omega (arith, div-le-self (12000000 * (100 - k .swing)) (t * k .pulses), k .swing-low))) s c
 
 -- the same of the sources of an accepted description
 module _ (d : Description) (g : WellFormed d) (u : ℕ) (from : 33 ≤ u) (within-count : u < 33 + d .«source_count») where

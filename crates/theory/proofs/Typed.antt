@@ -17,7 +17,7 @@ use Rattle.model.proofs.SourceSlot as TheSlot
 use Rattle.model.proofs.Field as TheField
 use Rattle.model.proofs.Description as TheDescription
 use Rattle.model.specs.declared.Source.{Source}
-use Rattle.model.specs.declared.Source.the-variants.{Fixed, Paced}
+use Rattle.model.specs.declared.Source.the-variants.{Fixed, Paced, Swung}
 use Rattle.model.specs.declared.SourceSlot.{SourceSlot}
 use Rattle.model.specs.declared.Field.{Field}
 use Rattle.model.specs.declared.Field.the-variants.{OfTask, OfSource, OfLink}
@@ -30,6 +30,7 @@ use Rattle.theory.proofs.ReadLaws.{Sized}
 source-typed : (s : Source) (vs : List Val) → Is (Enums.row TheSource.the-type) s vs → SourceFits s
 source-typed (Fixed m) vs p = p .1 .1 .1 .1 .0 .1
 source-typed (Paced n) vs p = p .1 .1 .1 .1 .0 .1
+source-typed (Swung n swing) vs p = p .1 .1 .1 .1 .0 .1
 
 -- a field that a call returned has numbers of its widths
 pub field-typed : (f : Field) (vs : List Val) → Is (Enums.row TheField.the-type) f vs → FieldFits f

@@ -36,10 +36,22 @@ fn print_tally(t: Tally, what: &[u8]) {
     }
 }
 
-fn main() {
+// The reports of a data file.
+fn print_reports(path: &[u8], what: &[u8]) {
     let mut data = [0u8; 262144];
-    let n = read_data(b"reports.bin", &mut data);
-    print_tally(reports::compare_all(&data[..n]), b" reports agree\n");
-    let n = read_data(b"runs.bin", &mut data);
-    print_tally(runs::compare_all(&data[..n]), b" runs agree\n");
+    let n = read_data(path, &mut data);
+    print_tally(reports::compare_all(&data[..n]), what);
+}
+
+// The runs of a data file.
+fn print_runs(path: &[u8], what: &[u8]) {
+    let mut data = [0u8; 262144];
+    let n = read_data(path, &mut data);
+    print_tally(runs::compare_all(&data[..n]), what);
+}
+
+fn main() {
+    print_reports(b"reports.bin", b" reports agree\n");
+    print_reports(b"swing.bin", b" reports with swing agree\n");
+    print_runs(b"runs.bin", b" runs agree\n");
 }

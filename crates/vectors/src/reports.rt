@@ -1,4 +1,4 @@
-// data/reports.bin repeats: the length of a file in two bytes, high byte first, the file, the length of its report, the report.
+// A data file of reports repeats: the length of a file in two bytes, high byte first, the file, the length of its report, the report.
 
 use crate::parts::Tally;
 use crate::parts::counted;

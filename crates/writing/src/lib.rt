@@ -9,7 +9,7 @@ use model::Refusal;
 use model::Source;
 ghost use mathlib.Core.Path.{_≡_};
 ghost use Prim.Native.Nat.{_+_, _≤_};
-ghost use mathlib.Core.List.{_∷_, []};
+ghost use mathlib.Core.List.{_∷_, [], _++_};
 ghost use lib.ListN.{length};
 ghost use lib.Seq.{sets};
 ghost use Rattle.model.specs.Field.{bytesOf, fieldBytes};
@@ -29,16 +29,25 @@ fn put_wide(out: &mut [u8], at: usize, tag: u8, x: u32)
     out[at + 6] = (x % 256) as u8;
 }
 
-// A paced source.
-fn put_paced(out: &mut [u8], at: usize, pulses: u16)
+// A paced source of the given length, to its pulses.
+fn put_paced(out: &mut [u8], at: usize, size: u8, pulses: u16)
     requires { ⌜ at + 5 ≤ length (now out) ⌝ }
-    ensures { λ _. ⌜ now (out .exit) ≡ sets (now (out .entry)) at (3 ∷ 0 ∷ 2 ∷ bytesOf 2 pulses) ⌝ }
+    ensures { λ _. ⌜ now (out .exit) ≡ sets (now (out .entry)) at (3 ∷ 0 ∷ size ∷ bytesOf 2 pulses) ⌝ }
 {
     out[at] = 3;
     out[at + 1] = 0;
-    out[at + 2] = 2;
+    out[at + 2] = size;
     out[at + 3] = (pulses / 256 % 256) as u8;
     out[at + 4] = (pulses % 256) as u8;
+}
+
+// A paced source with a swing.
+fn put_swung(out: &mut [u8], at: usize, pulses: u16, swing: u8)
+    requires { ⌜ at + 6 ≤ length (now out) ⌝ }
+    ensures { λ _. ⌜ now (out .exit) ≡ sets (now (out .entry)) at (3 ∷ 0 ∷ 3 ∷ bytesOf 2 pulses ++ (swing ∷ [])) ⌝ }
+{
+    put_paced(&mut *out, at, 3, pulses);
+    out[at + 5] = swing;
 }
 
 fn put_link(out: &mut [u8], at: usize, l: Link)
@@ -62,7 +71,8 @@ fn put_field(out: &mut [u8], at: usize, f: Field)
         Field::OfTask(e) => put_wide(&mut *out, at, 1, e),
         Field::OfSource(s) => match s {
             Source::Fixed(m) => put_wide(&mut *out, at, 2, m),
-            Source::Paced(n) => put_paced(&mut *out, at, n),
+            Source::Paced(n) => put_paced(&mut *out, at, 2, n),
+            Source::Swung(n, swing) => put_swung(&mut *out, at, n, swing),
         },
         Field::OfLink(l) => put_link(&mut *out, at, l),
     }

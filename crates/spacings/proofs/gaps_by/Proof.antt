@@ -3,6 +3,7 @@ use Prim.Native.Nat.{_≤_, _-_}
 use mathlib.Core.Path.{_≡_}
 use native.Mathlib.Omega.{arith}
 use lib.ListN.{length-set}
+use Rattle.spacings.proofs.SourceLaws.{plain-pulses}
 use Rattle.spacings.proofs.GapLaws.{GapsTo, gaps-none, gaps-more}
 use Rattle.spacings.proofs.gaps_by.Statement.{statement}
 use Rattle.spacings.proofs.gaps_by.Tie as tie
@@ -22,11 +23,14 @@ mul-spacing-by c = omega (arith, c .before .before .pre .0 .few)
 element-copy-out-spacing-by : tie.Need-element-copy-out-spacing-by Inv-loop μ-loop
 element-copy-out-spacing-by c = omega (arith, c .before .before .pre .0 .few)
 
+mul-spacing-by-2 : tie.Need-mul-spacing-by-2 Inv-loop μ-loop
+mul-spacing-by-2 c = omega (arith, c .before .before .before .pre .0 .few)
+
 element-copy-out-spacing-by-2 : tie.Need-element-copy-out-spacing-by-2 Inv-loop μ-loop
 element-copy-out-spacing-by-2 c = omega (arith, c .before .before .before .pre .0 .few)
 
 spacing-by-requires : tie.Need-spacing-by-requires Inv-loop μ-loop
-spacing-by-requires c κs = let p = c .before .before .before .before .pre in (p .0 .on (c .before .before .before .loop .u) (omega arith), p .1, p .2)
+spacing-by-requires c κs = let p = c .before .before .before .before .pre in (plain-pulses (p .0 .at (c .before .before .before .loop .u) (omega arith) .1), p .1, p .2)
 
 mul-gaps : tie.Need-mul-gaps Inv-loop μ-loop
 mul-gaps c = omega (arith, c .before .before .before .before .before .pre .0 .few)
@@ -44,7 +48,7 @@ loop-again : tie.Need-loop-again Inv-loop μ-loop
 loop-again c =
     let L = c .before .before .before .before .loop in
     let S = c .before .before .before .before .before in
-    (omega arith, gaps-more (S .args .t1) (S .args .t) (L .u) (c .spacing-by .result) (L .gaps) (omega (arith, S .pre .1)) (S .pre .2) (omega (arith, S .pre .0 .few)) (S .pre .0 .on (L .u) (omega arith)) (c .spacing-by .ensures) (length-set (L .gaps) (L .u) (c .spacing-by .result)) (L .inv .1))
+    (omega arith, gaps-more (S .args .t1) (S .args .t) (L .u) (c .spacing-by .result) (L .gaps) (omega (arith, S .pre .1)) (S .pre .2) (omega (arith, S .pre .0 .few)) (S .pre .0 .at (L .u) (omega arith) .0) (S .pre .0 .at (L .u) (omega arith) .1) (c .spacing-by .ensures) (length-set (L .gaps) (L .u) (c .spacing-by .result)) (L .inv .1))
 
 returns : tie.Need-returns Inv-loop μ-loop
 returns c =
@@ -62,6 +66,7 @@ gaps-by-spec =
     loop-holds
     mul-spacing-by
     element-copy-out-spacing-by
+    mul-spacing-by-2
     element-copy-out-spacing-by-2
     spacing-by-requires
     mul-gaps

@@ -3,18 +3,19 @@ use Prim.Native.Nat.{_≤_, _-_}
 use mathlib.Core.Path.{refl}
 use native.Mathlib.Omega.{arith}
 use Rattle.spacings.proofs.SourceLaws.{SourcesTo, sources-more}
+use Rattle.spacings.proofs.GapLaws.{source-on}
 use borrow.Author.Needs.{needs}
 use Rattle.spacings.proofs.sources_of.Statement.{statement}
 use Rattle.spacings.proofs.sources_of.Tie as tie
 
 abbrev Inv-loop : tie.InvT-loop
-Inv-loop d numbers₀ paced₀ u₀ numbers paced u = (u ≤ d .«source_count») × SourcesTo d numbers paced u
+Inv-loop d ticks₀ pulses₀ u₀ ticks pulses u = (u ≤ d .«source_count») × SourcesTo d ticks pulses u
 
 abbrev μ-loop : tie.MeasureT-loop
-μ-loop d numbers₀ paced₀ u₀ numbers paced u = d .«source_count» - u
+μ-loop d ticks₀ pulses₀ u₀ ticks pulses u = d .«source_count» - u
 
 loop-holds : tie.Need-loop-holds Inv-loop μ-loop
-loop-holds c = (omega arith, record { numbers-sized = refl; paced-sized = refl; at = λ u p. absurd (omega arith) })
+loop-holds c = (omega arith, record { ticks-sized = refl; pulses-sized = refl; at = λ u p. absurd (omega arith) })
 
 mul-slot : tie.Need-mul-slot Inv-loop μ-loop
 mul-slot c = omega (arith, c .before .before .pre .fields .few-sources)
@@ -22,20 +23,23 @@ mul-slot c = omega (arith, c .before .before .pre .fields .few-sources)
 element-copy-out-slot : tie.Need-element-copy-out-slot Inv-loop μ-loop
 element-copy-out-slot c = omega (arith, c .before .before .pre .fields .few-sources)
 
-number-in-requires : tie.Need-number-in-requires Inv-loop μ-loop
-number-in-requires c κs = search needs
+ticks-in-requires : tie.Need-ticks-in-requires Inv-loop μ-loop
+ticks-in-requires c κs = let S = c .before .before .before in source-on (S .args .t1) (c .before .before .loop .u) (S .pre) (omega arith)
 
-mul-numbers : tie.Need-mul-numbers Inv-loop μ-loop
-mul-numbers c = omega (arith, c .before .before .before .before .pre .fields .few-sources)
+mul-ticks : tie.Need-mul-ticks Inv-loop μ-loop
+mul-ticks c = omega (arith, c .before .before .before .before .pre .fields .few-sources)
 
-array-write-numbers : tie.Need-array-write-numbers Inv-loop μ-loop
-array-write-numbers c = omega (arith, c .before .before .before .before .pre .fields .few-sources)
+array-write-ticks : tie.Need-array-write-ticks Inv-loop μ-loop
+array-write-ticks c = omega (arith, c .before .before .before .before .pre .fields .few-sources)
 
-is-paced-requires : tie.Need-is-paced-requires Inv-loop μ-loop
-is-paced-requires c κs = search needs
+pulses-in-requires : tie.Need-pulses-in-requires Inv-loop μ-loop
+pulses-in-requires c κs = search needs
 
-array-write-paced : tie.Need-array-write-paced Inv-loop μ-loop
-array-write-paced c = omega (arith, c .before .before .before .before .before .pre .fields .few-sources)
+mul-pulses : tie.Need-mul-pulses Inv-loop μ-loop
+mul-pulses c = omega (arith, c .before .before .before .before .before .pre .fields .few-sources)
+
+array-write-pulses : tie.Need-array-write-pulses Inv-loop μ-loop
+array-write-pulses c = omega (arith, c .before .before .before .before .before .pre .fields .few-sources)
 
 add-u : tie.Need-add-u Inv-loop μ-loop
 add-u c = omega (arith, c .before .before .before .before .before .pre .fields .few-sources)
@@ -44,7 +48,10 @@ loop-less : tie.Need-loop-less Inv-loop μ-loop
 loop-less c = omega arith
 
 loop-again : tie.Need-loop-again Inv-loop μ-loop
-loop-again c = let L = c .before .before .before .before .loop in let S = c .before .before .before .before .before in (omega arith, sources-more (S .args .t1) (L .numbers) (L .paced) (L .u) (c .before .number-in .result) (c .is-paced .result) (omega (arith, S .pre .fields .few-sources)) (c .before .number-in .ensures) (c .is-paced .ensures) (L .inv .1))
+loop-again c =
+    let L = c .before .before .before .before .loop in
+    let S = c .before .before .before .before .before in
+    (omega arith, sources-more (S .args .t1) (L .ticks) (L .pulses) (L .u) (c .before .ticks-in .result) (c .pulses-in .result) (omega (arith, S .pre .fields .few-sources)) (record { on = source-on (S .args .t1) (L .u) (S .pre) (omega arith); ticks-are = c .before .ticks-in .ensures; pulses-are = c .pulses-in .ensures }) (L .inv .1))
 
 returns : tie.Need-returns Inv-loop μ-loop
 returns c = let L = c .before .loop in record { counted = refl; at = λ u p. L .inv .1 .at u (omega (arith, c .loop-test .left)) }
@@ -58,11 +65,12 @@ sources-of-spec =
     loop-holds
     mul-slot
     element-copy-out-slot
-    number-in-requires
-    mul-numbers
-    array-write-numbers
-    is-paced-requires
-    array-write-paced
+    ticks-in-requires
+    mul-ticks
+    array-write-ticks
+    pulses-in-requires
+    mul-pulses
+    array-write-pulses
     add-u
     loop-less
     loop-again

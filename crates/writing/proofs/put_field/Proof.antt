@@ -1,6 +1,6 @@
 -- `writing::put_field` meets its contract. Assumes nothing.
 use native.Mathlib.Omega.{arith}
-use Rattle.model.specs.declared.Source.the-variants.{Fixed, Paced}
+use Rattle.model.specs.declared.Source.the-variants.{Fixed, Paced, Swung}
 use Rattle.model.specs.declared.Field.the-variants.{OfSource}
 use Rattle.model.specs.Field.{bytesOf, bodyOf, fieldBytes}
 use Rattle.theory.proofs.FieldLaws.{length-field}
@@ -29,6 +29,12 @@ enum-known-s-2 c = search needs
 
 put-paced-requires : tie.Need-put-paced-requires
 put-paced-requires c κs = omega (arith, rw ((c .before .before .before .before .before .f2 .given .1), (c .before .before .s2 .given .1)) at (c .before .before .before .before .before .before .before .before .pre), length-field (OfSource (Paced (c .before .before .s2 .given .0 .0))))
+
+enum-known-s-3 : tie.Need-enum-known-s-3
+enum-known-s-3 c = search needs
+
+put-swung-requires : tie.Need-put-swung-requires
+put-swung-requires c κs = omega (arith, rw ((c .before .before .before .before .before .f2 .given .1), (c .before .before .s3 .given .1)) at (c .before .before .before .before .before .before .before .before .pre), length-field (OfSource (Swung (c .before .before .s3 .given .0 .0) (c .before .before .s3 .given .0 .1 .0))))
 
 enum-known-f-3 : tie.Need-enum-known-f-3
 enum-known-f-3 c = search needs
@@ -62,7 +68,14 @@ same-length-4 c = search needs
 
 returns-4 : tie.Need-returns-4
 unfolding fieldBytes bodyOf bytesOf
-returns-4 c = rw (c .before .before .before .before .before .f3 .given .1) (c .before .before .put-link .ensures)
+returns-4 c = rw ((c .before .before .before .before .before .before .before .before .f2 .given .1), (c .before .before .before .before .before .s3 .given .1)) (c .before .before .put-swung .ensures)
+
+same-length-5 : tie.Need-same-length-5
+same-length-5 c = search needs
+
+returns-5 : tie.Need-returns-5
+unfolding fieldBytes bodyOf bytesOf
+returns-5 c = rw (c .before .before .before .before .before .f3 .given .1) (c .before .before .put-link .ensures)
 
 pub put-field-spec : {M : Type 1} → statement M
 put-field-spec =
@@ -75,6 +88,8 @@ put-field-spec =
     put-wide-requires-2
     enum-known-s-2
     put-paced-requires
+    enum-known-s-3
+    put-swung-requires
     enum-known-f-3
     put-link-requires
     same-length
@@ -84,4 +99,6 @@ put-field-spec =
     same-length-3
     returns-3
     same-length-4
-    returns-4)
+    returns-4
+    same-length-5
+    returns-5)

@@ -9,8 +9,8 @@ mod runs;
 mod slow;
 
 pub use draft::Draft;
-pub use edges::{boxed, edges};
-pub use files::{bench_full, bench_typical, dense, hostile};
+pub use edges::{boxed, edges, swung_box};
+pub use files::{bench_full, bench_swung, bench_typical, dense, hostile};
 pub use random::Random;
 pub use runs::{Run, legal_calls, run};
 pub use slow::{

@@ -1,9 +1,13 @@
-//! The recorded answers of another implementation of document 01, in `data/`.
+//! The recorded answers of another implementation of document 01 and its change requests: the data of the crate `vectors`.
 
 use crate::RECORD_BYTES;
 
-static REPORTS: &[u8] = include_bytes!("../data/reports.bin");
-static RUNS: &[u8] = include_bytes!("../data/runs.bin");
+/// Reports of document 01's files, and of files with swing (C-11).
+static REPORTS: [&[u8]; 2] = [
+    include_bytes!("../../crates/vectors/data/reports.bin"),
+    include_bytes!("../../crates/vectors/data/swing.bin"),
+];
+static RUNS: &[u8] = include_bytes!("../../crates/vectors/data/runs.bin");
 
 /// A file and its report.
 pub struct ReportVector {
@@ -22,10 +26,12 @@ pub struct RunVector {
 
 /// All recorded reports: repeatedly length, file, length, report.
 pub fn reports() -> Vec<ReportVector> {
-    let mut bytes = Cursor(REPORTS);
     let mut vectors = Vec::new();
-    while !bytes.0.is_empty() {
-        vectors.push(ReportVector { file: bytes.sized(), report: bytes.sized() });
+    for recorded in REPORTS {
+        let mut bytes = Cursor(recorded);
+        while !bytes.0.is_empty() {
+            vectors.push(ReportVector { file: bytes.sized(), report: bytes.sized() });
+        }
     }
     vectors
 }
@@ -80,7 +86,7 @@ mod tests {
     #[test]
     fn plain_reports_agree() {
         let vectors = reports();
-        assert_eq!(vectors.len(), 399);
+        assert_eq!(vectors.len(), 379 + 300);
         for vector in vectors {
             let mut page = [0; LONGEST_REPORT];
             let written = (SIDE.report)(vector.file, &mut page) as usize;

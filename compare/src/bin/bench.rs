@@ -84,13 +84,16 @@ fn time_once(side: Side, file: &[u8]) -> Option<(f64, Vec<u8>)> {
 fn cases() -> Vec<Case> {
     let small = generate::boxed().bytes();
     let typical = generate::bench_typical();
+    let swung = generate::bench_swung();
     let full = generate::bench_full();
     vec![
         report("report, small (3 tasks, 2 sources, 4 links)", small.clone()),
         report("report, typical (12, 5, 30)", typical.clone()),
+        report("report, typical with swing", swung.clone()),
         report("report, full (32, 16, 256)", full.clone()),
         quote("quote, small", small.clone()),
         quote("quote, typical", typical.clone()),
+        quote("quote, typical with swing", swung.clone()),
         quote("quote, full", full.clone()),
         read("reading accepted, typical (run of no ticks)", typical.clone()),
         read("reading accepted, full (run of no ticks)", full.clone()),
@@ -100,6 +103,7 @@ fn cases() -> Vec<Case> {
         report("report, loaded by 1 exactly (3, 3, 3)", generate::exactly_one().bytes()),
         ticks("tick, small", small),
         ticks("tick, typical", typical),
+        ticks("tick, typical with swing", swung),
         ticks("tick, full", full),
         ticks("tick, a source in every second tick", busy()),
     ]

@@ -97,12 +97,20 @@ fn longest(random: &mut Random) -> Draft {
 pub fn noise(random: &mut Random) -> Vec<u8> {
     let mut file = Vec::new();
     for _ in 0..random.below(40) {
-        match random.below(6) {
+        match random.below(7) {
             0 => file.push(random.bits() as u8),
             1 => file.extend([random.below(6) as u8, 0, random.below(6) as u8]),
             2 => file.extend([1, 0, 4, 0, 0, 0, random.bits() as u8]),
             3 => file.extend([2, 0, 4, 0, 0, random.bits() as u8, 1]),
             4 => file.extend([3, 0, 2, random.below(5) as u8, random.bits() as u8]),
+            5 => file.extend([
+                3,
+                0,
+                3,
+                random.below(5) as u8,
+                random.bits() as u8,
+                random.within(49..=77) as u8,
+            ]),
             _ => {
                 file.extend([4, 0, 3, random.below(50) as u8, random.below(34) as u8, random.below(3) as u8])
             }

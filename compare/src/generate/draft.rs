@@ -29,6 +29,7 @@ impl Draft {
         let sources = self.sources.iter().map(|source| match source {
             Source::Fixed(spacing) => field(2, &spacing.to_be_bytes()),
             Source::Paced(pulses) => field(3, &pulses.to_be_bytes()),
+            Source::Swung(pulses, swing) => field(3, &[&pulses.to_be_bytes()[..], &[*swing]].concat()),
         });
         let links = self.links.iter().map(|link| field(4, link));
         tasks.chain(sources).chain(links).collect()

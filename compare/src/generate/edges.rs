@@ -1,7 +1,7 @@
 //! Each range of document 01 at both ends and one beyond, and orders of checks.
 
 use super::draft::{Draft, field};
-use crate::plain::description::Source::{Fixed, Paced};
+use crate::plain::description::Source::{Fixed, Paced, Swung};
 
 /// All these files. They are few, so every comparison takes them all.
 pub fn edges() -> Vec<Vec<u8>> {
@@ -28,6 +28,12 @@ fn numbers() -> Vec<Draft> {
         drafts.push(Draft::new(&[1], &[Paced(pulses)], &[[33, 1, 1]]));
         drafts.push(Draft::new(&[10_000_000], &[Paced(pulses)], &[[33, 1, 1]]));
     }
+    for pulses in [0, 1, 480, 960, 961] {
+        for swing in [0, 49, 50, 51, 66, 75, 76, 255] {
+            drafts.push(Draft::new(&[1], &[Swung(pulses, swing)], &[[33, 1, 1]]));
+            drafts.push(Draft::new(&[10_000], &[Swung(pulses, swing)], &[[33, 1, 1]]));
+        }
+    }
     for critical in [0, 1, 2, 255] {
         drafts.push(Draft::new(&[1], &[Fixed(9)], &[[33, 1, critical]]));
     }
@@ -43,6 +49,7 @@ fn counts() -> Vec<Draft> {
     }
     for sources in [0, 1, 15, 16, 17] {
         drafts.push(Draft::new(&[1], &vec![Paced(24); sources], &[]));
+        drafts.push(Draft::new(&[1], &vec![Swung(24, 66); sources], &[]));
         drafts.push(Draft::new(&[1], &vec![Fixed(100); sources], &[[32 + sources as u8, 1, 1]]));
     }
     for links in [255, 256, 257, 300] {
@@ -75,6 +82,7 @@ fn turns() -> Vec<Vec<u8>> {
     let task = || field(1, &[0, 0, 0, 1]);
     let fixed = || field(2, &[0, 0, 0, 9]);
     let paced = || field(3, &[0, 24]);
+    let swung = || field(3, &[0, 24, 66]);
     let link = |from, to| field(4, &[from, to, 1]);
     vec![
         [task(), fixed(), task()].concat(),
@@ -83,6 +91,9 @@ fn turns() -> Vec<Vec<u8>> {
         [task(), link(33, 1), fixed()].concat(),
         [task(), link(1, 2), task()].concat(),
         [fixed(), paced(), task()].concat(),
+        [task(), swung(), task()].concat(),
+        [task(), task(), link(1, 2), swung()].concat(),
+        [task(), task(), link(1, 2), field(3, &[0, 24, 50])].concat(),
         [task(), fixed(), link(33, 1), link(33, 1)].concat(),
         [task(), task(), fixed(), link(33, 2), link(33, 1)].concat(),
         [task(), task(), fixed(), link(33, 1), link(1, 2)].concat(),
@@ -97,13 +108,15 @@ fn turns() -> Vec<Vec<u8>> {
 /// Headers and bodies that are cut, strange or of a wrong length.
 fn headers() -> Vec<Vec<u8>> {
     let mut files = Vec::new();
-    let whole = Draft::new(&[1], &[Fixed(7), Paced(24)], &[[33, 1, 1]]).bytes();
+    let whole = Draft::new(&[1], &[Fixed(7), Paced(24), Swung(24, 66)], &[[33, 1, 1]]).bytes();
     files.extend((0..whole.len()).map(|length| whole[..length].to_vec()));
     for tag in [0, 1, 2, 3, 4, 5, 255] {
         for length in [0, 1, 2, 3, 4, 5, 256, 65_535u16] {
             let [high, low] = length.to_be_bytes();
             files.push(vec![tag, high, low, 0, 0, 0, 1]);
             files.push(vec![1, 0, 4, 0, 0, 0, 1, tag, high, low]);
+            files.push(vec![1, 0, 4, 0, 0, 0, 1, tag, high, low, 0, 24, 66]);
+            files.push(vec![1, 0, 4, 0, 0, 0, 1, tag, high, low, 0, 24, 66, 0]);
         }
     }
     files
@@ -113,7 +126,7 @@ fn headers() -> Vec<Vec<u8>> {
 fn figures() -> Vec<Draft> {
     let twin =
         |spacing| Draft::new(&[2; 3], &[Fixed(spacing)], &[[1, 3, 1], [2, 3, 1], [33, 1, 1], [33, 2, 1]]);
-    let mut drafts = vec![super::files::dense(), super::files::hostile(), boxed()];
+    let mut drafts = vec![super::files::dense(), super::files::hostile(), boxed(), swung_box()];
     drafts.extend((1..=12).map(twin));
     drafts.push(Draft::new(&[1; 3], &[], &[[1, 3, 1], [3, 2, 1]]));
     drafts.push(Draft::new(&[1; 3], &[Fixed(50)], &[[1, 3, 1], [3, 2, 1], [33, 3, 0]]));
@@ -125,4 +138,9 @@ fn figures() -> Vec<Draft> {
 pub fn boxed() -> Draft {
     let links = [[2, 1, 0], [2, 3, 1], [33, 2, 1], [34, 3, 1]];
     Draft::new(&[400, 300, 200], &[Paced(480), Fixed(2_000)], &links)
+}
+
+/// Box with a swing of 66.
+pub fn swung_box() -> Draft {
+    Draft { sources: vec![Swung(480, 66), Fixed(2_000)], ..boxed() }
 }

@@ -3,7 +3,7 @@
 use super::draft::Draft;
 use super::random::Random;
 use crate::plain::Plan;
-use crate::plain::description::Source::{self, Fixed, Paced};
+use crate::plain::description::Source::{self, Fixed, Paced, Swung};
 use crate::plain::quote::quote;
 use crate::plain::verdicts::{Verdict, Verdicts};
 
@@ -15,9 +15,10 @@ struct Shape {
     /// In percent: tasks out of the order that links follow, which is otherwise rising or falling.
     shuffled: u64,
     rising: bool,
-    /// In percent: critical links, paced sources.
+    /// In percent: critical links, paced sources, and of these the swung ones.
     critical: u64,
     paced: u64,
+    swung: u64,
     longest_run: u32,
     /// Links follow a random order of the tasks, so that none closes a loop.
     loop_free: bool,
@@ -34,6 +35,7 @@ impl Shape {
             rising: random.chance(60),
             critical: [10, 50, 100][random.index(3)],
             paced: [0, 50, 100][random.index(3)],
+            swung: [0, 50, 100][random.index(3)],
             longest_run: [5, 300, 20_000, 10_000_000][random.index(4)],
             loop_free: !random.chance(5),
         }
@@ -54,7 +56,8 @@ impl Shape {
 
     fn source(&self, random: &mut Random) -> Source {
         if random.chance(self.paced) {
-            Paced(random.within(1..=960) as u16)
+            let pulses = random.within(1..=960);
+            paced(pulses, self.swung, random)
         } else {
             Fixed(random.scaled(1..=1_000_000_000))
         }
@@ -91,6 +94,15 @@ impl Shape {
     }
 }
 
+/// A paced source, which has a swing in `swung` of a hundred.
+pub fn paced(pulses: u32, swung: u64, random: &mut Random) -> Source {
+    if swung > 0 && random.chance(swung) {
+        Swung(pulses as u16, random.within(51..=75) as u8)
+    } else {
+        Paced(pulses as u16)
+    }
+}
+
 /// A random file of any size.
 pub fn any(random: &mut Random) -> Draft {
     Shape::any(random).draft(random)
@@ -105,7 +117,8 @@ pub fn tuned(random: &mut Random) -> Draft {
     let mut draft = shape.draft(random);
     widen(&mut draft, 960, random);
     // One critical link at least depends on the tempo.
-    draft.sources[0] = Paced(random.scaled(1..=960) as u16);
+    let pulses = random.scaled(1..=960);
+    draft.sources[0] = paced(pulses, shape.swung, random);
     draft.links.retain(|link| link[0] != 33);
     draft.links.truncate(255);
     draft.links.push([33, random.within(1..=shape.tasks) as u8, 1]);
@@ -128,6 +141,7 @@ fn widen(draft: &mut Draft, most_pulses: u32, random: &mut Random) {
         *source = match *source {
             Fixed(spacing) => Fixed(spacing.max(100_000)),
             Paced(_) => Paced(random.scaled(1..=most_pulses) as u16),
+            Swung(_, swing) => Swung(random.scaled(1..=most_pulses) as u16, swing),
         };
     }
 }
@@ -220,7 +234,8 @@ pub fn any_dense(random: &mut Random) -> Draft {
             *link = [link[1], link[0], random.chance(30).into()];
         }
     }
-    draft.sources = vec![Paced(random.scaled(1..=960) as u16), Fixed(random.scaled(1..=1_000_000_000))];
+    let pulses = random.scaled(1..=960);
+    draft.sources = vec![paced(pulses, 30, random), Fixed(random.scaled(1..=1_000_000_000))];
     for source in [33, 34] {
         draft.links.push([source, random.within(1..=tasks.into()) as u8, 1]);
     }
@@ -260,7 +275,7 @@ pub fn nearly_full(random: &mut Random) -> Draft {
 }
 
 /// An accepted file of the given size with a quote inside the range, for the benchmarks.
-fn bench_file(tasks: u32, sources: u32, links: usize, seed: u64) -> Vec<u8> {
+fn bench_file(tasks: u32, sources: u32, links: usize, swung: u64, seed: u64) -> Vec<u8> {
     let mut random = Random::new(seed);
     let shape = Shape {
         tasks,
@@ -270,6 +285,7 @@ fn bench_file(tasks: u32, sources: u32, links: usize, seed: u64) -> Vec<u8> {
         rising: false,
         critical: 50,
         paced: 80,
+        swung,
         longest_run: 400,
         loop_free: true,
     };
@@ -292,10 +308,15 @@ fn bench_file(tasks: u32, sources: u32, links: usize, seed: u64) -> Vec<u8> {
 
 /// A file of common size: 12 tasks, 5 sources, 30 links.
 pub fn bench_typical() -> Vec<u8> {
-    bench_file(12, 5, 30, 12)
+    bench_file(12, 5, 30, 0, 12)
+}
+
+/// The same size, each paced source with a swing.
+pub fn bench_swung() -> Vec<u8> {
+    bench_file(12, 5, 30, 100, 12)
 }
 
 /// A file of the largest size: 32 tasks, 16 sources, 256 links.
 pub fn bench_full() -> Vec<u8> {
-    bench_file(32, 16, 256, 32)
+    bench_file(32, 16, 256, 0, 32)
 }

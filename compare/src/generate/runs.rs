@@ -4,7 +4,7 @@ use super::draft::Draft;
 use super::files;
 use super::random::Random;
 use crate::plain::Plan;
-use crate::plain::description::Source::{self, Fixed, Paced};
+use crate::plain::description::Source::{self, Fixed};
 
 pub struct Run {
     pub file: Vec<u8>,
@@ -53,7 +53,8 @@ fn brisk(random: &mut Random) -> Draft {
         *source = if random.chance(85) {
             Fixed(random.scaled(1..=63))
         } else {
-            Paced(random.within(1..=960) as u16)
+            let pulses = random.within(1..=960);
+            files::paced(pulses, 50, random)
         };
     }
     draft

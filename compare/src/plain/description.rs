@@ -1,5 +1,7 @@
 //! Descriptions and their files ("The description file"): the reader, refusals 1 to 8.
 
+use std::ops::RangeInclusive;
+
 use super::list::List;
 use super::refusal::{Refusal, Word};
 
@@ -10,6 +12,9 @@ pub const LINKS: usize = 256;
 const LONGEST_RUN: u32 = 10_000_000;
 const WIDEST_SPACING: u32 = 1_000_000_000;
 const MOST_PULSES: u16 = 960;
+/// The swing in percent, and what straight time counts as.
+const SWINGS: RangeInclusive<u8> = 51..=75;
+const STRAIGHT: u8 = 50;
 /// The number of the first source, whatever the count of tasks.
 const FIRST_SOURCE: u8 = 33;
 
@@ -18,8 +23,10 @@ const FIRST_SOURCE: u8 = 33;
 pub enum Source {
     /// Least spacing in ticks.
     Fixed(u32),
-    /// Pulses per quarter note.
+    /// Pulses per quarter note, in straight time.
     Paced(u16),
+    /// Pulses per quarter note, and the swing in percent.
+    Swung(u16, u8),
 }
 
 impl Source {
@@ -28,9 +35,15 @@ impl Source {
     pub fn spacing(self, tempo: u32) -> u32 {
         match self {
             Source::Fixed(spacing) => spacing,
-            Source::Paced(pulses) => 600_000_000 / (tempo * u32::from(pulses)),
+            Source::Paced(pulses) => paced_spacing(pulses, STRAIGHT, tempo),
+            Source::Swung(pulses, swing) => paced_spacing(pulses, swing, tempo),
         }
     }
+}
+
+#[inline]
+fn paced_spacing(pulses: u16, swing: u8, tempo: u32) -> u32 {
+    12_000_000 * (100 - u32::from(swing)) / (tempo * u32::from(pulses))
 }
 
 /// A spacing for each source.
@@ -110,16 +123,17 @@ impl Description {
     #[inline]
     fn take_field(&mut self, bytes: &[u8]) -> Result<usize, Word> {
         let &[tag, high, low, ref rest @ ..] = bytes else { return Err(Word::CutShort) };
-        let length = body_length(tag).ok_or(Word::StrangeTag)?;
-        if u16::from_be_bytes([high, low]) != length as u16 {
+        let length = usize::from(u16::from_be_bytes([high, low]));
+        if !length_fits(tag, length).ok_or(Word::StrangeTag)? {
             return Err(Word::WrongLength);
         }
         match *rest.get(..length).ok_or(Word::CutShort)? {
             [a, b, c, d] if tag == 1 => self.add_task(u32::from_be_bytes([a, b, c, d]))?,
             [a, b, c, d] => self.add_fixed(u32::from_be_bytes([a, b, c, d]))?,
             [a, b] => self.add_paced(u16::from_be_bytes([a, b]))?,
+            [a, b, swing] if tag == 3 => self.add_swung(u16::from_be_bytes([a, b]), swing)?,
             [from, to, critical] => self.add_link(from, to, critical)?,
-            _ => unreachable!("body_length gives 2, 3 or 4"),
+            _ => unreachable!("a length that fits is 2, 3 or 4"),
         }
         Ok(3 + length)
     }
@@ -139,6 +153,11 @@ impl Description {
 
     fn add_paced(&mut self, pulses: u16) -> Result<(), Word> {
         self.add_source(Source::Paced(pulses), (1..=MOST_PULSES).contains(&pulses))
+    }
+
+    fn add_swung(&mut self, pulses: u16, swing: u8) -> Result<(), Word> {
+        let on_scale = (1..=MOST_PULSES).contains(&pulses) && SWINGS.contains(&swing);
+        self.add_source(Source::Swung(pulses, swing), on_scale)
     }
 
     fn add_source(&mut self, source: Source, on_scale: bool) -> Result<(), Word> {
@@ -168,13 +187,13 @@ impl Description {
     }
 }
 
-/// The length that a tag's body must have.
+/// Whether a length is the tag's, if there is such a tag.
 #[inline]
-fn body_length(tag: u8) -> Option<usize> {
+fn length_fits(tag: u8, length: usize) -> Option<bool> {
     match tag {
-        1 | 2 => Some(4),
-        3 => Some(2),
-        4 => Some(3),
+        1 | 2 => Some(length == 4),
+        3 => Some(length == 2 || length == 3),
+        4 => Some(length == 3),
         _ => None,
     }
 }

@@ -1,11 +1,11 @@
 //! The figures P1 to P10 of document 01, document 000's printed example, and the record's rules.
 
-use super::description::Source::{self, Fixed, Paced};
+use super::description::Source::{self, Fixed, Paced, Swung};
 use super::machine::{Machine, Record};
 use super::refusal::{Refusal, Word};
 use super::verdicts::{Verdict, Verdicts};
 use super::{Plan, quote::quote, report::report};
-use crate::generate::{Draft, boxed};
+use crate::generate::{Draft, boxed, swung_box};
 
 fn plan(runs: &[u32], sources: &[Source], links: &[[u8; 3]]) -> Plan {
     Plan::read(&Draft::new(runs, sources, links).bytes()).unwrap_or_else(|refusal| panic!("{refusal:?}"))
@@ -80,6 +80,20 @@ fn p6_p7_neighbourhoods() {
 fn p8_spacings() {
     assert_eq!((Paced(480).spacing(1_200), Paced(24).spacing(1_200)), (1_041, 20_833));
     assert_eq!((Paced(24).spacing(200), Paced(24).spacing(3_000)), (125_000, 8_333));
+}
+
+/// C-11: the spacings, the scale, the lengths, and Box with a swing of 66.
+#[test]
+fn swing() {
+    assert_eq!((Swung(480, 66).spacing(1_200), Swung(480, 75).spacing(1_200)), (708, 520));
+    assert_eq!((Swung(960, 75).spacing(3_000), Swung(1, 51).spacing(200)), (104, 2_940_000));
+    for (swing, read) in [(49, false), (50, false), (51, true), (75, true), (76, false)] {
+        let answer = report(&Draft::new(&[1], &[Swung(24, swing)], &[]).bytes());
+        assert_eq!(answer, if read { &b"tempo 300.0\n"[..] } else { b"refused 6 at 7\n" });
+    }
+    assert_eq!(report(&[1, 0, 4, 0, 0, 0, 1, 3, 0, 4, 0, 24, 66, 66]), b"refused 3 at 7\n");
+    assert_eq!(report(&[1, 0, 4, 0, 0, 0, 1, 3, 0, 3, 0, 24]), b"refused 1 at 7\n");
+    assert!(report(&swung_box().bytes()).starts_with(b"tempo 121.2\n"));
 }
 
 #[test]

@@ -22,8 +22,7 @@ const SWUNG_BOX: [u8; 58] =
 
 // A task of run 1, a paced source with a swing, and the critical link between them.
 fn swung(pulses: u16, swing: u8) -> [u8; 19] {
-    let mut file =
-        *b"\x01\x00\x04\x00\x00\x00\x01\x03\x00\x03\x00\x00\x00\x04\x00\x03\x21\x01\x01";
+    let mut file = *b"\x01\x00\x04\x00\x00\x00\x01\x03\x00\x03\x00\x00\x00\x04\x00\x03\x21\x01\x01";
     file[10] = (pulses / 256 % 256) as u8;
     file[11] = (pulses % 256) as u8;
     file[12] = swing;
@@ -163,11 +162,26 @@ fn lengths() -> Tally {
     let t = cases::reads(t, b"\x01\x00\x04\x00\x00\x00\x01\x03\x00\x01\x18", 3, 7);
     let t = cases::reads(t, b"\x01\x00\x04\x00\x00\x00\x01\x03\x00\x02\x00\x18", 0, 0);
     let t = cases::reads(t, b"\x01\x00\x04\x00\x00\x00\x01\x03\x00\x02\x00", 1, 7);
-    let t = cases::reads(t, b"\x01\x00\x04\x00\x00\x00\x01\x03\x00\x03\x00\x18\x42", 0, 0);
+    let t = cases::reads(
+        t,
+        b"\x01\x00\x04\x00\x00\x00\x01\x03\x00\x03\x00\x18\x42",
+        0,
+        0,
+    );
     let t = cases::reads(t, b"\x01\x00\x04\x00\x00\x00\x01\x03\x00\x03\x00\x18", 1, 7);
-    let t = cases::reads(t, b"\x01\x00\x04\x00\x00\x00\x01\x03\x00\x04\x00\x18\x42\x42", 3, 7);
+    let t = cases::reads(
+        t,
+        b"\x01\x00\x04\x00\x00\x00\x01\x03\x00\x04\x00\x18\x42\x42",
+        3,
+        7,
+    );
     let t = cases::reads(t, b"\x01\x00\x04\x00\x00\x00\x01\x03\x00\x04\x00", 3, 7);
-    cases::reads(t, b"\x01\x00\x04\x00\x00\x00\x01\x03\x01\x03\x00\x18\x42", 3, 7)
+    cases::reads(
+        t,
+        b"\x01\x00\x04\x00\x00\x00\x01\x03\x01\x03\x00\x18\x42",
+        3,
+        7,
+    )
 }
 
 // C-11: 480 pulses at 120.0 with the swings 66 and 75; the least and the widest spacing with a swing.

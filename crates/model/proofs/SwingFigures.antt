@@ -6,6 +6,7 @@ use Rattle.model.proofs.Figures.{computing}
 pub swing-figures : SwingFigures
 unfolding computing
 swing-figures = record {
+  straight-rule = λ p t. refl;
   straight = refl;
   swing-66 = refl;
   swing-75 = refl;

@@ -1,5 +1,5 @@
 -- Request C-11, "Swing on the sequencer": the files its figures speak of, and the figures as the rows of one statement.
-use Prim.Native.Nat.{ℕ}
+use Prim.Native.Nat.{ℕ, _*_, _/_}
 use mathlib.Core.List.{List, [], _∷_, _++_}
 use mathlib.Core.Path.{_≡_}
 use Rattle.model.specs.declared.Source.the-variants.{Paced, Swung}
@@ -30,6 +30,8 @@ abbrev pub refusedAt7 : ℕ → Numbered
 refusedAt7 number = record { number = number; value = 7 }
 
 pub record SwingFigures : Type 0 where
+  -- straight time keeps document 01's rule
+  pub straight-rule : (p t : ℕ) → spacing (Paced p) t ≡ 600000000 / (t * p)
   -- 480 pulses at 120.0
   pub straight : spacing (Paced 480) 1200 ≡ 1041
   pub swing-66 : spacing (Swung 480 66) 1200 ≡ 708

@@ -70,7 +70,16 @@ unfolding spacing
 spacing-most s t c = by-kind (λ x. spacing x t ≤ 1000000000) (λ m a b. b)
     (λ x k. rw (k .is t) (omega (arith, div-le-self (12000000 * (100 - k .swing)) (t * k .pulses), k .swing-low))) s c
 
--- the same of the sources of an accepted description
+-- "a shuffled pulse comes sooner after the one before" (C-11): more swing gives no larger spacing, and straight time the largest
+pub swing-anti : (p swing swing′ t : ℕ) → 1 ≤ p → 1 ≤ t → swing ≤ swing′ → pacedSpacing swing′ p t ≤ pacedSpacing swing p t
+swing-anti p swing swing′ t a b h =
+    le-div-iff-mul-le (mul-pos b a) .1 (omega (arith, div-mul-le-self (12000000 * (100 - swing′)) (t * p)))
+
+pub swung-sooner : (p swing t : ℕ) → onScale (OfSource (Swung p swing)) ≡ true → 1 ≤ t → spacing (Swung p swing) t ≤ spacing (Paced p) t
+unfolding spacing
+swung-sooner p swing t c b = let w = swung-scale p swing c in swing-anti p 50 swing t (w .0) b (omega (arith, w .2))
+
+-- the same laws of the sources of an accepted description
 module _ (d : Description) (g : WellFormed d) (u : ℕ) (from : 33 ≤ u) (within-count : u < 33 + d .«source_count») where
   pub gap-anti : (t t′ : ℕ) → 1 ≤ t → t ≤ t′ → spacingOf d t′ u ≤ spacingOf d t u
   unfolding spacingOf

@@ -1,5 +1,4 @@
 -- `spacing_by` meets its contract: the spacing by kind of source. Assumes nothing.
-use Prim.Native.Nat.{_*_, _≤_, _<_}
 use native.Mathlib.Omega.{arith}
 use native.Mathlib.Nat.{mul-pos, mul-le-mul}
 use borrow.Author.Tests.{eq-eqb, ne-eqb}

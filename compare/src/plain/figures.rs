@@ -94,6 +94,7 @@ fn swing() {
     assert_eq!(report(&[1, 0, 4, 0, 0, 0, 1, 3, 0, 4, 0, 24, 66, 66]), b"refused 3 at 7\n");
     assert_eq!(report(&[1, 0, 4, 0, 0, 0, 1, 3, 0, 3, 0, 24]), b"refused 1 at 7\n");
     assert!(report(&swung_box().bytes()).starts_with(b"tempo 121.2\n"));
+    assert_eq!(std::fs::read("../samples/box-swing.bin").ok(), Some(swung_box().bytes()));
 }
 
 #[test]

@@ -7,8 +7,7 @@ use native.Mathlib.Omega.{arith}
 use native.Mathlib.Numerals.{add-one}
 use lib.ListN.{length, getD, set, take, drop}
 use lib.Seq.{take-all}
-use lib.Dec.{leb}
-use borrow.Author.Tests.{lt-ltb, le-ltb, leb-true}
+use borrow.Author.Tests.{lt-ltb, le-ltb}
 use Rattle.model.specs.declared.Description.{Description}
 use Rattle.model.specs.declared.Machine.{Machine}
 use Rattle.model.specs.declared.Refusal.the-variants.{ShortPage}
@@ -19,7 +18,7 @@ use Rattle.model.specs.File.{judge, filledBy}
 use Rattle.model.specs.Verdicts.{judgeAt, onKnob}
 use Rattle.model.specs.Machine.{idle, blankMachine, lawful, plainTick}
 use Rattle.model.specs.History.{Call, answers, left}
-use Rattle.lemmas.proofs.Tests.{and-left, and-right}
+use Rattle.lemmas.proofs.Tests.{within}
 use Rattle.lemmas.proofs.Table.{length-tab, getD-tab, store-more}
 use Rattle.theory.proofs.WellFormed.{WellFormed}
 use Rattle.assurance.proofs.Replay.{callAt, quietCall}
@@ -89,8 +88,7 @@ unfolding judgeAt
 on-knob d t e = go (judge d) refl (onKnob t) refl
   where
     go : (o : Outcome) → judge d ≡ o → (b : Bool) → onKnob t ≡ b → (200 ≤ t) × (t ≤ 3000)
-    go Done p true q =
-        (leb-true 200 t (and-left (leb 200 t) (leb t 3000) q), leb-true t 3000 (and-right (leb 200 t) (leb t 3000) q))
+    go Done p true q = within 200 t 3000 q
     go Done p false q = refused-not (rw (p, q) at e)
     go (Refused r place) p b q = refused-not (rw p at e)
 

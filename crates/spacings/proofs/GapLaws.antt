@@ -6,8 +6,6 @@ use mathlib.Core.List.{List}
 use native.Mathlib.Omega.{arith}
 use lib.ListN.{length, getD, set, replicate}
 use lib.Seq.{getD-set-same, getD-set-other}
-use lib.Dec.{leb}
-use borrow.Author.Tests.{leb-true}
 use Rattle.model.specs.declared.Source.{Source}
 use Rattle.model.specs.declared.Description.{Description}
 use Rattle.model.specs.declared.Field.the-variants.{OfSource}
@@ -15,7 +13,7 @@ use Rattle.model.specs.Refusals.{noSource}
 use Rattle.model.specs.Field.{onScale}
 use Rattle.model.specs.Delays.{spacing, spacingOf}
 use Rattle.model.specs.Verdicts.{onKnob}
-use Rattle.lemmas.proofs.Tests.{at-or-not, and-left, and-right}
+use Rattle.lemmas.proofs.Tests.{at-or-not, within}
 use Rattle.lemmas.proofs.Table.{stored, getD-same}
 use Rattle.theory.proofs.WellFormed.{WellFormed}
 use Rattle.theory.proofs.Spacing.{spacing-some, spacing-most}
@@ -77,4 +75,4 @@ source-on d u g p =
 
 -- a tempo on the knob
 pub knob-is : (t : ℕ) → onKnob t ≡ true → (200 ≤ t) × (t ≤ 3000)
-knob-is t e = (leb-true 200 t (and-left (leb 200 t) (leb t 3000) e), leb-true t 3000 (and-right (leb 200 t) (leb t 3000) e))
+knob-is t e = within 200 t 3000 e

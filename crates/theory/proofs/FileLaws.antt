@@ -4,7 +4,7 @@ use mathlib.Core.Path.{_≡_, refl, sym, ap, _∙_}
 use mathlib.Core.Bool.{Bool, true, false, cond, _||_}
 use mathlib.Core.Logic.{inl, inr}
 use native.Mathlib.Omega.{arith}
-use lib.Dec.{leb, eqb, eqb·suc-zero}
+use lib.Dec.{eqb, eqb·suc-zero}
 use lib.ListN.{length, getD}
 use borrow.Author.Tests.{leb-true, eqb-false}
 use Rattle.model.specs.declared.Description.{Description}
@@ -20,7 +20,7 @@ use Rattle.model.specs.Field.{fieldOf, fieldCount, isTask, isSource}
 use Rattle.model.specs.File.{fileOf, parseFile, lastChecks, finished, readFile, overfull, judge}
 use Rattle.model.specs.Verdicts.{judgeAt, onKnob}
 use Rattle.lemmas.proofs.Outcomes.{refused-not}
-use Rattle.lemmas.proofs.Tests.{or-new, or-cases, and-left, and-right}
+use Rattle.lemmas.proofs.Tests.{or-new, or-cases, and-left, and-right, within}
 use Rattle.theory.proofs.WellFormed.{WellFormed, rises}
 use Rattle.theory.proofs.WellFormed.{Fielded}
 use Rattle.theory.proofs.RecordLaws.{Widths, copyAt, progressAt, read-start, field-task, field-source, field-link}
@@ -50,12 +50,12 @@ judged-some : (d : Description) → Judged d → 1 ≤ d .«task_count»
 judged-some d j = rw (copy-links d (d .«link_count»)) at (j .last .some)
 
 is-task : (n i : ℕ) → isTask n i ≡ true → (1 ≤ i) × (i ≤ n)
-is-task n i e = (leb-true 1 i (and-left (leb 1 i) (leb i n) e), leb-true i n (and-right (leb 1 i) (leb i n) e))
+is-task n i e = within 1 i n e
 
 is-source : (n i : ℕ) → isSource n i ≡ true → (33 ≤ i) × (i < 33 + n)
 is-source n i e =
-    let h = leb-true i (32 + n) (and-right (leb 33 i) (leb i (32 + n)) e) in
-    (leb-true 33 i (and-left (leb 33 i) (leb i (32 + n)) e), omega arith)
+    let w = within 33 i (32 + n) e in
+    (w .0, omega (arith, w .1))
 
 -- the counts are within their limits, and every field passes its check
 pub record FieldsPass (d : Description) : Type 0 where
@@ -78,8 +78,8 @@ module _ (d : Description) (j : FieldsPass d) where
     few-tasks = j .few .tasks;
     few-sources = j .few .sources;
     few-links = j .few .links;
-    run-some = λ k p q. leb-true 1 (runOf d k) (and-left (leb 1 (runOf d k)) (leb (runOf d k) 10000000) (task-passes (k - 1) (omega arith) .scale));
-    run-most = λ k p q. leb-true (runOf d k) 10000000 (and-right (leb 1 (runOf d k)) (leb (runOf d k) 10000000) (task-passes (k - 1) (omega arith) .scale));
+    run-some = λ k p q. within 1 (runOf d k) 10000000 (task-passes (k - 1) (omega arith) .scale) .0;
+    run-most = λ k p q. within 1 (runOf d k) 10000000 (task-passes (k - 1) (omega arith) .scale) .1;
     source-scale = λ u p q. source-passes (u - 33) (omega arith) .scale;
     link-from = λ l h.
         let t = linkAt d l .from in
@@ -164,6 +164,6 @@ unfolding judgeAt
 at-known d t w = go (judge d) refl (onKnob t) refl
   where
     go : (o : Outcome) → judge d ≡ o → (b : Bool) → onKnob t ≡ b → onDone o (cond b (let x : Outcome = Done in x) (Refused OffKnob 0)) Refused ≡ Done → WellFormed d × (200 ≤ t) × (t ≤ 3000)
-    go Done e true k f = (judge-well-formed d w e, leb-true 200 t (and-left (leb 200 t) (leb t 3000) k), leb-true t 3000 (and-right (leb 200 t) (leb t 3000) k))
+    go Done e true k f = let z = within 200 t 3000 k in (judge-well-formed d w e, z .0, z .1)
     go Done e false k f = refused-not f
     go (Refused r p) e b k f = refused-not f

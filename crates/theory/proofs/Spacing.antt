@@ -5,7 +5,6 @@ use mathlib.Core.Bool.{true, _&&_}
 use native.Mathlib.Omega.{arith}
 use native.Mathlib.Nat.{le-div-iff-mul-le, div-mul-le-self, mul-le-mul-left, mul-le-mul-right, div-le-self, mul-pos}
 use lib.Dec.{leb}
-use borrow.Author.Tests.{leb-true}
 use Rattle.model.specs.declared.Source.{Source}
 use Rattle.model.specs.declared.Source.the-variants.{Fixed, Paced, Swung}
 use Rattle.model.specs.declared.Description.{Description}
@@ -13,12 +12,8 @@ use Rattle.model.specs.declared.Field.the-variants.{OfSource}
 use Rattle.model.specs.Field.{onScale}
 use Rattle.model.specs.Graph.{sourceAt}
 use Rattle.model.specs.Delays.{pacedSpacing, spacing, spacingOf}
-use Rattle.lemmas.proofs.Tests.{and-left, and-right}
+use Rattle.lemmas.proofs.Tests.{and-left, and-right, within}
 use Rattle.theory.proofs.WellFormed.{WellFormed}
-
--- a number from one limit to another, as the scale tests it
-within : (a x b : ℕ) → (leb a x && leb x b) ≡ true → (a ≤ x) × (x ≤ b)
-within a x b e = (leb-true a x (and-left (leb a x) (leb x b) e), leb-true x b (and-right (leb a x) (leb x b) e))
 
 -- a larger divisor gives no larger quotient
 div-anti : (n k k′ : ℕ) → 1 ≤ k → k ≤ k′ → n / k′ ≤ n / k

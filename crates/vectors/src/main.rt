@@ -36,22 +36,28 @@ fn print_tally(t: Tally, what: &[u8]) {
     }
 }
 
-// The reports of a data file.
-fn print_reports(path: &[u8], what: &[u8]) {
-    let mut data = [0u8; 262144];
-    let n = read_data(path, &mut data);
-    print_tally(reports::compare_all(&data[..n]), what);
+// What the cases of a data file are.
+enum Cases {
+    Reports,
+    Runs,
 }
 
-// The runs of a data file.
-fn print_runs(path: &[u8], what: &[u8]) {
+fn compare_all(s: &[u8], cases: Cases) -> Tally {
+    match cases {
+        Cases::Reports => reports::compare_all(s),
+        Cases::Runs => runs::compare_all(s),
+    }
+}
+
+// Compares the cases of a data file.
+fn compare_file(path: &[u8], cases: Cases, what: &[u8]) {
     let mut data = [0u8; 262144];
     let n = read_data(path, &mut data);
-    print_tally(runs::compare_all(&data[..n]), what);
+    print_tally(compare_all(&data[..n], cases), what);
 }
 
 fn main() {
-    print_reports(b"reports.bin", b" reports agree\n");
-    print_reports(b"swing.bin", b" reports with swing agree\n");
-    print_runs(b"runs.bin", b" runs agree\n");
+    compare_file(b"reports.bin", Cases::Reports, b" reports agree\n");
+    compare_file(b"swing.bin", Cases::Reports, b" reports with swing agree\n");
+    compare_file(b"runs.bin", Cases::Runs, b" runs agree\n");
 }

@@ -1,4 +1,7 @@
 -- `checks::on_scale` meets its contract. Assumes nothing.
+use mathlib.Core.Path.{_≡_}
+use mathlib.Core.Bool.{_&&_}
+use lib.Dec.{leb}
 use borrow.Author.Needs.{needs}
 use Rattle.checks.proofs.on_scale.Statement.{statement}
 use Rattle.checks.proofs.on_scale.Tie as tie
@@ -55,10 +58,16 @@ returns-3 : tie.Need-returns-3
 returns-3 c = rw ((c .before .before .before .before .before .f2 .given .1), (c .before .before .s2 .given .1)) (c .within3 .ensures)
 
 returns-4 : tie.Need-returns-4
-returns-4 c = rw ((c .before .before .before .before .before .before .before .f2 .given .1), (c .before .before .before .before .s3 .given .1), ← (c .before .before .within4 .ensures), (c .before .if1 .taken), (c .within5 .ensures))
+returns-4 c =
+    let n = c .before .before .before .before .s3 .given .0 .0 in
+    let pulses : c .before .before .within4 .result ≡ (leb 1 n && leb n 960) = c .before .before .within4 .ensures in
+    rw ((c .before .before .before .before .before .before .before .f2 .given .1), (c .before .before .before .before .s3 .given .1), ← pulses, (c .before .if1 .taken), (c .within5 .ensures))
 
 returns-5 : tie.Need-returns-5
-returns-5 c = rw ((c .before .before .before .before .before .before .f2 .given .1), (c .before .before .before .s3 .given .1), ← (c .before .within4 .ensures), (c .if1 .left))
+returns-5 c =
+    let n = c .before .before .before .s3 .given .0 .0 in
+    let pulses : c .before .within4 .result ≡ (leb 1 n && leb n 960) = c .before .within4 .ensures in
+    rw ((c .before .before .before .before .before .before .f2 .given .1), (c .before .before .before .s3 .given .1), ← pulses, (c .if1 .left))
 
 returns-6 : tie.Need-returns-6
 returns-6 c = rw ((c .before .before .f3 .given .1))

@@ -12,7 +12,7 @@ mul-result : tie.Need-mul-result
 mul-result c = let S = c .before in omega (arith, mul-le-mul (S .pre .2) (S .pre .0))
 
 div-result : tie.Need-div-result
-div-result c = let S = c .before in mul-pos {m = S .args .t} {n = S .args .pulses} (omega (arith, S .pre .1)) (omega (arith, c .if1 .left))
+div-result c = let S = c .before in omega (arith, mul-pos {m = S .args .t} {n = S .args .pulses} (omega (arith, S .pre .1)) (omega (arith, c .if1 .left)))
 
 returns-2 : tie.Need-returns-2
 returns-2 c = rw (ne-eqb _ _ (c .if1 .left))

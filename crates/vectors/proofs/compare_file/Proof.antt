@@ -1,9 +1,9 @@
--- `vectors::print_runs` is safe and ends. Assumes nothing.
+-- `vectors::compare_file` is safe and ends. Assumes nothing.
 use mathlib.Core.Path.{sym}
 use lib.Seq.{length-take-le}
 use borrow.Author.Needs.{needs}
-use Rattle.vectors.proofs.print_runs.Statement.{statement}
-use Rattle.vectors.proofs.print_runs.Tie as tie
+use Rattle.vectors.proofs.compare_file.Statement.{statement}
+use Rattle.vectors.proofs.compare_file.Tie as tie
 
 slice-aggregate-read-data : tie.Need-slice-aggregate-read-data
 slice-aggregate-read-data c = search needs
@@ -26,8 +26,8 @@ print-tally-requires c κs = search needs
 returns : tie.Need-returns
 returns c = search needs
 
-pub print-runs-spec : {M : Type 1} → statement M
-print-runs-spec =
+pub compare-file-spec : {M : Type 1} → statement M
+compare-file-spec =
     tie.close
     (tie.spec
     slice-aggregate-read-data

@@ -55,10 +55,13 @@ unfolding spacing
 spacing-anti s t t′ c p h = by-kind (λ x. spacing x t′ ≤ spacing x t) (λ m a b. omega arith)
     (λ x k. rw (k .is t, k .is t′) (div-anti (12000000 * (100 - k .swing)) (t * k .pulses) (t′ * k .pulses) (mul-pos p (k .low)) (mul-le-mul-right (k .pulses) h))) s c
 
+-- no paced source has a spacing below 104 (960 pulses with a swing of 75 at 300.0)
+pub paced-least : (s : Source) (t : ℕ) → Paces s → 1 ≤ t → t ≤ 3000 → 104 ≤ spacing s t
+paced-least s t k p h = rw (k .is t) (le-div-iff-mul-le (mul-pos p (k .low)) .1 (omega (arith, mul-le-mul-left t (k .high), mul-le-mul-right 960 h, k .swing-high)))
+
 pub spacing-some : (s : Source) (t : ℕ) → onScale (OfSource s) ≡ true → 1 ≤ t → t ≤ 3000 → 1 ≤ spacing s t
 unfolding spacing
-spacing-some s t c p h = by-kind (λ x. 1 ≤ spacing x t) (λ m a b. a)
-    (λ x k. rw (k .is t) (le-div-iff-mul-le (mul-pos p (k .low)) .1 (omega (arith, mul-le-mul-left t (k .high), mul-le-mul-right 960 h, k .swing-high)))) s c
+spacing-some s t c p h = by-kind (λ x. 1 ≤ spacing x t) (λ m a b. a) (λ x k. omega (arith, paced-least x t k p h)) s c
 
 pub spacing-most : (s : Source) (t : ℕ) → onScale (OfSource s) ≡ true → spacing s t ≤ 1000000000
 unfolding spacing

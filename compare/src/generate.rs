@@ -7,6 +7,7 @@ mod files;
 mod random;
 mod runs;
 mod slow;
+mod steady;
 
 pub use draft::Draft;
 pub use edges::{boxed, edges, swung_box};
@@ -17,6 +18,7 @@ pub use slow::{
     exactly_one, level_1807, many_levels, one_level, small_spacings, small_spacings_of_many, ten_levels,
     worst_level, worst_of_many,
 };
+pub use steady::steady;
 
 /// A file of a kind chosen by chance.
 pub fn file(random: &mut Random) -> Vec<u8> {

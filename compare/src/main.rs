@@ -94,6 +94,8 @@ fn check_vectors(side: &Side) -> Result<(), Difference> {
 struct Tally {
     reports: u64,
     quotes: u64,
+    /// Accepted files beside the same with fixed sources.
+    steady: u64,
     runs: u64,
     /// Quotes inside the range, at its ends, and the refusals by number.
     inside: u64,
@@ -143,6 +145,21 @@ fn compare_file(
     same(|| format!("quote of {}", hex(file)), ("plain", Number(quoted)), (proved.name, answer))?;
     tally.quotes += 1;
     tally.note_quote(quoted);
+    compare_steady(proved, file, quoted, tally)
+}
+
+/// A verdict goes by structure and spacings alone: the file with each source fixed at its spacing
+/// at the tempo shown has the same lines after the first.
+fn compare_steady(proved: &Side, file: &[u8], quoted: i64, tally: &mut Tally) -> Result<(), Difference> {
+    let shown = u32::try_from(quoted).unwrap_or(plain::SLOWEST);
+    let Some(steady) = generate::steady(file, shown) else {
+        return Ok(());
+    };
+    for side in [&plain::SIDE, proved] {
+        let input = || format!("links of {} and of {}", hex(file), hex(&steady));
+        same(input, (side.name, links(side, file)), ("steady", links(side, &steady)))?;
+    }
+    tally.steady += 1;
     Ok(())
 }
 
@@ -189,6 +206,7 @@ impl fmt::Display for Tally {
             "proved and plain: {} reports, {} quotes and {} runs agree",
             self.reports, self.quotes, self.runs
         )?;
+        writeln!(f, "  links: those of {} files agree with those of fixed sources alike", self.steady)?;
         writeln!(
             f,
             "  quotes: {} inside the range, {} at 20.0, {} at 300.0",
@@ -226,6 +244,14 @@ fn report(side: &Side, file: &[u8], room: usize) -> Page {
     let mut page = vec![UNTOUCHED; room];
     let code = (side.report)(file, &mut page);
     Page { code, page }
+}
+
+/// The lines of a report after its first.
+fn links(side: &Side, file: &[u8]) -> Page {
+    let whole = report(side, file, LONGEST_REPORT);
+    let text = &whole.page[..usize::try_from(whole.code).unwrap_or(0)];
+    let first = text.iter().position(|&byte| byte == b'\n').map_or(0, |end| end + 1);
+    Page { code: (text.len() - first) as i64, page: text[first..].to_vec() }
 }
 
 fn ticks(side: &Side, run: &Run, outcomes: usize, record: usize) -> Ran {

@@ -41,6 +41,11 @@ fn main() {
         let times = medians(&mut case, &sides);
         print_line(&case, &times);
     }
+    println!("\ncost of one more tempo tried in a quote\n");
+    print_head(&sides);
+    for (name, file) in samples() {
+        print_tempo(name, &file, &sides);
+    }
     println!("\ntime of one report on levels that take many rounds\n");
     print_head(&sides);
     for (name, file) in slow_files() {
@@ -50,6 +55,37 @@ fn main() {
         assert!(answers.all(|answer| Some(answer) == first), "{name}: answers differ");
         print_slow(name, &timed);
     }
+}
+
+/// The files that quotes are timed on.
+fn samples() -> Vec<(&'static str, Vec<u8>)> {
+    vec![
+        ("small", generate::boxed().bytes()),
+        ("typical", generate::bench_typical()),
+        ("typical with swing", generate::bench_swung()),
+        ("full", generate::bench_full()),
+    ]
+}
+
+/// What each tempo tried adds to a quote: the quote of a file less that of the same file with its
+/// sources fixed at their spacings at the quote, which settles the same levels and tries none.
+fn print_tempo(name: &'static str, file: &[u8], sides: &[Side]) {
+    let plan = plain::Plan::read(file).unwrap_or_else(|_| panic!("{name}: refused"));
+    let mut tried = 0;
+    let quoted = plain::quote::quote_telling(&plan, |_| tried += 1);
+    let steady = quoted.ok().and_then(|tempo| generate::steady(file, tempo));
+    let steady = steady.unwrap_or_else(|| panic!("{name}: no tempo"));
+    let times = medians_in_turns(&mut [quote(name, file.to_vec()), quote(name, steady)], sides);
+    let times: Vec<f64> =
+        times[0].iter().zip(&times[1]).map(|(with, without)| (with - without) / f64::from(tried)).collect();
+    print!("{:<46}", format!("{name}, {tried} tempos tried"));
+    for &time in &times {
+        print!("{:>12}", words(time));
+    }
+    if let [plain, proved] = times[..] {
+        print!("{:>17.2}", proved / plain);
+    }
+    println!();
 }
 
 /// Files with slow levels. The last is the slowest for plain Rust: a report that is given up goes on beside what follows.
@@ -161,19 +197,29 @@ fn busy() -> Vec<u8> {
 
 /// The median time of one unit on each side, in nanoseconds.
 fn medians(case: &mut Case, sides: &[Side]) -> Vec<f64> {
-    let counts: Vec<u32> = sides.iter().map(|side| calls_to_fill(REPETITION, case, side)).collect();
-    let mut times = vec![Vec::new(); sides.len()];
+    medians_in_turns(std::slice::from_mut(case), sides).remove(0)
+}
+
+/// The same of several cases that are timed in turns, so that their differences can be told.
+fn medians_in_turns(cases: &mut [Case], sides: &[Side]) -> Vec<Vec<f64>> {
+    let counts: Vec<Vec<u32>> = cases
+        .iter_mut()
+        .map(|case| sides.iter().map(|side| calls_to_fill(REPETITION, case, side)).collect())
+        .collect();
+    let mut times = vec![vec![Vec::new(); sides.len()]; cases.len()];
     let start = Instant::now();
     for repetition in 0..REPETITIONS {
         if repetition >= 3 && start.elapsed() > PATIENCE {
             break;
         }
-        for (place, side) in sides.iter().enumerate() {
-            let time = time_of(counts[place], case, side).as_nanos() as f64;
-            times[place].push(time / f64::from(counts[place]) / case.units as f64);
+        for ((case, counts), times) in cases.iter_mut().zip(&counts).zip(&mut times) {
+            for ((side, &count), times) in sides.iter().zip(counts).zip(times) {
+                let time = time_of(count, case, side).as_nanos() as f64;
+                times.push(time / f64::from(count) / case.units as f64);
+            }
         }
     }
-    times.iter_mut().map(|times| median(times)).collect()
+    times.iter_mut().map(|sides| sides.iter_mut().map(|times| median(times)).collect()).collect()
 }
 
 fn calls_to_fill(time: Duration, case: &mut Case, side: &Side) -> u32 {

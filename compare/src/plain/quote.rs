@@ -9,6 +9,11 @@ use super::{FASTEST, Plan, SLOWEST};
 /// A link that is held stays held at slower tempos, where spacings are wider. So each level is
 /// tried at the best tempo that the levels before it left, and searched only if it fails there.
 pub fn quote(plan: &Plan) -> Result<u32, Refusal> {
+    quote_telling(plan, |_| {})
+}
+
+/// The same, telling each tempo that a search tries.
+pub fn quote_telling(plan: &Plan, mut tried: impl FnMut(u32)) -> Result<u32, Refusal> {
     let no_tempo = Refusal::of(Word::NoTempo);
     if !verdicts::orders_held(plan) {
         return Err(no_tempo);
@@ -17,7 +22,7 @@ pub fn quote(plan: &Plan) -> Result<u32, Refusal> {
     let mut spacings = plan.description.spacings(best);
     for level in verdicts::levels(plan) {
         if !level.all_held(&spacings) {
-            best = fastest_below(best, plan, &level).ok_or(no_tempo)?;
+            best = fastest_below(best, plan, &level, &mut tried).ok_or(no_tempo)?;
             spacings = plan.description.spacings(best);
         }
     }
@@ -25,8 +30,11 @@ pub fn quote(plan: &Plan) -> Result<u32, Refusal> {
 }
 
 /// The largest tempo at which this level is held, given one at which it is not.
-fn fastest_below(doubtful: u32, plan: &Plan, level: &Level) -> Option<u32> {
-    let is_held = |tempo| level.all_held(&plan.description.spacings(tempo));
+fn fastest_below(doubtful: u32, plan: &Plan, level: &Level, tried: &mut impl FnMut(u32)) -> Option<u32> {
+    let mut is_held = |tempo| {
+        tried(tempo);
+        level.all_held(&plan.description.spacings(tempo))
+    };
     if !is_held(SLOWEST) {
         return None;
     }

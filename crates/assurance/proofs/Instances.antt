@@ -1,4 +1,5 @@
--- Demand 3 at two files of document 01 and at a swung one, its hypotheses met by computation, so that it is known to speak of something. Assumes nothing.
+-- Demand 3 at two files of document 01 and at a swung one, and verdicts by spacings at Box with a pulse of each kind: hypotheses met by computation, so that the
+-- theorems are known to speak of something. Assumes nothing.
 use Prim.Native.Nat.{ℕ, suc, _^_, _≤_, _<_}
 use mathlib.Core.Path.{_≡_, refl}
 use mathlib.Core.Bool.{Bool, true, false}
@@ -28,13 +29,17 @@ use Rattle.model.specs.Report.{reportOf}
 use Rattle.model.specs.Page.{HeldLine, FromPage}
 use Rattle.model.specs.Figures.{box, boxFile, boxPage, twin}
 use Rattle.model.specs.SwingFigures.{swungBox}
+use Rattle.model.specs.SpacingFigures.{fixedBox}
 use Rattle.model.proofs.Figures.{figures}
+use Rattle.lemmas.proofs.Tests.{Cmp, less, same, more, cmp}
 use Rattle.lemmas.proofs.Range.{all-at}
 use Rattle.lemmas.proofs.Decimal.{every-at}
+use Rattle.theory.specs.Structure.{SameSpacings}
 use Rattle.theory.proofs.WellFormed.{WellFormed}
 use Rattle.theory.proofs.FileLaws.{judge-well-formed}
 use Rattle.theory.proofs.Levels.{Overloaded, test-6-link}
 use Rattle.theory.proofs.Quotes.{quote-at}
+use Rattle.theory.proofs.BySpacings.{verdict-same}
 use Rattle.assurance.proofs.PlainCalls.{AssuredOf, plain-assured}
 use Rattle.assurance.proofs.Paper.{from-page}
 
@@ -129,6 +134,34 @@ swung-quote = quote-by swungBox 1212 swung-widths swung-judged (omega arith) (om
 
 pub swung-assured : (t : ℕ) → 200 ≤ t → t ≤ 1212 → (cs : List Call) → AssuredOf swungBox 1212 t cs
 swung-assured t low high cs = plain-assured swungBox 1212 t swung-widths swung-quote low high cs
+
+-- Box at 178.3, Box with a swing of 66 at 121.2, Box with a fixed pulse at any tempo: the spacings are the same there, and so are the verdicts (C-12)
+box-spacings : (e : Description) (t : ℕ) → spacingOf box 1783 33 ≡ spacingOf e t 33 → spacingOf box 1783 34 ≡ spacingOf e t 34 → SameSpacings box 1783 e t
+box-spacings e t a b u p q = go (cmp u 33)
+  where
+    go : Cmp u 33 → spacingOf box 1783 u ≡ spacingOf e t u
+    go (less x) = absurd (omega arith)
+    go (same x) = rw x a
+    go (more x) = let z : u ≡ 34 = omega arith in rw z b
+
+box-well-formed : WellFormed box
+box-well-formed = judge-well-formed box box-widths box-judged
+
+swung-spacings : SameSpacings box 1783 swungBox 1212
+unfolding computing
+swung-spacings = box-spacings swungBox 1212 refl refl
+
+fixed-spacings : (t : ℕ) → SameSpacings box 1783 fixedBox t
+unfolding computing
+fixed-spacings t = box-spacings fixedBox t refl refl
+
+pub swung-alike : (l : ℕ) → l < 4 → verdictAt box 1783 l ≡ verdictAt swungBox 1212 l
+swung-alike =
+    verdict-same box swungBox (record { tasks = refl; sources = refl; links = refl; run = λ k h. refl; link = λ l h. refl }) box-well-formed 1783 1212 swung-spacings
+
+pub fixed-alike : (t l : ℕ) → l < 4 → verdictAt box 1783 l ≡ verdictAt fixedBox t l
+fixed-alike t =
+    verdict-same box fixedBox (record { tasks = refl; sources = refl; links = refl; run = λ k h. refl; link = λ l h. refl }) box-well-formed 1783 t (fixed-spacings t)
 
 -- Twin with spacing 9: quoted at 300.0
 twin-widths : Widths (twin 9)

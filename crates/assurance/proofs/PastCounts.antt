@@ -27,7 +27,8 @@ use Rattle.model.specs.Run.{codes, page, ranFrom, ran, pageRan}
 use Rattle.lemmas.proofs.Range.{any-cong, all-cong, upTo-alike}
 use Rattle.lemmas.proofs.Table.{tab-cong}
 use Rattle.theory.proofs.FileLaws.{at-known}
-use Rattle.theory.proofs.PastCounts.{cond-same, done-same, same-knob, same-run, same-spacing}
+use Rattle.lemmas.proofs.Tests.{cond-same}
+use Rattle.theory.proofs.PastCounts.{done-same, same-knob, same-run, same-spacing}
 use Rattle.assurance.proofs.Ending.{highest-le}
 use Rattle.assurance.proofs.Replay.{judge-passed}
 

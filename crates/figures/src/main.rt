@@ -20,6 +20,10 @@ const BOX: [u8; 57] =
 const SWUNG_BOX: [u8; 58] =
     *b"\x01\x00\x04\x00\x00\x01\x90\x01\x00\x04\x00\x00\x01\x2c\x01\x00\x04\x00\x00\x00\xc8\x03\x00\x03\x01\xe0\x42\x02\x00\x04\x00\x00\x07\xd0\x04\x00\x03\x02\x01\x00\x04\x00\x03\x02\x03\x01\x04\x00\x03\x21\x02\x01\x04\x00\x03\x22\x03\x01";
 
+// Box with a fixed source of 701 in place of its pulse.
+const FIXED_BOX: [u8; 59] =
+    *b"\x01\x00\x04\x00\x00\x01\x90\x01\x00\x04\x00\x00\x01\x2c\x01\x00\x04\x00\x00\x00\xc8\x02\x00\x04\x00\x00\x02\xbd\x02\x00\x04\x00\x00\x07\xd0\x04\x00\x03\x02\x01\x00\x04\x00\x03\x02\x03\x01\x04\x00\x03\x21\x02\x01\x04\x00\x03\x22\x03\x01";
+
 // A task of run 1, a paced source with a swing, and the critical link between them.
 fn swung(pulses: u16, swing: u8) -> [u8; 19] {
     let mut file = *b"\x01\x00\x04\x00\x00\x00\x01\x03\x00\x03\x00\x00\x00\x04\x00\x03\x21\x01\x01";
@@ -211,6 +215,22 @@ fn swung_box() -> Tally {
         source: Source::Swung(480, 50),
     };
     calls::judges(t, straight, 6, 21)
+}
+
+// C-12: Box at 178.3, with a swing of 66 at 121.2 and with a fixed source at any tempo has the same spacings, and so the same verdicts.
+fn alike() -> Tally {
+    let t = cases::reports(
+        cases::none(),
+        &FIXED_BOX,
+        b"tempo 300.0\nlink 1 2>1 free\nlink 2 2>3 held order\nlink 3 33>2 held 700 of 701\nlink 4 34>3 held 400 of 2000\n",
+    );
+    let t = cases::held(t, &FIXED_BOX, 200, 3, 700, 701);
+    let t = cases::held(t, &FIXED_BOX, 3000, 3, 700, 701);
+    let t = cases::held(t, &BOX, 1783, 3, 700, 701);
+    let t = cases::held(t, &SWUNG_BOX, 1212, 3, 700, 701);
+    let t = cases::held(t, &FIXED_BOX, 1200, 4, 400, 2000);
+    let t = cases::held(t, &BOX, 1783, 4, 400, 2000);
+    cases::held(t, &SWUNG_BOX, 1212, 4, 400, 2000)
 }
 
 // A swung source on the machine: 960 pulses with a swing of 75 have at 20.0 the spacing 1,562.
@@ -670,4 +690,5 @@ fn main() {
     print_group(b"C-11, spacings", swung_spacings());
     print_group(b"C-11, Box", swung_box());
     print_group(b"C-11, ticks", swung_ticks());
+    print_group(b"C-12, Box with a pulse of each kind", alike());
 }

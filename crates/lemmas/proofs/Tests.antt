@@ -1,7 +1,7 @@
 -- Tests and comparisons: joining and splitting them, and going by cases. Assumes nothing.
 use Prim.Native.Nat.{ℕ, _≤_, _<_}
 use mathlib.Core.Path.{_≡_, refl, sym}
-use mathlib.Core.Bool.{Bool, true, false, _||_, _&&_}
+use mathlib.Core.Bool.{Bool, true, false, cond, _||_, _&&_}
 use mathlib.Core.Logic.{_⊎_, ⊎-elim}
 use native.Mathlib.Omega.{arith}
 use native.Mathlib.Decide.{decLt}
@@ -94,6 +94,11 @@ and-right false b e = absurd (not-both e refl)
 -- a number from one limit to another
 pub within : (a x b : ℕ) → (leb a x && leb x b) ≡ true → (a ≤ x) × (x ≤ b)
 within a x b e = (leb-true a x (and-left (leb a x) (leb x b) e), leb-true x b (and-right (leb a x) (leb x b) e))
+
+-- two choices by the same test, each by what it chooses
+pub cond-same : {A : Type 0} (b c : Bool) (x y z w : A) → b ≡ c → (b ≡ true → x ≡ y) → (b ≡ false → z ≡ w) → cond b x z ≡ cond c y w
+cond-same true c x y z w e f g = rw (← e) (f refl)
+cond-same false c x y z w e f g = rw (← e) (g refl)
 
 pub both : (a b : Bool) → a ≡ true → b ≡ true → (a && b) ≡ true
 both true b e f = f

@@ -1,4 +1,5 @@
 -- Facts about the definitions that pin them, beside them.
 pub mod Figures
 pub mod SwingFigures
+pub mod SpacingFigures
 pub mod Steps

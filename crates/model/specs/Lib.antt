@@ -16,3 +16,4 @@ pub mod Run
 pub mod Page
 pub mod Figures
 pub mod SwingFigures
+pub mod SpacingFigures

@@ -4,6 +4,7 @@ use mathlib.Core.Path.{_≡_, sym}
 use mathlib.Core.Bool.{Bool, true, false}
 use mathlib.Core.List.{List}
 use native.Mathlib.Omega.{arith}
+use lib.ListN.{getD}
 use Rattle.model.specs.declared.Description.{Description}
 use Rattle.model.specs.declared.Outcome.the-variants.{Done, Refused}
 use Rattle.model.specs.declared.Refusal.{Refusal}
@@ -22,9 +23,8 @@ use Rattle.spacings.specs.Gaps.{GapsBy}
 use Rattle.spacings.proofs.GapLaws.{gaps-of}
 use Rattle.rounds.specs.Level.{LevelOn}
 use Rattle.orders.specs.Orders.{ordersHeld}
-use Rattle.verdicts.specs.declared.level.Level.{Level}
 use Rattle.verdicts.specs.Held.{levelHeld}
-use Rattle.verdicts.specs.Tables.{LevelTables, LevelAt, HeldBy}
+use Rattle.verdicts.specs.Tables.{Level, LoadsAt, levelWith, LevelTables, HeldBy}
 use Rattle.verdicts.proofs.LevelLaws.{levels-all, level-wider, not-level, not-orders}
 use Rattle.verdicts.proofs.LevelRounds.{level-on}
 use Rattle.verdicts.proofs.TableLaws.{level-of-tables}
@@ -35,12 +35,12 @@ level-slower : (d : Description) → WellFormed d → (t t′ j : ℕ) → 1 ≤
 level-slower d g t t′ j a b c e = level-wider d g (spacingOf d t′) (spacingOf d t) j (spaced d g t′ (omega arith) c) (wider d g t t′ a b) e
 
 -- the levels of tables, on the scale of the rounds
-pub level-from : (d : Description) (levels starts critical : List ℕ) (sources : Sources) (tasks j : ℕ) (v : Level) → LevelTables d levels starts critical sources tasks → j < 32 → LevelAt levels starts critical (sources .count) j v → LevelFrom d (suc j) v sources
-level-from d levels starts critical sources tasks j v t p a =
+pub level-from : (d : Description) (levels starts critical : List ℕ) (sources : Sources) (tasks j : ℕ) (loads : List ℕ) → LevelTables d levels starts critical sources tasks → j < 32 → LoadsAt levels (sources .count) j loads → LevelFrom d (suc j) (levelWith (getD starts j 0) loads (getD critical j 0)) sources
+level-from d levels starts critical sources tasks j loads t p a =
     record {
       good = t .good;
       task = omega arith;
-      level-is = level-of-tables d levels starts critical sources tasks (sources .count) j v t (t .by-source .counted) p a;
+      level-is = level-of-tables d levels starts critical sources tasks j loads t p a;
       sources-are = t .by-source;
     }
 

@@ -11,9 +11,8 @@ use Rattle.theory.proofs.WellFormed.{WellFormed}
 use Rattle.spacings.specs.declared.Sources.{Sources}
 use Rattle.spacings.specs.Sources.{SourcesOf}
 use Rattle.orders.specs.Orders.{ordersHeld}
-use Rattle.verdicts.specs.declared.level.Level.{Level}
 use Rattle.verdicts.specs.Held.{levelHeld}
-use Rattle.verdicts.specs.Tables.{LevelOf, LevelTables}
+use Rattle.verdicts.specs.Tables.{Level, LevelOf, LevelTables}
 
 -- the level of task j of a judged description, and its sources
 pub record LevelFrom (d : Description) (j : ℕ) (level : Level) (sources : Sources) : Type 0 where

@@ -7,10 +7,10 @@ use model::Outcome;
 use model::Quote;
 use model::Refusal;
 use spacings::Sources;
+use spacings::fill_gaps;
 use spacings::gaps_by;
-use verdicts::level::Level;
 use verdicts::level::level_held;
-use verdicts::level::level_of;
+use verdicts::level::level_loads;
 use verdicts::tables_of;
 ghost use mathlib.Core.Path.{_≡_};
 ghost use mathlib.Core.Bool.{false};
@@ -18,32 +18,53 @@ ghost use Prim.Native.Nat.{ℕ, _≤_};
 ghost use Rattle.model.specs.declared.Description.{Description};
 ghost use Rattle.model.specs.Delays.{spacingOf};
 ghost use Rattle.model.specs.Verdicts.{quoteOf, quotedFile};
+ghost use Rattle.spacings.specs.Sources.{sourcesWith};
+ghost use Rattle.spacings.specs.Gaps.{Room};
 ghost use Rattle.verdicts.specs.Held.{levelHeld};
+ghost use Rattle.verdicts.specs.Tables.{levelWith};
 ghost use Rattle.quotes.specs.Best.{LevelFrom, Searched, Slower, Tabled, QuoteBy};
 
-// Whether every critical link from a source to the level's task is held at tempo t.
-fn held_at(level: Level, sources: Sources, t: u32) -> bool
-    requires { ⌜ Searched level sources × (200 ≤ t) × (t ≤ 3000) ⌝ }
-    ensures { λ r. ⌜ ((d : Description) (j : ℕ) → LevelFrom d j level sources → r ≡ levelHeld d (spacingOf d t) j) ⌝ }
+// Whether every critical link from a source to a level's task is held at tempo t. Level, sources and the table of spacings are lent:
+// one more tempo costs its spacings and the level's rounds, and copies nothing.
+fn held_at<'a>(
+    start: u64,
+    loads: &[u64; 16],
+    critical: u64,
+    ticks: &'a [u32; 16],
+    pulses: &'a [u32; 16],
+    m: usize,
+    t: u32,
+    gaps: &mut [u32; 16],
+) -> bool
+    requires { ⌜ Searched (levelWith start (now loads) critical) (sourcesWith m (now ticks) (now pulses)) × (200 ≤ t) × (t ≤ 3000) × Room (now gaps) ⌝ }
+    ensures { λ r. ⌜ ((d : Description) (j : ℕ) → LevelFrom d j (levelWith start (now (loads .entry)) critical) (sourcesWith m (now (ticks .entry)) (now (pulses .entry))) → r ≡ levelHeld d (spacingOf d t) j) × Room (now (gaps .exit)) ⌝ }
 {
-    let gaps = gaps_by(sources, t);
-    let m = sources.count;
-    level_held(level, &gaps, m)
+    fill_gaps(ticks, pulses, m, t, &mut *gaps);
+    level_held(start, loads, critical, &*gaps, m)
 }
 
 // The highest tempo below a doubtful one at which a level is held; 0 where there is none.
-fn slower(level: Level, sources: Sources, doubtful: u32) -> u32
-    requires { ⌜ Searched level sources × (200 ≤ doubtful) × (doubtful ≤ 3000) ⌝ }
-    ensures { λ r. ⌜ ((d : Description) (j : ℕ) → LevelFrom d j level sources → levelHeld d (spacingOf d doubtful) j ≡ false → Slower d j doubtful r) ⌝ }
+fn slower<'a>(
+    start: u64,
+    loads: &[u64; 16],
+    critical: u64,
+    ticks: &'a [u32; 16],
+    pulses: &'a [u32; 16],
+    m: usize,
+    doubtful: u32,
+) -> u32
+    requires { ⌜ Searched (levelWith start (now loads) critical) (sourcesWith m (now ticks) (now pulses)) × (200 ≤ doubtful) × (doubtful ≤ 3000) ⌝ }
+    ensures { λ r. ⌜ ((d : Description) (j : ℕ) → LevelFrom d j (levelWith start (now (loads .entry)) critical) (sourcesWith m (now (ticks .entry)) (now (pulses .entry))) → levelHeld d (spacingOf d doubtful) j ≡ false → Slower d j doubtful r) ⌝ }
 {
-    if !held_at(level, sources, 200) {
+    let mut gaps = [0u32; 16];
+    if !held_at(start, loads, critical, ticks, pulses, m, 200, &mut gaps) {
         return 0;
     }
     let mut low: u32 = 200;
     let mut high = doubtful;
     while 1 < high - low {
         let middle = low + (high - low) / 2;
-        if held_at(level, sources, middle) {
+        if held_at(start, loads, critical, ticks, pulses, m, middle, &mut gaps) {
             low = middle;
         } else {
             high = middle;
@@ -69,18 +90,20 @@ pub fn quote_by<'a>(
     }
     let m = sources.count;
     let mut best: u32 = 3000;
-    let mut gaps = gaps_by(sources, 3000);
+    let mut gaps = gaps_by(&sources.ticks, &sources.pulses, m, 3000);
     let mut j: usize = 0;
     while j < tasks {
-        let level = level_of(levels, starts, critical, m, j);
-        if level_held(level, &gaps, m) {
+        let start = starts[j];
+        let loads = level_loads(levels, m, j);
+        let set = critical[j];
+        if level_held(start, &loads, set, &gaps, m) {
             j += 1;
         } else {
-            best = slower(level, sources, best);
+            best = slower(start, &loads, set, &sources.ticks, &sources.pulses, m, best);
             if best == 0 {
                 return Quote::Unquoted(Refusal::NoTempo, 0);
             }
-            gaps = gaps_by(sources, best);
+            gaps = gaps_by(&sources.ticks, &sources.pulses, m, best);
             j += 1;
         }
     }

@@ -71,7 +71,8 @@ fn put_report(file: &[u8], page: &mut [u8]) -> usize
         t.sources,
         t.tasks,
     );
-    let gaps = gaps_by(t.sources, shown_tempo(quote));
+    let shown = shown_tempo(quote);
+    let gaps = gaps_by(&t.sources.ticks, &t.sources.pulses, t.sources.count, shown);
     let slots = slots_at(d, &t.levels, &t.starts, &t.orders, &gaps);
     let at = tempo_line(&mut *page, 0, quote);
     link_lines(&mut *page, at, d, slots)

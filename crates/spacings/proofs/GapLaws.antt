@@ -19,7 +19,7 @@ use Rattle.theory.proofs.WellFormed.{WellFormed}
 use Rattle.theory.proofs.Spacing.{spacing-some, spacing-most}
 use Rattle.spacings.specs.declared.Sources.{Sources}
 use Rattle.spacings.specs.Sources.{spacingBy, PlainOf, SourcesOf, Scaled}
-use Rattle.spacings.specs.Gaps.{Fit, GapsBy, GapsOf}
+use Rattle.spacings.specs.Gaps.{Room, Fit, GapsBy, GapsOf}
 use Rattle.spacings.proofs.SourceLaws.{plain-spacing}
 
 -- the spacings of the first n sources
@@ -31,8 +31,11 @@ pub record GapsTo (s : Sources) (t n : ℕ) (gaps : List ℕ) : Type 0 where
 pub zeros-most : (n j : ℕ) → getD (replicate n 0) j 0 ≤ 1000000000
 zeros-most n j = rw (getD-same {A = ℕ} n j 0) (omega arith)
 
-pub gaps-none : (s : Sources) (t : ℕ) → GapsTo s t 0 (replicate 16 0)
-gaps-none s t = record { sized = refl; at = λ u p. absurd (omega arith); fit = record { some = λ u p. absurd (omega arith); most = zeros-most 16 } }
+pub zeros-room : Room (replicate 16 0)
+zeros-room = record { sized = refl; most = zeros-most 16 }
+
+pub gaps-none : (s : Sources) (t : ℕ) (gaps : List ℕ) → Room gaps → GapsTo s t 0 gaps
+gaps-none s t gaps r = record { sized = r .sized; at = λ u p. absurd (omega arith); fit = record { some = λ u p. absurd (omega arith); most = r .most } }
 
 pub gaps-more : (s : Sources) (t n v : ℕ) (gaps : List ℕ) → 1 ≤ t → t ≤ 3000 → n < 16 → (x : Source) → PlainOf x (getD (s .ticks) n 0) (getD (s .pulses) n 0) → v ≡ spacingBy (getD (s .ticks) n 0) (getD (s .pulses) n 0) t → length (set gaps n v) ≡ length gaps → GapsTo s t n gaps → GapsTo s t (n + 1) (set gaps n v)
 gaps-more s t n v gaps lo hi h x k e z r =

@@ -2,11 +2,16 @@
 use Prim.Native.Nat.{ℕ, _+_, _≤_, _<_}
 use mathlib.Core.Path.{_≡_}
 use mathlib.Core.List.{List}
-use lib.ListN.{getD}
+use lib.ListN.{length, getD}
 use Rattle.model.specs.declared.Description.{Description}
 use Rattle.model.specs.Delays.{spacingOf}
 use Rattle.spacings.specs.declared.Sources.{Sources}
 use Rattle.spacings.specs.Sources.{spacingBy}
+
+-- a table of spacings, filled or not: 16 places, and nothing in it beyond the scale
+pub record Room (gaps : List ℕ) : Type 0 where
+  pub sized : length gaps ≡ 16
+  pub most : (u : ℕ) → getD gaps u 0 ≤ 1000000000
 
 -- spacings of n sources from the scale
 pub record Fit (n : ℕ) (gaps : List ℕ) : Type 0 where

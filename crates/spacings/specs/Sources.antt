@@ -2,6 +2,7 @@
 use Prim.Native.Nat.{ℕ, _-_, _*_, _/_, _≤_, _<_}
 use mathlib.Core.Path.{_≡_}
 use mathlib.Core.Bool.{true, cond}
+use mathlib.Core.List.{List}
 use lib.Dec.{eqb}
 use lib.ListN.{getD}
 use Rattle.model.specs.declared.Source.{Source}
@@ -36,6 +37,10 @@ pub record PlainOf (x : Source) (ticks pulses : ℕ) : Type 0 where
   pub on : onScale (OfSource x) ≡ true
   pub ticks-are : ticks ≡ ticksIn x
   pub pulses-are : pulses ≡ pulsesIn x
+
+-- the sources with these numbers, as they are lent
+abbrev pub sourcesWith : ℕ → List ℕ → List ℕ → Sources
+sourcesWith m ticks pulses = record { count = m; ticks = ticks; pulses = pulses }
 
 -- they are the sources of a description
 pub record SourcesOf (d : Description) (s : Sources) : Type 0 where

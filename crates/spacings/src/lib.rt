@@ -8,8 +8,8 @@ ghost use Rattle.model.specs.declared.Field.the-variants.{OfSource};
 ghost use Rattle.model.specs.Field.{onScale};
 ghost use Rattle.model.specs.Verdicts.{onKnob};
 ghost use Rattle.theory.proofs.WellFormed.{WellFormed};
-ghost use Rattle.spacings.specs.Sources.{pacedTicks, ticksIn, pulsesIn, spacingBy, SourcesOf, Scaled};
-ghost use Rattle.spacings.specs.Gaps.{GapsBy, GapsOf};
+ghost use Rattle.spacings.specs.Sources.{pacedTicks, ticksIn, pulsesIn, spacingBy, sourcesWith, SourcesOf, Scaled};
+ghost use Rattle.spacings.specs.Gaps.{Room, GapsBy, GapsOf};
 
 // The sources of a description in plain numbers: a paced one has pulses, and its spacing is its ticks divided by tempo and pulses; of a fixed one
 // the pulses are 0, and its spacing is its ticks.
@@ -90,17 +90,31 @@ fn spacing_by(ticks: u32, pulses: u32, t: u32) -> u32
     ticks / (t * pulses)
 }
 
-// The spacing of each source at tempo t.
-pub fn gaps_by(s: Sources, t: u32) -> [u32; 16]
-    requires { ⌜ Scaled s × (200 ≤ t) × (t ≤ 3000) ⌝ }
-    ensures { λ r. ⌜ GapsBy s t r ⌝ }
+// Fills a lent table with the spacing of each of m sources at tempo t, from their ticks and pulses.
+pub fn fill_gaps<'a>(
+    ticks: &'a [u32; 16],
+    pulses: &'a [u32; 16],
+    m: usize,
+    t: u32,
+    gaps: &mut [u32; 16],
+)
+    requires { ⌜ Scaled (sourcesWith m (now ticks) (now pulses)) × (200 ≤ t) × (t ≤ 3000) × Room (now gaps) ⌝ }
+    ensures { λ _. ⌜ GapsBy (sourcesWith m (now (ticks .entry)) (now (pulses .entry))) t (now (gaps .exit)) × Room (now (gaps .exit)) ⌝ }
 {
-    let mut gaps = [0u32; 16];
     let mut u: usize = 0;
-    while u < s.count {
-        gaps[u] = spacing_by(s.ticks[u], s.pulses[u], t);
+    while u < m {
+        gaps[u] = spacing_by(ticks[u], pulses[u], t);
         u += 1;
     }
+}
+
+// The same in a new table.
+pub fn gaps_by<'a>(ticks: &'a [u32; 16], pulses: &'a [u32; 16], m: usize, t: u32) -> [u32; 16]
+    requires { ⌜ Scaled (sourcesWith m (now ticks) (now pulses)) × (200 ≤ t) × (t ≤ 3000) ⌝ }
+    ensures { λ r. ⌜ GapsBy (sourcesWith m (now (ticks .entry)) (now (pulses .entry))) t r ⌝ }
+{
+    let mut gaps = [0u32; 16];
+    fill_gaps(ticks, pulses, m, t, &mut gaps);
     gaps
 }
 
@@ -109,5 +123,6 @@ pub fn gaps_of(d: Description, t: u32) -> [u32; 16]
     requires { ⌜ WellFormed d × (200 ≤ t) × (t ≤ 3000) ⌝ }
     ensures { λ r. ⌜ GapsOf d t r ⌝ }
 {
-    gaps_by(sources_of(d), t)
+    let s = sources_of(d);
+    gaps_by(&s.ticks, &s.pulses, s.count, t)
 }

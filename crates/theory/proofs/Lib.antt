@@ -28,5 +28,6 @@ pub mod Sheet
 pub mod Alike
 pub mod Typed
 pub mod Pages
+pub mod BySpacings
 pub mod PastCounts
 pub mod Longest

@@ -1,65 +1,37 @@
 -- "Entries past a count are not looked at": two records that agree below their counts get the same answers. Assumes nothing.
-use Prim.Native.Nat.{ℕ, _+_, _-_, _*_, _≤_, _<_}
+use Prim.Native.Nat.{ℕ, _+_, _-_, _<_}
 use mathlib.Core.Path.{_≡_, refl, sym, ap, subst, _∙_, fun-ext}
-use mathlib.Core.Bool.{Bool, true, false, cond, not, _||_}
+use mathlib.Core.Bool.{_||_}
 use mathlib.Core.List.{List}
-use mathlib.Core.Logic.{_⊎_, inl, inr}
 use native.Mathlib.Omega.{arith}
-use lib.Dec.{eqb, ltb}
-use borrow.Author.Tests.{ltb-true, ltb-false}
+use lib.Dec.{ltb}
 use Rattle.model.specs.declared.SourceSlot.{SourceSlot}
-use Rattle.model.specs.declared.Link.{Link}
 use Rattle.model.specs.declared.Description.{Description}
 use Rattle.model.specs.declared.Field.the-variants.{OfTask, OfSource, OfLink}
 use Rattle.model.specs.declared.Refusal.{Refusal}
 use Rattle.model.specs.declared.Outcome.{Outcome}
 use Rattle.model.specs.declared.Outcome.the-variants.{Done, Refused}
-use Rattle.model.specs.declared.Verdict.{Verdict}
-use Rattle.model.specs.Basics.{joined, allN}
+use Rattle.model.specs.Basics.{joined}
 use Rattle.model.specs.Refusals.{noLink, noSource, onDone}
-use Rattle.model.specs.Graph.{System, system, linkAt, runOf}
-use Rattle.model.specs.Loads.{load, sheet}
+use Rattle.model.specs.Graph.{runOf}
+use Rattle.model.specs.Loads.{sheet}
 use Rattle.model.specs.Field.{fieldBytes, fieldOf, fieldCount}
 use Rattle.model.specs.File.{SameTo, trimmed, fileOf, overfull, judge, written, pageAfter, loadSheet}
-use Rattle.model.specs.Delays.{spacing, spacingOf, spacings, startOf, roundOf, delayOf}
-use Rattle.model.specs.Verdicts.{sourceVerdict, verdictOf, verdictAt, doubtful, allHeld, slotAt, freeSlot, judgeAt, verdicts, largestBelow, quoteOf}
-use Rattle.lemmas.proofs.Range.{Each, sumN-cong, all-cong}
-use Rattle.lemmas.proofs.Table.{joined-cong, tab-cong}
-use Rattle.theory.proofs.WellFormed.{WellFormed, IsTask, IsSource}
+use Rattle.model.specs.Delays.{spacing, spacingOf}
+use Rattle.model.specs.Verdicts.{judgeAt, verdicts, largestBelow, quoteOf}
+use Rattle.lemmas.proofs.Table.{joined-cong}
+use Rattle.theory.specs.Structure.{SameStructure, SameSpacings}
+use Rattle.theory.proofs.WellFormed.{WellFormed}
 use Rattle.theory.proofs.RecordLaws.{Widths, field-task, field-source, field-link, by-place}
 use Rattle.theory.proofs.RecordState.{getD-filled, copy-links}
-use Rattle.theory.proofs.JudgeLaws.{system-same}
 use Rattle.theory.proofs.FileLaws.{judge-well-formed, at-known}
 use Rattle.theory.proofs.ReadBack.{copy-trimmed}
-
--- two choices by the same test, each by what it chooses
-pub cond-same : {A : Type 0} (b c : Bool) (x y z w : A) → b ≡ c → (b ≡ true → x ≡ y) → (b ≡ false → z ≡ w) → cond b x z ≡ cond c y w
-cond-same true c x y z w e f g = rw (← e) (f refl)
-cond-same false c x y z w e f g = rw (← e) (g refl)
+use Rattle.theory.proofs.BySpacings.{structure-system, held-same, slots-same}
 
 -- two answers after the same outcome
 pub done-same : {A : Type 0} (o p : Outcome) (x y : A) (f : Refusal → ℕ → A) → o ≡ p → (o ≡ Done → x ≡ y) → onDone o x f ≡ onDone p y f
 done-same Done p x y f e g = rw (← e) (g refl)
 done-same (Refused r place) p x y f e g = rw (← e) refl
-
--- a verdict goes by the spacings of the sources alone
-module _ (s : System) (gap gap′ : ℕ → ℕ) (g : Each (λ u. gap u ≡ gap′ u) 33 (s .sources)) where
-  round-same : (j d : ℕ) → roundOf s gap j d ≡ roundOf s gap′ j d
-  unfolding roundOf
-  round-same j d =
-      ap (λ x. startOf s j + x) (sumN-cong _ _ 33 (s .sources) (λ u p q. ap (λ m. load s u j * spacings d m) (g u p q)))
-
-  source-same : (i j : ℕ) → gap i ≡ gap′ i → sourceVerdict s gap i j ≡ sourceVerdict s gap′ i j
-  unfolding sourceVerdict delayOf
-  source-same i j h =
-      let r : roundOf s gap j ≡ roundOf s gap′ j = fun-ext (round-same j) in
-      rw (h, r)
-
-  pub verdict-same : (l : Link) → (33 ≤ l .from → gap (l .from) ≡ gap′ (l .from)) → verdictOf s gap l ≡ verdictOf s gap′ l
-  unfolding verdictOf
-  verdict-same l h =
-      ap (cond (eqb (l .critical) 0) Verdict.Free)
-      (cond-same (ltb (l .from) 33) (ltb (l .from) 33) _ _ _ _ refl (λ e. refl) (λ e. source-same (l .from) (l .to) (h (ltb-false (l .from) 33 e))))
 
 module _ (d e : Description) (s : SameTo d e) where
   -- the file
@@ -107,10 +79,9 @@ module _ (d e : Description) (s : SameTo d e) where
   unfolding judgeAt
   same-knob t = rw same-judge
 
-  -- what an accepted record means: its graph and its spacings
-  pub same-system : 1 ≤ d .«task_count» → system d ≡ system e
-  same-system h =
-      system-same d e (s .tasks) (s .sources) (s .links) (omega (arith, s .tasks)) (λ k p. s .run k (omega (arith, s .tasks))) (λ l p. s .link l (omega (arith, s .links)))
+  -- what an accepted record means: its structure and its spacings
+  pub same-structure : SameStructure d e
+  same-structure = record { tasks = s .tasks; sources = s .sources; links = s .links; run = s .run; link = s .link }
 
   pub same-run : (k : ℕ) → k - 1 < d .«task_count» → runOf d k ≡ runOf e k
   same-run k h = s .run (k - 1) h
@@ -119,32 +90,8 @@ module _ (d e : Description) (s : SameTo d e) where
   unfolding spacingOf
   same-spacing t u h = ap (λ (x : SourceSlot). spacing (x .source) t) (s .source (u - 33) h)
 
-  module _ (w : WellFormed d) where
-    pub same-verdict : (t l : ℕ) → l < d .«link_count» → verdictAt d t l ≡ verdictAt e t l
-    unfolding verdictAt system
-    same-verdict t l h =
-        verdict-same (system d) (spacingOf d t) (spacingOf e t) spaced (linkAt d l) (λ p. from (w .fields .link-from l h) p)
-        ∙ ap (λ x. verdictOf x (spacingOf e t) (linkAt d l)) (same-system (w .some-task))
-        ∙ ap (verdictOf (system e) (spacingOf e t)) (s .link l h)
-      where
-        spaced : Each (λ u. spacingOf d t u ≡ spacingOf e t u) 33 (system d .sources)
-        spaced u p q = same-spacing t u (omega arith)
-
-        from : IsTask (system d) (linkAt d l .from) ⊎ IsSource (system d) (linkAt d l .from) → 33 ≤ linkAt d l .from → spacingOf d t (linkAt d l .from) ≡ spacingOf e t (linkAt d l .from)
-        from (inl x) p = absurd (omega (arith, x .1, w .fields .few-tasks))
-        from (inr x) p = same-spacing t (linkAt d l .from) (omega (arith, x .1))
-
-    pub same-held : (t : ℕ) → allHeld d t ≡ allHeld e t
-    unfolding allHeld
-    same-held t =
-        all-cong _ _ 0 (d .«link_count») (λ l p q. ap (λ v. not (doubtful v)) (same-verdict t l (omega arith)))
-        ∙ ap (allN (λ l. not (doubtful (verdictAt e t l))) 0) (s .links)
-
-    same-slot : (t l : ℕ) → slotAt d t l ≡ slotAt e t l
-    same-slot t l =
-        cond-same (ltb l (d .«link_count»)) (ltb l (e .«link_count»)) _ _ freeSlot freeSlot (ap (ltb l) (s .links))
-        (λ p. ap (λ v. record { verdict = v }) (same-verdict t l (ltb-true l (d .«link_count») p)))
-        (λ p. refl)
+  same-spacings : (t : ℕ) → SameSpacings d t e t
+  same-spacings t u p q = same-spacing t u (omega arith)
 
   -- the answers of the calls
   module _ (w : Widths d) where
@@ -153,17 +100,17 @@ module _ (d e : Description) (s : SameTo d e) where
 
     pub same-sheet : loadSheet d ≡ loadSheet e
     unfolding loadSheet
-    same-sheet = done-same (judge d) (judge e) _ _ _ same-judge (λ j. ap (λ x. record { outcome = Done; rows = sheet x }) (same-system (known j .some-task)))
+    same-sheet = done-same (judge d) (judge e) _ _ _ same-judge (λ j. ap (λ x. record { outcome = Done; rows = sheet x }) (structure-system d e same-structure (known j)))
 
     pub same-quote : quoteOf d ≡ quoteOf e
     unfolding quoteOf
-    same-quote = done-same (judge d) (judge e) _ _ _ same-judge (λ j. ap (λ f. largestBelow f 2801) (fun-ext (same-held (known j))))
+    same-quote = done-same (judge d) (judge e) _ _ _ same-judge (λ j. ap (λ f. largestBelow f 2801) (fun-ext (λ t. held-same d e same-structure (known j) t t (same-spacings t))))
 
     pub same-verdicts : (t : ℕ) → verdicts d t ≡ verdicts e t
     unfolding verdicts
     same-verdicts t =
         done-same (judgeAt d t) (judgeAt e t) _ _ _ (same-knob t)
-        (λ j. ap (λ x. record { outcome = Done; slots = x }) (tab-cong 256 _ _ (λ l h. same-slot (at-known d t w j .0) t l)))
+        (λ j. ap (λ x. record { outcome = Done; slots = x }) (slots-same d e same-structure (at-known d t w j .0) t t (same-spacings t)))
 
 -- the record that is read back from a description's file agrees with it below its counts, and so gets the same answers
 pub trimmed-same : (d : Description) → WellFormed d → SameTo d (trimmed d)

@@ -7,3 +7,4 @@ pub mod LimitLaws
 pub mod SlotLaws
 pub mod TableLaws
 pub mod CallLaws
+pub mod SameAnswers

@@ -22,9 +22,8 @@ use Rattle.theory.proofs.Levels.{levelReach, level-verdict}
 use Rattle.sets.specs.Sets.{member}
 use Rattle.spacings.specs.Gaps.{GapsIn}
 use Rattle.rounds.specs.Level.{reachIn}
-use Rattle.verdicts.specs.declared.level.Level.{Level}
 use Rattle.verdicts.specs.Held.{fromSource, heldAt, levelHeld, criticalLink, criticalTo}
-use Rattle.verdicts.specs.Tables.{LevelOf, NarrowestIn}
+use Rattle.verdicts.specs.Tables.{Level, LevelOf, NarrowestIn}
 use Rattle.verdicts.proofs.LevelLaws.{from-is, is-from, source-is, level-of, level-at}
 use Rattle.verdicts.proofs.LevelRounds.{spaced-in, reach-is}
 

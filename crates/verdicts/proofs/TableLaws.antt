@@ -28,9 +28,8 @@ use Rattle.loads.specs.Tables.{LoadsOf}
 use Rattle.loads.proofs.Columns.{top-cong}
 use Rattle.spacings.specs.Gaps.{Fit, GapsIn}
 use Rattle.rounds.specs.Level.{LevelOn, reachIn}
-use Rattle.verdicts.specs.declared.level.Level.{Level}
 use Rattle.spacings.specs.declared.Sources.{Sources}
-use Rattle.verdicts.specs.Tables.{LevelsOf, StartsOf, LevelTables, LevelAt, LevelOf}
+use Rattle.verdicts.specs.Tables.{LevelsOf, StartsOf, LevelTables, LoadsAt, levelWith, LevelOf}
 use Rattle.verdicts.specs.Slots.{verdictBy, gapBy, byTables, slotBy, slotOf, LimitsOf, ReachesOf, Leveled, SlotTables}
 use Rattle.verdicts.proofs.LevelRounds.{spaced-in, light, start-light, reach-is}
 
@@ -61,12 +60,12 @@ levels-of d brings works levels few h s j u p q =
     s j u p q ∙ rw e at (h .by-sets (33 + u) (suc j) (omega arith, omega arith) (omega arith))
 
 -- a level of the tables is the description's
-pub level-of-tables : (d : Description) (levels starts critical : List ℕ) (sources : Sources) (tasks m j : ℕ) (v : Level) → LevelTables d levels starts critical sources tasks → m ≡ d .«source_count» → j < 32 → LevelAt levels starts critical m j v → LevelOf d (suc j) v
-level-of-tables d levels starts critical sources tasks m j v t e p a =
+pub level-of-tables : (d : Description) (levels starts critical : List ℕ) (sources : Sources) (tasks j : ℕ) (loads : List ℕ) → LevelTables d levels starts critical sources tasks → j < 32 → LoadsAt levels (sources .count) j loads → LevelOf d (suc j) (levelWith (getD starts j 0) loads (getD critical j 0))
+level-of-tables d levels starts critical sources tasks j loads t p a =
     record {
-      start-is = a .start-at ∙ t .by-start j p;
-      load-is = λ u q. a .load-at u (omega arith) ∙ t .by-level j u p q;
-      critical-is = λ u. ap (λ s. member s u) (a .critical-at) ∙ t .by-critical j u p;
+      start-is = t .by-start j p;
+      load-is = λ u q. a u (omega (arith, t .by-source .counted)) ∙ t .by-level j u p q;
+      critical-is = λ u. t .by-critical j u p;
     }
 
 module _ (d : Description) (levels starts : List ℕ) (orders : List Bool) (tables : SlotTables d levels starts orders) where

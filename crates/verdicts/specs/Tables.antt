@@ -15,7 +15,6 @@ use Rattle.spacings.specs.declared.Sources.{Sources}
 use Rattle.spacings.specs.Sources.{SourcesOf}
 use Rattle.spacings.specs.Gaps.{GapsIn}
 use Rattle.orders.specs.Orders.{OrdersOf, ordersHeld}
-use Rattle.verdicts.specs.declared.level.Level.{Level}
 use Rattle.verdicts.specs.declared.Tables.{Tables}
 use Rattle.verdicts.specs.Held.{levelHeld, criticalTo}
 
@@ -46,11 +45,19 @@ pub record TablesOf (d : Description) (t : Tables) : Type 0 where
   pub by-order : OrdersOf d (t .orders)
   pub all-ordered : t .ordered ≡ ordersHeld d
 
--- one level of m sources as the tables have it
-pub record LevelAt (levels starts critical : List ℕ) (m j : ℕ) (v : Level) : Type 0 where
-  pub start-at : v .start ≡ getD starts j 0
-  pub load-at : (u : ℕ) → u < m → getD (v .loads) u 0 ≡ getD levels (16 * j + u) 0
-  pub critical-at : v .critical ≡ getD critical j 0
+-- the loads of m sources at task j + 1, as the table of levels has them
+abbrev pub LoadsAt : List ℕ → ℕ → ℕ → List ℕ → Type 0
+LoadsAt levels m j loads = (u : ℕ) → u < m → getD loads u 0 ≡ getD levels (16 * j + u) 0
+
+-- a task's level: the start of its rounds, the load of each source at it, and the set of sources with a critical link to it
+pub record Level : Type 0 where
+  pub start : ℕ
+  pub loads : List ℕ
+  pub critical : ℕ
+
+-- the level with these numbers, as they are lent
+abbrev pub levelWith : ℕ → List ℕ → ℕ → Level
+levelWith start loads critical = record { start = start; loads = loads; critical = critical }
 
 -- the level of task j of a description
 pub record LevelOf (d : Description) (j : ℕ) (v : Level) : Type 0 where

@@ -15,14 +15,7 @@ ghost use lib.Dec.{eqb};
 ghost use Rattle.theory.proofs.WellFormed.{WellFormed};
 ghost use Rattle.sets.specs.Sets.{member};
 ghost use Rattle.rounds.specs.Level.{LevelOn};
-ghost use Rattle.verdicts.specs.Tables.{CriticalOf, LevelAt, HeldBy, narrowerOf, NarrowestIn};
-
-// The start of a task's rounds, the load of each source at it, and the set of sources with a critical link to it.
-pub struct Level {
-    pub start: u64,
-    pub loads: [u64; 16],
-    pub critical: u64,
-}
+ghost use Rattle.verdicts.specs.Tables.{CriticalOf, LoadsAt, levelWith, HeldBy, narrowerOf, NarrowestIn};
 
 // A set of sources with the one of a critical link besides.
 fn with_source(set: u64, link: Link) -> u64
@@ -54,23 +47,12 @@ pub fn critical_of(d: Description) -> [u64; 32]
     sets
 }
 
-// The level of task j + 1, of m sources.
-pub fn level_of<'a>(
-    levels: &'a [u64; 528],
-    starts: &'a [u64; 32],
-    critical: &'a [u64; 32],
-    m: usize,
-    j: usize,
-) -> Level
+// The load of each of m sources at task j + 1, from the table of levels.
+pub fn level_loads(levels: &[u64; 528], m: usize, j: usize) -> [u64; 16]
     requires { ⌜ (m ≤ 16) × (j < 32) ⌝ }
-    ensures { λ r. ⌜ LevelAt (now (levels .entry)) (now (starts .entry)) (now (critical .entry)) m j r ⌝ }
+    ensures { λ r. ⌜ LoadsAt (now (levels .entry)) m j r ⌝ }
 {
-    let loads = loads_at(levels, m, j);
-    Level {
-        start: starts[j],
-        loads,
-        critical: critical[j],
-    }
+    loads_at(levels, m, j)
 }
 
 // The narrower of two spacings, where the second counts.
@@ -100,19 +82,18 @@ fn narrowest(set: u64, gaps: &[u32; 16], m: usize) -> u64
     best
 }
 
-// Whether every critical link from a source to the level's task is held, at the spacings of m sources. The link of the source with
-// the narrowest spacing decides.
-pub fn level_held(level: Level, gaps: &[u32; 16], m: usize) -> bool
-    requires { ⌜ LevelOn (level .start) (level .loads) (now gaps) m ⌝ }
-    ensures { λ r. ⌜ HeldBy level (now (gaps .entry)) m r ⌝ }
+// Whether every critical link from a source to a task is held, at the spacings of m sources: by the start of the task's rounds, the
+// load of each source at it, and the set of sources with a critical link to it. The link of the source with the narrowest spacing decides.
+pub fn level_held(start: u64, loads: &[u64; 16], critical: u64, gaps: &[u32; 16], m: usize) -> bool
+    requires { ⌜ LevelOn start (now loads) (now gaps) m ⌝ }
+    ensures { λ r. ⌜ HeldBy (levelWith start (now (loads .entry)) critical) (now (gaps .entry)) m r ⌝ }
 {
-    let set = level.critical;
-    if set == 0 {
+    if critical == 0 {
         return true;
     }
-    let narrow = narrowest(set, gaps, m);
+    let narrow = narrowest(critical, gaps, m);
     if 1000000000 < narrow {
         return true;
     }
-    level_reach(level.start, &level.loads, gaps, m, narrow) < narrow
+    level_reach(start, loads, gaps, m, narrow) < narrow
 }

@@ -90,7 +90,12 @@ pub fn verdicts(d: Description, t: u32) -> Verdicts
         return refused(Refusal::OffKnob, 0);
     }
     let tables = tables_of(d, &judged.brings, &judged.works);
-    let gaps = gaps_by(tables.sources, t);
+    let gaps = gaps_by(
+        &tables.sources.ticks,
+        &tables.sources.pulses,
+        tables.sources.count,
+        t,
+    );
     let slots = slots_at(d, &tables.levels, &tables.starts, &tables.orders, &gaps);
     Verdicts {
         outcome: Outcome::Done,

@@ -1,17 +1,28 @@
 -- `quotes::held_at` meets its contract: the spacings of the tempo are those of every description that the sources are of. Assumes nothing.
+use native.Mathlib.Omega.{arith}
+use Rattle.spacings.specs.Sources.{sourcesWith}
 use Rattle.spacings.proofs.GapLaws.{scaled-of}
+use Rattle.verdicts.specs.Tables.{levelWith}
 use Rattle.quotes.proofs.Laws.{from-on, held-from}
 use Rattle.quotes.proofs.held_at.Statement.{statement}
 use Rattle.quotes.proofs.held_at.Tie as tie
 
-gaps-by-requires : tie.Need-gaps-by-requires
-gaps-by-requires c κs = let w = c .pre .0 in (scaled-of (w .of) (c .args .sources) (w .from .good) (w .from .sources-are), c .pre .1, c .pre .2)
+fill-gaps-requires : tie.Need-fill-gaps-requires
+fill-gaps-requires c κs =
+    let a = c .before .args in
+    let p = c .before .pre in
+    (scaled-of (p .0 .of) (sourcesWith (a .m) (a .ticks .now) (a .pulses .now)) (p .0 .from .good) (p .0 .from .sources-are), omega (arith, p .1), omega (arith, p .2), p .3)
 
 level-held-requires : tie.Need-level-held-requires
-level-held-requires c κs = let w = c .before .before .pre .0 in from-on (w .of) (w .at) (c .before .before .args .level) (c .before .before .args .sources) (c .before .before .args .t) (c .before .gaps-by .result) (w .from) (c .before .gaps-by .ensures)
+level-held-requires c κs =
+    let a = c .before .before .before .args in
+    let w = c .before .before .before .pre .0 in
+    from-on (w .of) (w .at) (levelWith (a .start) (a .loads .now) (a .critical)) (sourcesWith (a .m) (a .ticks .now) (a .pulses .now)) (a .t) _ (w .from) (c .before .fill-gaps .ensures .0)
 
 returns : tie.Need-returns
-returns c = let a = c .before .before .before .args in λ d j f. held-from d j (a .level) (a .sources) (a .t) (c .before .before .gaps-by .result) (c .level-held .result) f (c .before .before .gaps-by .ensures) (c .level-held .ensures)
+returns c =
+    let a = c .before .before .before .before .args in
+    (λ d j f. held-from d j (levelWith (a .start) (a .loads .now) (a .critical)) (sourcesWith (a .m) (a .ticks .now) (a .pulses .now)) (a .t) _ (c .level-held .result) f (c .before .before .fill-gaps .ensures .0) (c .level-held .ensures), c .before .before .fill-gaps .ensures .1)
 
 pub held-at-spec : {M : Type 1} → statement M
-held-at-spec = tie.close (tie.spec gaps-by-requires level-held-requires returns)
+held-at-spec = tie.close (tie.spec fill-gaps-requires level-held-requires returns)

@@ -29,19 +29,19 @@ quoted : (c : tie.After-quote-by) → c .quote-by .result ≡ largestBelow (allH
 quoted c = let t = c .before .before .before .before .before .before .tables-of .ensures in c .quote-by .ensures (c .before .before .before .before .before .before .before .before .before .before .before .before .before .examine .result .description) (t .by-levels) (t .all-ordered)
 
 -- the spacings at the tempo shown
-spaced : (c : tie.After-gaps-by) → GapsOf (c .before .before .before .before .before .before .before .before .before .before .before .before .before .before .before .before .examine .result .description) (shownTempo (c .before .before .before .quote-by .result)) (c .gaps-by .result)
+spaced : (c : tie.After-gaps-by) → GapsOf (c .before .before .before .before .before .before .before .before .before .before .before .before .before .before .before .before .before .before .examine .result .description) (shownTempo (c .before .before .before .before .before .quote-by .result)) (c .gaps-by .result)
 spaced c =
-    let z = gaps-of (c .before .before .before .before .before .before .before .before .before .before .before .before .before .before .before .before .examine .result .description) (c .before .before .before .before .before .before .before .before .before .tables-of .result .sources) (c .before .shown-tempo .result) (c .gaps-by .result) (c .before .before .before .before .before .before .before .before .before .tables-of .ensures .by-levels .by-source) (c .gaps-by .ensures) in
-    rw (c .before .shown-tempo .ensures) at z
+    let z = gaps-of (c .before .before .before .before .before .before .before .before .before .before .before .before .before .before .before .before .before .before .examine .result .description) (c .before .before .before .before .before .before .before .before .before .before .before .tables-of .result .sources) (c .before .before .before .before .shown-tempo .result) (c .gaps-by .result) (c .before .before .before .before .before .before .before .before .before .before .before .tables-of .ensures .by-levels .by-source) (c .gaps-by .ensures) in
+    rw (c .before .before .before .before .shown-tempo .ensures) at z
 
 -- what is known once the verdicts are there: the parts of the report, and that they fit
-parts : (c : tie.After-slots-at) → tempoLine (c .before .before .before .before .before .before .before .before .before .quote-by .result) ++ listing (c .before .before .before .before .before .before .before .before .before .before .before .before .before .before .before .before .before .before .before .before .before .before .examine .result .description) (c .slots-at .result) (c .before .before .before .before .before .before .before .before .before .before .before .before .before .before .before .before .before .before .before .before .before .before .examine .result .description .«link_count») ≡ reportOf (c .before .before .before .before .before .before .before .before .before .before .before .before .before .before .before .before .before .before .before .before .before .before .before .before .before .args .file .now)
-parts c = stage-parts (c .before .before .before .before .before .before .before .before .before .before .before .before .before .before .before .before .before .before .before .before .before .before .before .before .before .args .file .now) (c .before .before .before .before .before .before .before .before .before .before .before .before .before .before .before .before .before .before .before .before .before .before .examine .result) (c .before .before .before .before .before .before .before .before .before .before .before .before .before .before .before .before .before .before .before .before .before .before .examine .ensures) (c .before .before .before .before .before .before .before .before .before .before .before .before .before .before .before .before .before .before .before .before .enum-told .given .1) (c .before .before .before .before .before .before .before .before .before .quote-by .result) (c .slots-at .result) (quoted (c .before .before .before .before .before .before .before .before .before)) (c .slots-at .ensures (spacingOf (c .before .before .before .before .before .before .before .before .before .before .before .before .before .before .before .before .before .before .before .before .before .before .examine .result .description) (shownTempo (c .before .before .before .before .before .before .before .before .before .quote-by .result))) (spaced (c .before .before .before .before .before .before)) ∙ slots-at-tempo (c .before .before .before .before .before .before .before .before .before .before .before .before .before .before .before .before .before .before .before .before .before .before .examine .result .description) (shownTempo (c .before .before .before .before .before .before .before .before .before .quote-by .result)))
+parts : (c : tie.After-slots-at) → tempoLine (c .before .before .before .before .before .before .before .before .before .before .before .quote-by .result) ++ listing (c .before .before .before .before .before .before .before .before .before .before .before .before .before .before .before .before .before .before .before .before .before .before .before .before .examine .result .description) (c .slots-at .result) (c .before .before .before .before .before .before .before .before .before .before .before .before .before .before .before .before .before .before .before .before .before .before .before .before .examine .result .description .«link_count») ≡ reportOf (c .before .before .before .before .before .before .before .before .before .before .before .before .before .before .before .before .before .before .before .before .before .before .before .before .before .before .before .args .file .now)
+parts c = stage-parts (c .before .before .before .before .before .before .before .before .before .before .before .before .before .before .before .before .before .before .before .before .before .before .before .before .before .before .before .args .file .now) (c .before .before .before .before .before .before .before .before .before .before .before .before .before .before .before .before .before .before .before .before .before .before .before .before .examine .result) (c .before .before .before .before .before .before .before .before .before .before .before .before .before .before .before .before .before .before .before .before .before .before .before .before .examine .ensures) (c .before .before .before .before .before .before .before .before .before .before .before .before .before .before .before .before .before .before .before .before .before .before .enum-told .given .1) (c .before .before .before .before .before .before .before .before .before .before .before .quote-by .result) (c .slots-at .result) (quoted (c .before .before .before .before .before .before .before .before .before .before .before)) (c .slots-at .ensures (spacingOf (c .before .before .before .before .before .before .before .before .before .before .before .before .before .before .before .before .before .before .before .before .before .before .before .before .examine .result .description) (shownTempo (c .before .before .before .before .before .before .before .before .before .before .before .quote-by .result))) (spaced (c .before .before .before .before .before .before)) ∙ slots-at-tempo (c .before .before .before .before .before .before .before .before .before .before .before .before .before .before .before .before .before .before .before .before .before .before .before .before .examine .result .description) (shownTempo (c .before .before .before .before .before .before .before .before .before .before .before .quote-by .result)))
 
-room : (c : tie.After-slots-at) → length (tempoLine (c .before .before .before .before .before .before .before .before .before .quote-by .result)) + length (listing (c .before .before .before .before .before .before .before .before .before .before .before .before .before .before .before .before .before .before .before .before .before .before .examine .result .description) (c .slots-at .result) (c .before .before .before .before .before .before .before .before .before .before .before .before .before .before .before .before .before .before .before .before .before .before .examine .result .description .«link_count»)) ≤ 11168
+room : (c : tie.After-slots-at) → length (tempoLine (c .before .before .before .before .before .before .before .before .before .before .before .quote-by .result)) + length (listing (c .before .before .before .before .before .before .before .before .before .before .before .before .before .before .before .before .before .before .before .before .before .before .before .before .examine .result .description) (c .slots-at .result) (c .before .before .before .before .before .before .before .before .before .before .before .before .before .before .before .before .before .before .before .before .before .before .before .before .examine .result .description .«link_count»)) ≤ 11168
 room c =
-    let d = c .before .before .before .before .before .before .before .before .before .before .before .before .before .before .before .before .before .before .before .before .before .before .examine .result .description in
-    omega (arith, report-length (c .before .before .before .before .before .before .before .before .before .before .before .before .before .before .before .before .before .before .before .before .before .before .before .before .before .args .file .now) (λ i. c .before .before .before .before .before .before .before .before .before .before .before .before .before .before .before .before .before .before .before .before .before .before .before .before .shared-slice-known .given i .fits), sym (ap length (parts c)) ∙ length-append (tempoLine (c .before .before .before .before .before .before .before .before .before .quote-by .result)) (listing d (c .slots-at .result) (d .«link_count»)))
+    let d = c .before .before .before .before .before .before .before .before .before .before .before .before .before .before .before .before .before .before .before .before .before .before .before .before .examine .result .description in
+    omega (arith, report-length (c .before .before .before .before .before .before .before .before .before .before .before .before .before .before .before .before .before .before .before .before .before .before .before .before .before .before .before .args .file .now) (λ i. c .before .before .before .before .before .before .before .before .before .before .before .before .before .before .before .before .before .before .before .before .before .before .before .before .before .before .shared-slice-known .given i .fits), sym (ap length (parts c)) ∙ length-append (tempoLine (c .before .before .before .before .before .before .before .before .before .before .before .quote-by .result)) (listing d (c .slots-at .result) (d .«link_count»)))
 
 examine-requires : tie.Need-examine-requires
 examine-requires c κs = search needs
@@ -76,29 +76,29 @@ shown-tempo-requires c κs = search needs
 
 gaps-by-requires : tie.Need-gaps-by-requires
 gaps-by-requires c κs =
-    let on = shown-on (c .before .before .before .before .before .before .before .before .before .before .before .before .before .before .before .examine .result .description) (c .before .before .quote-by .result) (quoted (c .before .before)) in
-    (scaled-of (c .before .before .before .before .before .before .before .before .before .before .before .before .before .before .before .examine .result .description) (c .before .before .before .before .before .before .before .before .tables-of .result .sources) (good (c .before .before .before .before .before .before .before .before .before .before .before .before .before)) (c .before .before .before .before .before .before .before .before .tables-of .ensures .by-levels .by-source), omega (arith, on .0, c .shown-tempo .ensures), omega (arith, on .1, c .shown-tempo .ensures))
+    let on = shown-on (c .before .before .before .before .before .before .before .before .before .before .before .before .before .before .before .before .before .examine .result .description) (c .before .before .before .before .quote-by .result) (quoted (c .before .before .before .before)) in
+    (scaled-of (c .before .before .before .before .before .before .before .before .before .before .before .before .before .before .before .before .before .examine .result .description) (c .before .before .before .before .before .before .before .before .before .before .tables-of .result .sources) (good (c .before .before .before .before .before .before .before .before .before .before .before .before .before .before .before)) (c .before .before .before .before .before .before .before .before .before .before .tables-of .ensures .by-levels .by-source), omega (arith, on .0, c .before .before .before .shown-tempo .ensures), omega (arith, on .1, c .before .before .before .shown-tempo .ensures))
 
 slots-at-requires : tie.Need-slots-at-requires
 slots-at-requires c κs =
-    let t = c .before .before .before .before .before .before .before .before .before .before .before .before .before .before .tables-of .ensures in
+    let t = c .before .before .before .before .before .before .before .before .before .before .before .before .before .before .before .before .tables-of .ensures in
     (record { good = t .by-levels .good; by-level = t .by-levels .by-level; by-start = t .by-levels .by-start; by-order = t .by-order }, spaced (c .before .before .before .before .before) .fit)
 
 tempo-line-requires : tie.Need-tempo-line-requires
-tempo-line-requires c κs = omega (arith, c .before .before .before .before .before .before .before .before .before .before .before .before .before .before .before .before .before .before .before .before .before .before .before .before .before .before .pre, room (c .before))
+tempo-line-requires c κs = omega (arith, c .before .before .before .before .before .before .before .before .before .before .before .before .before .before .before .before .before .before .before .before .before .before .before .before .before .before .before .before .pre, room (c .before))
 
 link-lines-requires : tie.Need-link-lines-requires
 link-lines-requires c κs =
     let t = c .before .before .before .tempo-line .ensures in
-    (good (c .before .before .before .before .before .before .before .before .before .before .before .before .before .before .before .before .before .before .before .before .before .before .before .before .before) .fields .few-links, omega (arith, c .before .before .before .before .before .before .before .before .before .before .before .before .before .before .before .before .before .before .before .before .before .before .before .before .before .before .before .before .before .before .pre, room (c .before .before .before .before .before), t .put-end, t .put-size))
+    (good (c .before .before .before .before .before .before .before .before .before .before .before .before .before .before .before .before .before .before .before .before .before .before .before .before .before .before .before) .fields .few-links, omega (arith, c .before .before .before .before .before .before .before .before .before .before .before .before .before .before .before .before .before .before .before .before .before .before .before .before .before .before .before .before .before .before .before .before .pre, room (c .before .before .before .before .before), t .put-end, t .put-size))
 
 same-length-2 : tie.Need-same-length-2
 same-length-2 c = search needs
 
 returns-2 : tie.Need-returns-2
 returns-2 c =
-    let d = c .before .before .before .before .before .before .before .before .before .before .before .before .before .before .before .before .before .before .before .before .before .before .before .before .before .before .before .before .before .before .examine .result .description in
-    put-same _ (reportOf (c .before .before .before .before .before .before .before .before .before .before .before .before .before .before .before .before .before .before .before .before .before .before .before .before .before .before .before .before .before .before .before .before .before .args .file .now)) (parts (c .before .before .before .before .before .before .before .before)) (put-then (tempoLine (c .before .before .before .before .before .before .before .before .before .before .before .before .before .before .before .before .before .quote-by .result)) (listing d (c .before .before .before .before .before .before .before .before .slots-at .result) (d .«link_count»)) (c .before .before .before .before .before .before .tempo-line .ensures) (c .before .before .link-lines .ensures))
+    let d = c .before .before .before .before .before .before .before .before .before .before .before .before .before .before .before .before .before .before .before .before .before .before .before .before .before .before .before .before .before .before .before .before .examine .result .description in
+    put-same _ (reportOf (c .before .before .before .before .before .before .before .before .before .before .before .before .before .before .before .before .before .before .before .before .before .before .before .before .before .before .before .before .before .before .before .before .before .before .before .args .file .now)) (parts (c .before .before .before .before .before .before .before .before)) (put-then (tempoLine (c .before .before .before .before .before .before .before .before .before .before .before .before .before .before .before .before .before .before .before .quote-by .result)) (listing d (c .before .before .before .before .before .before .before .before .slots-at .result) (d .«link_count»)) (c .before .before .before .before .before .before .tempo-line .ensures) (c .before .before .link-lines .ensures))
 
 pub put-report-spec : {M : Type 1} → statement M
 put-report-spec =

@@ -40,23 +40,23 @@ tables-of-requires c κs = let S = c .before .before .before .before .before .be
 
 gaps-by-requires : tie.Need-gaps-by-requires
 gaps-by-requires c κs =
-    let S = c .before .before .before .before .before .before .before .before .before .before in
-    let t = c .before .tables-of .ensures .by-levels in
-    let k = knob-is (S .args .t) (sym (c .before .before .before .before .before .before .on-knob .ensures) ∙ not-false _ (c .before .before .before .before .before .if1 .left)) in
-    (scaled-of (S .args .d) (c .before .tables-of .result .sources) (t .good) (t .by-source), k .0, k .1)
+    let S = c .before .before .before .before .before .before .before .before .before .before .before .before in
+    let t = c .before .before .before .tables-of .ensures .by-levels in
+    let k = knob-is (S .args .t) (sym (c .before .before .before .before .before .before .before .before .on-knob .ensures) ∙ not-false _ (c .before .before .before .before .before .before .before .if1 .left)) in
+    (scaled-of (S .args .d) (c .before .before .before .tables-of .result .sources) (t .good) (t .by-source), k .0, k .1)
 
 slots-at-requires : tie.Need-slots-at-requires
 slots-at-requires c κs =
-    let S = c .before .before .before .before .before .before .before .before .before .before .before .before .before .before .before .before in
-    let t = c .before .before .before .before .before .before .before .tables-of .ensures in
-    (record { good = t .by-levels .good; by-level = t .by-levels .by-level; by-start = t .by-levels .by-start; by-order = t .by-order }, gaps-of (S .args .d) (c .before .before .before .before .before .before .before .tables-of .result .sources) (S .args .t) (c .before .before .before .before .before .gaps-by .result) (t .by-levels .by-source) (c .before .before .before .before .before .gaps-by .ensures) .fit)
+    let S = c .before .before .before .before .before .before .before .before .before .before .before .before .before .before .before .before .before .before in
+    let t = c .before .before .before .before .before .before .before .before .before .tables-of .ensures in
+    (record { good = t .by-levels .good; by-level = t .by-levels .by-level; by-start = t .by-levels .by-start; by-order = t .by-order }, gaps-of (S .args .d) (c .before .before .before .before .before .before .before .before .before .tables-of .result .sources) (S .args .t) (c .before .before .before .before .before .gaps-by .result) (t .by-levels .by-source) (c .before .before .before .before .before .gaps-by .ensures) .fit)
 
 returns-3 : tie.Need-returns-3
 returns-3 c =
-    let S = c .before .before .before .before .before .before .before .before .before .before .before .before .before .before .before .before .before in
-    let t = c .before .before .before .before .before .before .before .before .tables-of .ensures .by-levels in
-    let z = gaps-of (S .args .d) (c .before .before .before .before .before .before .before .before .tables-of .result .sources) (S .args .t) (c .before .before .before .before .before .before .gaps-by .result) (t .by-source) (c .before .before .before .before .before .before .gaps-by .ensures) in
-    verdicts-done (S .args .d) (S .args .t) (c .slots-at .result) (sym (c .before .before .before .before .before .before .before .before .before .before .before .before .before .before .before .before .examine-record .ensures .judged) ∙ c .before .before .before .before .before .before .before .before .before .before .before .before .before .before .enum-told .given .1) (sym (c .before .before .before .before .before .before .before .before .before .before .before .before .before .on-knob .ensures) ∙ not-false _ (c .before .before .before .before .before .before .before .before .before .before .before .before .if1 .left)) (c .slots-at .ensures (spacingOf (S .args .d) (S .args .t)) z ∙ slots-at-tempo (S .args .d) (S .args .t))
+    let S = c .before .before .before .before .before .before .before .before .before .before .before .before .before .before .before .before .before .before .before in
+    let t = c .before .before .before .before .before .before .before .before .before .before .tables-of .ensures .by-levels in
+    let z = gaps-of (S .args .d) (c .before .before .before .before .before .before .before .before .before .before .tables-of .result .sources) (S .args .t) (c .before .before .before .before .before .before .gaps-by .result) (t .by-source) (c .before .before .before .before .before .before .gaps-by .ensures) in
+    verdicts-done (S .args .d) (S .args .t) (c .slots-at .result) (sym (c .before .before .before .before .before .before .before .before .before .before .before .before .before .before .before .before .before .before .examine-record .ensures .judged) ∙ c .before .before .before .before .before .before .before .before .before .before .before .before .before .before .before .before .enum-told .given .1) (sym (c .before .before .before .before .before .before .before .before .before .before .before .before .before .before .before .on-knob .ensures) ∙ not-false _ (c .before .before .before .before .before .before .before .before .before .before .before .before .before .before .if1 .left)) (c .slots-at .ensures (spacingOf (S .args .d) (S .args .t)) z ∙ slots-at-tempo (S .args .d) (S .args .t))
 
 pub verdicts-spec : {M : Type 1} → statement M
 verdicts-spec =

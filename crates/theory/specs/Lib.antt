@@ -1,0 +1,2 @@
+-- What theorems here speak of besides the definitions of `model`.
+pub mod Structure

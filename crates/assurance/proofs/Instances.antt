@@ -1,7 +1,7 @@
 -- Demand 3 at two files of document 01 and at a swung one, and verdicts by spacings at Box with a pulse of each kind: hypotheses met by computation, so that the
 -- theorems are known to speak of something. Assumes nothing.
 use Prim.Native.Nat.{ℕ, suc, _^_, _≤_, _<_}
-use mathlib.Core.Path.{_≡_, refl}
+use mathlib.Core.Path.{_≡_, refl, sym, _∙_}
 use mathlib.Core.Bool.{Bool, true, false}
 use mathlib.Core.List.{List}
 use native.Mathlib.Omega.{arith}
@@ -17,7 +17,7 @@ use Rattle.model.specs.declared.Verdict.the-variants.{Doubt}
 use Rattle.model.specs.Basics.{sumN, topN, anyN, allN, joined}
 use Rattle.model.specs.Refusals.{noSource}
 use Rattle.model.specs.Field.{bytesOf, numberIn, bodyOf, fieldBytes, fieldIn, takeField, checkField, fieldOf}
-use Rattle.model.specs.Graph.{linked, system, walks, cyclic}
+use Rattle.model.specs.Graph.{sourceAt, linked, system, walks, cyclic}
 use Rattle.model.specs.Loads.{workF, work, added, load, tooHeavy}
 use Rattle.model.specs.File.{SourceFits, Widths, fileOf, lastChecks, parseFrom, parseFile, readFile, overfull, judge}
 use Rattle.model.specs.Delays.{spacing, spacingOf, spacings, startOf, roundOf, settle, delayOf}
@@ -27,10 +27,11 @@ use Rattle.model.specs.Machine.{idle}
 use Rattle.model.specs.History.{Call, ticks, tickAt, fires, waitOf}
 use Rattle.model.specs.Report.{reportOf}
 use Rattle.model.specs.Page.{HeldLine, FromPage}
-use Rattle.model.specs.Figures.{box, boxFile, boxPage, twin}
+use Rattle.model.specs.Figures.{boxWith, box, boxFile, boxPage, twin}
 use Rattle.model.specs.SwingFigures.{swungBox}
 use Rattle.model.specs.SpacingFigures.{fixedBox}
 use Rattle.model.proofs.Figures.{figures}
+use Rattle.model.proofs.SpacingFigures.{spacing-figures}
 use Rattle.lemmas.proofs.Tests.{Cmp, less, same, more, cmp}
 use Rattle.lemmas.proofs.Range.{all-at}
 use Rattle.lemmas.proofs.Decimal.{every-at}
@@ -135,33 +136,31 @@ swung-quote = quote-by swungBox 1212 swung-widths swung-judged (omega arith) (om
 pub swung-assured : (t : ℕ) → 200 ≤ t → t ≤ 1212 → (cs : List Call) → AssuredOf swungBox 1212 t cs
 swung-assured t low high cs = plain-assured swungBox 1212 t swung-widths swung-quote low high cs
 
--- Box at 178.3, Box with a swing of 66 at 121.2, Box with a fixed pulse at any tempo: the spacings are the same there, and so are the verdicts (C-12)
-box-spacings : (e : Description) (t : ℕ) → spacingOf box 1783 33 ≡ spacingOf e t 33 → spacingOf box 1783 34 ≡ spacingOf e t 34 → SameSpacings box 1783 e t
-box-spacings e t a b u p q = go (cmp u 33)
+-- Box at 178.3, and Box with any pulse at a tempo where its spacing is 701 too: the verdicts are the same (C-12)
+keys : (t : ℕ) → spacing (Fixed 2000) 1783 ≡ spacing (Fixed 2000) t
+unfolding spacing
+keys t = refl
+
+box-spacings : (x : Source) (t : ℕ) → spacing x t ≡ 701 → SameSpacings box 1783 (boxWith x) t
+unfolding spacingOf
+box-spacings x t e u p q = go (cmp u 33)
   where
-    go : Cmp u 33 → spacingOf box 1783 u ≡ spacingOf e t u
-    go (less x) = absurd (omega arith)
-    go (same x) = rw x a
-    go (more x) = let z : u ≡ 34 = omega arith in rw z b
+    go : Cmp u 33 → spacing (sourceAt box u) 1783 ≡ spacing (sourceAt (boxWith x) u) t
+    go (less y) = absurd (omega arith)
+    go (same y) = rw y (spacing-figures .paced ∙ sym e)
+    go (more y) = let z : u ≡ 34 = omega arith in rw z (keys t)
 
-box-well-formed : WellFormed box
-box-well-formed = judge-well-formed box box-widths box-judged
+pub kinds-alike : (x : Source) (t l : ℕ) → spacing x t ≡ 701 → l < 4 → verdictAt box 1783 l ≡ verdictAt (boxWith x) t l
+kinds-alike x t l e h =
+    verdict-same box (boxWith x) (record { tasks = refl; sources = refl; links = refl; run = λ k q. refl; link = λ k q. refl }) (judge-well-formed box box-widths box-judged) 1783 t (box-spacings x t e) l h
 
-swung-spacings : SameSpacings box 1783 swungBox 1212
-unfolding computing
-swung-spacings = box-spacings swungBox 1212 refl refl
-
-fixed-spacings : (t : ℕ) → SameSpacings box 1783 fixedBox t
-unfolding computing
-fixed-spacings t = box-spacings fixedBox t refl refl
-
+-- with a swing of 66 at 121.2, and with a fixed pulse at any tempo
 pub swung-alike : (l : ℕ) → l < 4 → verdictAt box 1783 l ≡ verdictAt swungBox 1212 l
-swung-alike =
-    verdict-same box swungBox (record { tasks = refl; sources = refl; links = refl; run = λ k h. refl; link = λ l h. refl }) box-well-formed 1783 1212 swung-spacings
+swung-alike l = kinds-alike (Swung 480 66) 1212 l (spacing-figures .swung)
 
 pub fixed-alike : (t l : ℕ) → l < 4 → verdictAt box 1783 l ≡ verdictAt fixedBox t l
-fixed-alike t =
-    verdict-same box fixedBox (record { tasks = refl; sources = refl; links = refl; run = λ k h. refl; link = λ l h. refl }) box-well-formed 1783 t (fixed-spacings t)
+unfolding spacing
+fixed-alike t l = kinds-alike (Fixed 701) t l refl
 
 -- Twin with spacing 9: quoted at 300.0
 twin-widths : Widths (twin 9)

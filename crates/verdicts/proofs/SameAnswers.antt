@@ -1,5 +1,5 @@
 -- The verdict call's answers by structure and spacings (C-12): two records that it does not refuse, each at its own tempo, get the same answer if they have the same
--- tasks and links, and sources as many and with the same spacings there. Assumes nothing.
+-- tasks and links, and sources as many and with the same spacings there. `Widths` is what the types of a record give (`theory/Typed.typed-widths`). Assumes nothing.
 use Prim.Native.Nat.{ℕ}
 use mathlib.Core.Path.{_≡_, sym, ap, _∙_}
 use mathlib.Core.List.{List}

@@ -10,7 +10,7 @@ use Rattle.model.specs.File.{fileOf, lastChecks, parseFrom, parseFile, r
 use Rattle.model.specs.Delays.{spacing, spacingOf, spacings, startOf, roundOf, settle, delayOf}
 use Rattle.model.specs.Order.{visit, walk, inOrder}
 use Rattle.model.specs.Verdicts.{sourceVerdict, orderVerdict, verdictOf, verdictAt, allHeld, judgeAt, largestBelow, quoteOf}
-use Rattle.model.specs.Machine.{idle, lawful, fireLink, fire, arriveOne, arrive, highestIn, runTask, clearLink, clearInto, endRun, ageOne, ageAll, stepped, strangers, tooSoon, judgeTick, plainTick}
+use Rattle.model.specs.Machine.{idle, lawful, fireLink, fire, arriveOne, arrive, highestIn, runTask, clearLink, clearInto, endRun, ageOne, ageAll, keep, stepped, strangers, tooSoon, judgeTick, plainTick}
 use Rattle.model.specs.History.{answers, left, observe, ticks, endsWithin, ticksUntil, servedBefore, waitOf}
 use Rattle.model.specs.Run.{codes}
 use Rattle.model.specs.Report.{digits, decimal, tempoText, tempoLine, verdictText, linkLine, linkLines, refusedLine, reportFor, reportOf}
@@ -18,7 +18,7 @@ use Rattle.model.specs.Page.{linesOf, tempoWords, heldWords}
 
 -- to unfold this is to unfold every definition that a row computes with
 unfoldable pub computing : ℕ
-unfolding sumN topN anyN allN upTo tab joined bytesOf numberIn bodyOf fieldBytes fieldIn takeField checkField fieldOf linked system walks cyclic workF work added load tooHeavy fileOf lastChecks parseFrom parseFile readFile overfull judge spacing spacingOf spacings startOf roundOf settle delayOf visit walk inOrder sourceVerdict orderVerdict verdictOf verdictAt allHeld judgeAt largestBelow quoteOf idle lawful fireLink fire arriveOne arrive highestIn runTask clearLink clearInto endRun ageOne ageAll stepped strangers tooSoon judgeTick plainTick answers left observe ticks endsWithin ticksUntil servedBefore waitOf codes digits decimal tempoText tempoLine verdictText linkLine linkLines refusedLine reportFor reportOf linesOf tempoWords heldWords
+unfolding sumN topN anyN allN upTo tab joined bytesOf numberIn bodyOf fieldBytes fieldIn takeField checkField fieldOf linked system walks cyclic workF work added load tooHeavy fileOf lastChecks parseFrom parseFile readFile overfull judge spacing spacingOf spacings startOf roundOf settle delayOf visit walk inOrder sourceVerdict orderVerdict verdictOf verdictAt allHeld judgeAt largestBelow quoteOf idle lawful fireLink fire arriveOne arrive highestIn runTask clearLink clearInto endRun ageOne ageAll keep stepped strangers tooSoon judgeTick plainTick answers left observe ticks endsWithin ticksUntil servedBefore waitOf codes digits decimal tempoText tempoLine verdictText linkLine linkLines refusedLine reportFor reportOf linesOf tempoWords heldWords
 computing = 0
 
 pub figures : Figures

@@ -2,4 +2,5 @@
 pub mod Figures
 pub mod SwingFigures
 pub mod SpacingFigures
+pub mod KnobFigures
 pub mod Steps

@@ -25,7 +25,7 @@ use Rattle.model.specs.File.{fileOf, readFile}
 use Rattle.model.specs.Delays.{spacing, spacingOf, roundOf, startOf}
 use Rattle.model.specs.Order.{walk}
 use Rattle.model.specs.Verdicts.{verdictAt, quoteOf}
-use Rattle.model.specs.Machine.{idle, droppedAt, setAge, setUsed, judgeTick}
+use Rattle.model.specs.Machine.{idle, droppedAt, setAge, setFastest, setUsed, judgeTick}
 use Rattle.model.specs.History.{Call, Tick, answers, ticks, servedBefore, waitOf}
 use Rattle.model.specs.Run.{page}
 use Rattle.model.specs.Report.{reportFor, reportOf}
@@ -111,13 +111,16 @@ sameTwice = describe (1 ∷ []) (Fixed 5 ∷ []) (free 33 1 ∷ free 33 1 ∷ []
 abbrev pub refusedPage : List ℕ
 refusedPage = 114 ∷ 101 ∷ 102 ∷ 117 ∷ 115 ∷ 101 ∷ 100 ∷ 32 ∷ 52 ∷ 32 ∷ 97 ∷ 116 ∷ 32 ∷ 50 ∷ 48 ∷ 10 ∷ []
 
--- n calls, source 33 arriving in those that pass the test, with no "finish"
+-- n calls, source 33 arriving in those that pass the test, with no "finish": at the tempos of a knob, and at 20.0
+abbrev pub callsTurned : (ℕ → ℕ) → ℕ → (ℕ → Bool) → List Call
+callsTurned knob n test = tab n (λ x. record { tempo = knob x; arrivals = record { marks = upToLength 16 false (test x ∷ []) }; finish = false })
+
 abbrev pub callsWhere : ℕ → (ℕ → Bool) → List Call
-callsWhere n test = tab n (λ x. record { arrivals = record { marks = upToLength 16 false (test x ∷ []) }; finish = false })
+callsWhere = callsTurned (λ x. 200)
 
 -- the ticks of a list of calls from the start
 abbrev pub history : Description → List Call → List Tick
-history d cs = ticks d 200 (idle d 200) cs
+history d cs = ticks d (idle d) cs
 
 abbrev pub sevenths : ℕ → Bool
 sevenths x = eqb (x % 7) 0
@@ -145,7 +148,7 @@ pub record Figures : Type 0 where
   pub p4-first : verdictAt (twin 9) 200 2 ≡ Held 8 9
   pub p4-second : verdictAt (twin 9) 200 3 ≡ Held 6 9
   pub p4-doubtful : verdictAt (twin 8) 200 2 ≡ Doubt 8
-  pub p5-dropped-at-21 : marksOf 2 (answers (twin 7) 200 (idle (twin 7) 200) (callsWhere 22 sevenths)) ≡ replicate 21 (Done, false) ++ ((Done, true) ∷ [])
+  pub p5-dropped-at-21 : marksOf 2 (answers (twin 7) (idle (twin 7)) (callsWhere 22 sevenths)) ≡ replicate 21 (Done, false) ++ ((Done, true) ∷ [])
   pub p6-held : verdictAt order 200 1 ≡ HeldOrder
   pub p6-doubtful : verdictAt orderWithSource 200 1 ≡ DoubtOrder
   pub p6-source : walk (system orderWithSource) 3 2 .failed ≡ 33
@@ -153,8 +156,8 @@ pub record Figures : Type 0 where
   pub p7-met-twice : walk (system metTwice) 4 2 .failed ≡ 1
   pub p8-480 : spacing (Paced 480) 1200 ≡ 1041
   pub p8-24 : spacing (Paced 24) 1200 ≡ 20833
-  pub p9-refused : page pulse 200 (callsWhere 5 (λ x. eqb x 0 || eqb x 4)) ≡ 0 ∷ 0 ∷ 0 ∷ 0 ∷ 14 ∷ []
-  pub p9-pass : page pulse 200 (callsWhere 6 (λ x. eqb x 0 || eqb x 5)) ≡ replicate 6 0
+  pub p9-refused : page pulse (callsWhere 5 (λ x. eqb x 0 || eqb x 4)) ≡ 0 ∷ 0 ∷ 0 ∷ 0 ∷ 14 ∷ []
+  pub p9-pass : page pulse (callsWhere 6 (λ x. eqb x 0 || eqb x 5)) ≡ replicate 6 0
   pub p10-twice : ofReading (readFile (fileOf sameTwice)) ≡ record { number = 4; value = 20 }
   -- document 01's numbers, in its order
   pub numbers : numberOf CutShort ∷ numberOf StrangeTag ∷ numberOf WrongLength ∷ numberOf OutOfTurn ∷ numberOf TooMany ∷ numberOf OffScale ∷ numberOf NoSuchEnd ∷ numberOf NoTask ∷ numberOf Loop ∷ numberOf TooHeavy ∷ numberOf OffKnob ∷ numberOf NoTempo ∷ numberOf ShortPage ∷ numberOf TooSoon ∷ numberOf Stranger ∷ numberOf ForeignState ∷ []
@@ -182,7 +185,7 @@ pub record Figures : Type 0 where
 -- "calls then check 11, 16, 15, 14": a call that breaks all four, and then one fewer each time. Its record has task 1 asleep with
 -- a tick used; sources 33 and 34 arrive, 33 too soon, and 34 does not exist.
 abbrev pub early : Machine
-early = setAge 0 0 (idle pulse 200)
+early = setFastest 0 200 (setAge 0 0 (idle pulse))
 
 abbrev pub foreign : Machine
 foreign = setUsed 1 1 early

@@ -14,23 +14,28 @@ use Rattle.model.specs.declared.Outcome.the-variants.{Done, Refused}
 use Rattle.model.specs.Graph.{runOf}
 use Rattle.model.specs.Machine.{plainTick, arrive, highest, usedAt}
 
--- a call: "arrivals and finish are free in each"
+-- a call: "arrivals and finish are free in each", and "its tempos now free"
 pub record Call : Type 0 where
+  pub tempo : ℕ
   pub arrivals : Arrivals
   pub finish : Bool
 
 -- the plain machine's answer to each call, each lent the record that the one before left; and the record after the last
-unfoldable pub answers : Description → ℕ → Machine → List Call → List Ticked
-answers d t m [] = []
-answers d t m (c ∷ cs) = let r = plainTick d t m (c .arrivals) (c .finish) in r ∷ answers d t (r .machine) cs
+abbrev pub plainCall : Description → Machine → Call → Ticked
+plainCall d m c = plainTick d (c .tempo) m (c .arrivals) (c .finish)
 
-unfoldable pub left : Description → ℕ → Machine → List Call → Machine
-left d t m [] = m
-left d t m (c ∷ cs) = left d t (plainTick d t m (c .arrivals) (c .finish) .machine) cs
+unfoldable pub answers : Description → Machine → List Call → List Ticked
+answers d m [] = []
+answers d m (c ∷ cs) = let r = plainCall d m c in r ∷ answers d (r .machine) cs
 
--- what one tick shows: the sources that arrived, the task that ran (0 for none), whether its run began and whether it ended in
+unfoldable pub left : Description → Machine → List Call → Machine
+left d m [] = m
+left d m (c ∷ cs) = left d (plainCall d m c .machine) cs
+
+-- what one tick shows: its tempo, the sources that arrived, the task that ran (0 for none), whether its run began and whether it ended in
 -- this tick, and the ticks that each task had used before it
 pub record Tick : Type 0 where
+  pub tempo : ℕ
   pub arrived : List Bool
   pub ran : ℕ
   pub began : Bool
@@ -41,6 +46,7 @@ unfoldable pub observe : Description → Machine → Call → Tick
 observe d m c =
     let h = highest d (arrive d (c .arrivals .marks) m) in
     record {
+      tempo = c .tempo;
       arrived = c .arrivals .marks;
       ran = h;
       began = eqb (usedAt m h) 0;
@@ -53,11 +59,11 @@ abbrev pub isDone : Outcome → Bool
 isDone Done = true
 isDone (Refused r place) = false
 
-unfoldable pub ticks : Description → ℕ → Machine → List Call → List Tick
-ticks d t m [] = []
-ticks d t m (c ∷ cs) =
-    let r = plainTick d t m (c .arrivals) (c .finish) in
-    elim (isDone (r .outcome)) [ true ↦ observe d m c ∷ ticks d t (r .machine) cs | false ↦ ticks d t m cs ]
+unfoldable pub ticks : Description → Machine → List Call → List Tick
+ticks d m [] = []
+ticks d m (c ∷ cs) =
+    let r = plainCall d m c in
+    elim (isDone (r .outcome)) [ true ↦ observe d m c ∷ ticks d (r .machine) cs | false ↦ ticks d m cs ]
 
 -- a node fires: a source when it arrives, a task when its run ends
 abbrev pub fires : Tick → ℕ → Bool
@@ -76,7 +82,7 @@ partDone k j = ltb 0 (getD (k .used) (j - 1) 0)
 
 -- the ticks of a list by number, from 0
 abbrev pub noTick : Tick
-noTick = record { arrived = []; ran = 0; began = false; ended = false; used = [] }
+noTick = record { tempo = 0; arrived = []; ran = 0; began = false; ended = false; used = [] }
 
 abbrev pub tickAt : List Tick → ℕ → Tick
 tickAt h x = getD h x noTick

@@ -17,3 +17,4 @@ pub mod Page
 pub mod Figures
 pub mod SwingFigures
 pub mod SpacingFigures
+pub mod KnobFigures

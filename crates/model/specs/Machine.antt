@@ -1,5 +1,5 @@
--- "The tick machine": the record, its rules, its start, the four steps of a tick, and the refusals of a call. It is the plain machine.
-use Prim.Native.Nat.{ℕ, zero, suc, _+_, _-_, min}
+-- "The tick machine" as C-13 has it, with a tempo in each tick: the record, its rules, its start, the steps of a tick, and the refusals of a call. It is the plain machine.
+use Prim.Native.Nat.{ℕ, zero, suc, _+_, _-_, min, max}
 use mathlib.Core.Bool.{Bool, true, false, _||_, _&&_, not, cond}
 use mathlib.Core.List.{List}
 use lib.ListN.{getD, set, replicate}
@@ -14,9 +14,10 @@ use Rattle.model.specs.declared.Refusal.{Refusal}
 use Rattle.model.specs.declared.Refusal.the-variants.{TooSoon, Stranger, ForeignState}
 use Rattle.model.specs.Basics.{upTo, tab, allN, anyN}
 use Rattle.model.specs.Refusals.{onDone}
+use Rattle.model.specs.File.{judge}
 use Rattle.model.specs.Graph.{linkAt, runOf}
 use Rattle.model.specs.Delays.{spacingOf}
-use Rattle.model.specs.Verdicts.{judgeAt}
+use Rattle.model.specs.Verdicts.{onKnob, judgeAt}
 
 -- reading the record: by task number, by link's place, by source's place
 abbrev pub awakeAt : Machine → ℕ → Bool
@@ -34,44 +35,56 @@ droppedAt m l = getD (m .dropped) l false
 abbrev pub ageAt : Machine → ℕ → ℕ
 ageAt m u = getD (m .ages) u 0
 
+-- "the record gains that fastest tempo for each source, 0 before the first firing"
+abbrev pub fastestAt : Machine → ℕ → ℕ
+fastestAt m u = getD (m .fastest) u 0
+
+-- "the spacing for 20.0", the longest that a source has
+abbrev pub longestGap : Description → ℕ → ℕ
+longestGap d u = spacingOf d 200 (33 + u)
+
 -- one part of the record replaced
 abbrev pub setAwake : ℕ → Bool → Machine → Machine
-setAwake k b m = record { awake = set (m .awake) (k - 1) b; used = m .used; waiting = m .waiting; dropped = m .dropped; ages = m .ages }
+setAwake k b m = record { awake = set (m .awake) (k - 1) b; used = m .used; waiting = m .waiting; dropped = m .dropped; ages = m .ages; fastest = m .fastest }
 
 abbrev pub setUsed : ℕ → ℕ → Machine → Machine
-setUsed k x m = record { awake = m .awake; used = set (m .used) (k - 1) x; waiting = m .waiting; dropped = m .dropped; ages = m .ages }
+setUsed k x m = record { awake = m .awake; used = set (m .used) (k - 1) x; waiting = m .waiting; dropped = m .dropped; ages = m .ages; fastest = m .fastest }
 
 abbrev pub setWaiting : ℕ → Bool → Machine → Machine
-setWaiting l b m = record { awake = m .awake; used = m .used; waiting = set (m .waiting) l b; dropped = m .dropped; ages = m .ages }
+setWaiting l b m = record { awake = m .awake; used = m .used; waiting = set (m .waiting) l b; dropped = m .dropped; ages = m .ages; fastest = m .fastest }
 
 abbrev pub setDropped : ℕ → Bool → Machine → Machine
-setDropped l b m = record { awake = m .awake; used = m .used; waiting = m .waiting; dropped = set (m .dropped) l b; ages = m .ages }
+setDropped l b m = record { awake = m .awake; used = m .used; waiting = m .waiting; dropped = set (m .dropped) l b; ages = m .ages; fastest = m .fastest }
 
 abbrev pub setAge : ℕ → ℕ → Machine → Machine
-setAge u x m = record { awake = m .awake; used = m .used; waiting = m .waiting; dropped = m .dropped; ages = set (m .ages) u x }
+setAge u x m = record { awake = m .awake; used = m .used; waiting = m .waiting; dropped = m .dropped; ages = set (m .ages) u x; fastest = m .fastest }
 
--- "at the start all tasks sleep, used is 0, marks are clear, ages equal the spacings"
+abbrev pub setFastest : ℕ → ℕ → Machine → Machine
+setFastest u x m = record { awake = m .awake; used = m .used; waiting = m .waiting; dropped = m .dropped; ages = m .ages; fastest = set (m .fastest) u x }
+
+-- "at the start all tasks sleep, used is 0, marks are clear"; "ages start at the spacing for 20.0", and no tempo is kept
 abbrev pub blankMachine : Machine
-blankMachine = record { awake = replicate 32 false; used = replicate 32 0; waiting = replicate 256 false; dropped = replicate 256 false; ages = replicate 16 0 }
+blankMachine = record { awake = replicate 32 false; used = replicate 32 0; waiting = replicate 256 false; dropped = replicate 256 false; ages = replicate 16 0; fastest = replicate 16 0 }
 
-unfoldable pub idle : Description → ℕ → Machine
-idle d t = record {
+unfoldable pub idle : Description → Machine
+idle d = record {
   awake = replicate 32 false;
   used = replicate 32 0;
   waiting = replicate 256 false;
   dropped = replicate 256 false;
-  ages = tab 16 (λ u. cond (ltb u (d .«source_count»)) (spacingOf d t (33 + u)) 0);
+  ages = tab 16 (λ u. cond (ltb u (d .«source_count»)) (longestGap d u) 0);
+  fastest = replicate 16 0;
 }
 
--- the start call: 1 to 11, with zeros beside a refusal
+-- the start call: 1 to 10, with zeros beside a refusal
 abbrev pub unstarted : Refusal → ℕ → Ticked
 unstarted r place = record { outcome = Refused r place; machine = blankMachine }
 
-unfoldable pub started : Description → ℕ → Ticked
-started d t = onDone (judgeAt d t) (record { outcome = Done; machine = idle d t }) unstarted
+unfoldable pub started : Description → Ticked
+started d = onDone (judge d) (record { outcome = Done; machine = idle d }) unstarted
 
--- the rules: "used is below e; a sleeping task has used 0; a waiting link's task is awake; ages do not exceed spacings;
--- nothing is set for absent nodes or links"
+-- the rules: "used is below e; a sleeping task has used 0; a waiting link's task is awake; ages do not exceed spacings", now those for 20.0;
+-- "a kept tempo is 0, with the age as at the start, or 200 to 3,000"; "nothing is set for absent nodes or links"
 abbrev pub taskRule : Description → Machine → ℕ → Bool
 taskRule d m k = cond (leb k (d .«task_count»))
     (ltb (usedAt m k) (runOf d k) && (awakeAt m k || eqb (usedAt m k) 0))
@@ -82,11 +95,13 @@ linkRule d m l = cond (ltb l (d .«link_count»))
     (not (waitingAt m l) || awakeAt m (linkAt d l .to))
     (not (waitingAt m l) && not (droppedAt m l))
 
-abbrev pub sourceRule : Description → ℕ → Machine → ℕ → Bool
-sourceRule d t m u = cond (ltb u (d .«source_count»)) (leb (ageAt m u) (spacingOf d t (33 + u))) (eqb (ageAt m u) 0)
+abbrev pub sourceRule : Description → Machine → ℕ → Bool
+sourceRule d m u = cond (ltb u (d .«source_count»))
+    (leb (ageAt m u) (longestGap d u) && cond (eqb (fastestAt m u) 0) (eqb (ageAt m u) (longestGap d u)) (onKnob (fastestAt m u)))
+    (eqb (ageAt m u) 0 && eqb (fastestAt m u) 0)
 
-unfoldable pub lawful : Description → ℕ → Machine → Bool
-lawful d t m = allN (taskRule d m) 1 32 && (allN (linkRule d m) 0 256 && allN (sourceRule d t m) 0 16)
+unfoldable pub lawful : Description → Machine → Bool
+lawful d m = allN (taskRule d m) 1 32 && (allN (linkRule d m) 0 256 && allN (sourceRule d m) 0 16)
 
 -- "Firing means, for each link out: if waiting, mark dropped; set waiting; wake the task"
 abbrev pub markDropped : ℕ → Machine → Machine
@@ -129,31 +144,48 @@ endRun d h finish m =
     (fire d h (clearInto d h (setUsed h 0 (setAwake h false m))))
     m
 
--- 4. "ages rise by one, up to the spacing"
-unfoldable pub ageOne : Description → ℕ → ℕ → Machine → Machine
-ageOne d t u m = setAge u (min (spacingOf d t (33 + u)) (ageAt m u + 1)) m
+-- 4. "ages rise by one, up to the spacing", which is that for 20.0
+unfoldable pub ageOne : Description → ℕ → Machine → Machine
+ageOne d u m = setAge u (min (longestGap d u) (ageAt m u + 1)) m
 
-unfoldable pub ageAll : Description → ℕ → Machine → Machine
-ageAll d t m = upTo (d .«source_count») (ageOne d t) m
+unfoldable pub ageAll : Description → Machine → Machine
+ageAll d m = upTo (d .«source_count») (ageOne d) m
 
--- one tick: the four steps, the task that runs being the highest awake once the sources have fired
+-- and "the fastest tempo given since it last fired", "the tick of that firing" included: a source that fires keeps this tick's tempo, another
+-- with a kept tempo the larger of the two, and one that never fired has none
+abbrev pub keptAfter : ℕ → Bool → ℕ → ℕ
+keptAfter t fired f = cond fired t (cond (eqb f 0) 0 (max f t))
+
+unfoldable pub keep : ℕ → List Bool → Machine → Machine
+keep t marks m = record {
+  awake = m .awake;
+  used = m .used;
+  waiting = m .waiting;
+  dropped = m .dropped;
+  ages = m .ages;
+  fastest = tab 16 (λ u. keptAfter t (getD marks u false) (fastestAt m u));
+}
+
+-- one tick at tempo t: these steps, the task that runs being the highest awake once the sources have fired
 unfoldable pub stepped : Description → ℕ → List Bool → Bool → Machine → Machine
 stepped d t marks finish m =
     let m₁ = arrive d marks m in
     let h = highest d m₁ in
-    ageAll d t (endRun d h finish (runTask h m₁))
+    keep t marks (ageAll d (endRun d h finish (runTask h m₁)))
 
--- 15: "an arrival from a source that does not exist"; 14: "an arriving source's age is below its spacing"
+-- 15: "an arrival from a source that does not exist"; 14: "an arriving source's age is below its spacing", which is that "at the fastest tempo given
+-- since it last fired, the tick of that firing and its present tick included". Before its first firing 0 is kept and the age is the
+-- longest spacing: it is free
 unfoldable pub strangers : Description → List Bool → Bool
 strangers d marks = anyN (λ u. getD marks u false && leb (d .«source_count») u) 0 16
 
 unfoldable pub tooSoon : Description → ℕ → List Bool → Machine → Bool
-tooSoon d t marks m = anyN (λ u. getD marks u false && ltb (ageAt m u) (spacingOf d t (33 + u))) 0 (d .«source_count»)
+tooSoon d t marks m = anyN (λ u. getD marks u false && ltb (ageAt m u) (spacingOf d (max (fastestAt m u) t) (33 + u))) 0 (d .«source_count»)
 
 -- "calls then check 11, 16, 15, 14"
 unfoldable pub judgeTick : Description → ℕ → Machine → List Bool → Outcome
 judgeTick d t m marks = onDone (judgeAt d t)
-    (cond (not (lawful d t m)) (Refused ForeignState 0)
+    (cond (not (lawful d m)) (Refused ForeignState 0)
     (cond (strangers d marks) (Refused Stranger 0)
     (cond (tooSoon d t marks m) (Refused TooSoon 0)
     Done)))

@@ -17,7 +17,7 @@ use Rattle.model.specs.Delays.{spacingOf}
 use Rattle.model.specs.Verdicts.{verdictAt, quotedFile}
 use Rattle.model.specs.Machine.{idle}
 use Rattle.model.specs.History.{Call, ticks, fires, tickAt, waitOf}
-use Rattle.model.specs.Promise.{StartMeets, Calls, Assured}
+use Rattle.model.specs.Promise.{StartMeets, Calls, UpTo, Assured}
 use Rattle.model.specs.Report.{decimal, tempoText, wTempo, wLink, wHeld, wOf, reportOf}
 
 -- a text cut into lines, "each line ends in one line feed": what stands before each, and a rest if there is one
@@ -62,10 +62,10 @@ pub record HeldLine (d : Description) (q l i j D M : ℕ) : Type 0 where
   pub verdict : verdictAt d q (l - 1) ≡ Held D M
   pub spacing : spacingOf d q i ≡ M
   pub below : D < M
-  -- at every tempo up to the quote, in every list of calls from the start, every event on the link waits at most D ticks
-  pub waits : (t x : ℕ) (cs : List Call) → 200 ≤ t → t ≤ q
-      → x < length (ticks d t (idle d t) cs) → fires (tickAt (ticks d t (idle d t) cs) x) i ≡ true
-      → waitOf (ticks d t (idle d t) cs) j x ≤ D
+  -- in every list of calls from the start, however the knob moves up to the quote, every event on the link waits at most D ticks
+  pub waits : (x : ℕ) (cs : List Call) → UpTo q (ticks d (idle d) cs)
+      → x < length (ticks d (idle d) cs) → fires (tickAt (ticks d (idle d) cs) x) i ≡ true
+      → waitOf (ticks d (idle d) cs) j x ≤ D
 
 -- what a page assures that has the tempo q as its first line
 pub record FromPage (file page : List ℕ) (q : ℕ) : Type 0 where
@@ -73,9 +73,10 @@ pub record FromPage (file page : List ℕ) (q : ℕ) : Type 0 where
   pub quoted : quotedFile file ≡ Tempo q
   pub low : 200 ≤ q
   pub high : q ≤ 3000
-  -- demand 3 at every tempo up to q: of the record that the start call answers and every list of calls on it
-  pub assured : (t : ℕ) (s : Ticked) (cs : List Call) (rs : List Ticked) (m : Machine) → 200 ≤ t → t ≤ q
-      → StartMeets (readFile file .description) t s → Calls (readFile file .description) t (s .machine) cs rs m → Assured (readFile file .description) q t cs rs m
+  -- the promise at every tempo up to q: of the record that the start call answers and every list of calls on it
+  pub assured : (s : Ticked) (cs : List Call) (rs : List Ticked) (m : Machine)
+      → StartMeets (readFile file .description) s → Calls (readFile file .description) (s .machine) cs rs m
+      → UpTo q (ticks (readFile file .description) (idle (readFile file .description)) cs) → Assured (readFile file .description) q cs rs m
   -- each line of a held source link is true
   pub held : (l i j D M : ℕ) → HasLine page (heldWords l i j D M) → HeldLine (readFile file .description) q l i j D M
   -- and each critical link from a source has one

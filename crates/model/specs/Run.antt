@@ -13,11 +13,11 @@ use Rattle.model.specs.declared.Quote.the-variants.{Tempo}
 use Rattle.model.specs.Basics.{tab}
 use Rattle.model.specs.Refusals.{ofOutcome, onDone}
 use Rattle.model.specs.Field.{numberIn}
-use Rattle.model.specs.File.{filledBy}
-use Rattle.model.specs.Verdicts.{judgeAt, quoteOf}
+use Rattle.model.specs.File.{filledBy, judge}
+use Rattle.model.specs.Verdicts.{quoteOf}
 use Rattle.model.specs.Machine.{idle, unstarted}
-use Rattle.model.specs.History.{Call, answers, left}
-use Rattle.model.specs.Promise.{Calls, Assured}
+use Rattle.model.specs.History.{Call, answers, left, ticks}
+use Rattle.model.specs.Promise.{Calls, UpTo, Assured}
 
 -- the arrivals of a mask, whose bit u is source 33 + u
 abbrev pub heard : ℕ → ℕ → Bool
@@ -26,16 +26,16 @@ heard mask u = eqb (mask / 2 ^ u % 2) 1
 unfoldable pub marksIn : ℕ → List Bool
 marksIn mask = tab 16 (heard mask)
 
--- a call in four bytes: the mask of its arrivals, high byte first; finish, unless the byte is 0; and a byte that is not looked at
-abbrev pub callOf : ℕ → Bool → Call
-callOf mask finish = record { arrivals = record { marks = marksIn mask }; finish = finish }
+-- a call in six bytes: the mask of its arrivals and its tempo, high byte first; finish, unless the byte is 0; and a byte that is not looked at
+abbrev pub callOf : ℕ → ℕ → Bool → Call
+callOf mask t finish = record { tempo = t; arrivals = record { marks = marksIn mask }; finish = finish }
 
 abbrev pub callIn : List ℕ → ℕ → Call
-callIn bytes i = callOf (numberIn bytes (4 * i) 2) (not (eqb (getD bytes (4 * i + 2) 0) 0))
+callIn bytes i = callOf (numberIn bytes (6 * i) 2) (numberIn bytes (6 * i + 2) 2) (not (eqb (getD bytes (6 * i + 4) 0) 0))
 
--- as many calls as the bytes have whole fours
+-- as many calls as the bytes have whole sixes
 abbrev pub callsIn : List ℕ → List Call
-callsIn bytes = tab (length bytes / 4) (callIn bytes)
+callsIn bytes = tab (length bytes / 6) (callIn bytes)
 
 -- a call's end as a byte: 0 for work done, or else the refusal's number
 unfoldable pub codes : List Ticked → List ℕ
@@ -43,33 +43,33 @@ codes [] = []
 codes (r ∷ rs) = ofOutcome (r .outcome) .number ∷ codes rs
 
 -- the codes of the plain machine's answers
-abbrev pub page : Description → ℕ → List Call → List ℕ
-page d t cs = codes (answers d t (idle d t) cs)
+abbrev pub page : Description → List Call → List ℕ
+page d cs = codes (answers d (idle d) cs)
 
--- the run's answer: 1 to 11 as judged, 13 where the buffer does not hold a byte for each call, or else the record after the last call
-abbrev pub ranFrom : Description → ℕ → List Call → List ℕ → Ticked
-ranFrom d t cs buffer =
+-- the run's answer: 1 to 10 as judged, 13 where the buffer does not hold a byte for each call, or else the record after the last call
+abbrev pub ranFrom : Description → List Call → List ℕ → Ticked
+ranFrom d cs buffer =
     cond (ltb (length buffer) (length cs))
     (unstarted ShortPage 0)
-    (record { outcome = Done; machine = left d t (idle d t) cs })
+    (record { outcome = Done; machine = left d (idle d) cs })
 
-unfoldable pub ran : Description → ℕ → List Call → List ℕ → Ticked
-ran d t cs buffer = onDone (judgeAt d t) (ranFrom d t cs buffer) unstarted
+unfoldable pub ran : Description → List Call → List ℕ → Ticked
+ran d cs buffer = onDone (judge d) (ranFrom d cs buffer) unstarted
 
 -- the buffer after it: "a refusal changes no byte of a lent buffer"
-unfoldable pub pageRan : Description → ℕ → List Call → List ℕ → List ℕ
-pageRan d t cs buffer = onDone (judgeAt d t) (filledBy (page d t cs) buffer) (λ r place. buffer)
+unfoldable pub pageRan : Description → List Call → List ℕ → List ℕ
+pageRan d cs buffer = onDone (judge d) (filledBy (page d cs) buffer) (λ r place. buffer)
 
--- demand 3 of a run's own answer and buffer: its record is the one that a list of tick calls from the start leaves, the first bytes
+-- the promise of a run's own answer and buffer: its record is the one that a list of tick calls from the start leaves, the first bytes
 -- of its buffer are the codes of those calls' answers, and of both all is assured
-pub record RunAssured (d : Description) (q t : ℕ) (cs : List Call) (buffer : List ℕ) (r : Ticked) : Type 0 where
+pub record RunAssured (d : Description) (q : ℕ) (cs : List Call) (buffer : List ℕ) (r : Ticked) : Type 0 where
   pub answered : List Ticked
-  pub called : Calls d t (idle d t) cs answered (r .machine)
+  pub called : Calls d (idle d) cs answered (r .machine)
   pub told : take (length cs) buffer ≡ codes answered
-  pub assured : Assured d q t cs answered (r .machine)
+  pub assured : Assured d q cs answered (r .machine)
 
 -- what the run call ensures of its answer and of the caller's buffer
-pub record RunMeets (d : Description) (t : ℕ) (cs : List Call) (buffer buffer′ : List ℕ) (r : Ticked) : Type 0 where
-  pub answer : r ≡ ran d t cs buffer
-  pub filled : buffer′ ≡ pageRan d t cs buffer
-  pub assured : (q : ℕ) → quoteOf d ≡ Tempo q → t ≤ q → r .outcome ≡ Done → RunAssured d q t cs buffer′ r
+pub record RunMeets (d : Description) (cs : List Call) (buffer buffer′ : List ℕ) (r : Ticked) : Type 0 where
+  pub answer : r ≡ ran d cs buffer
+  pub filled : buffer′ ≡ pageRan d cs buffer
+  pub assured : (q : ℕ) → quoteOf d ≡ Tempo q → UpTo q (ticks d (idle d) cs) → r .outcome ≡ Done → RunAssured d q cs buffer′ r

@@ -152,13 +152,14 @@ pub enum Quote {
     Unquoted(Refusal, usize),
 }
 
-// The tick machine's record.
+// The tick machine's record. Of each source it keeps the age and the fastest tempo given since its last firing, 0 before the first.
 pub struct Machine {
     pub awake: [bool; 32],
     pub used: [u32; 32],
     pub waiting: [bool; 256],
     pub dropped: [bool; 256],
     pub ages: [u32; 16],
+    pub fastest: [u32; 16],
 }
 
 // The sources that arrive in one tick: a mark for each number from 33 to 48.

@@ -68,6 +68,7 @@ pub record Arrived (d : Description) (marks : List Bool) (n : ℕ) (m m′ : Mac
   pub dropped : (l : ℕ) → l < d .«link_count» → droppedAt m′ l ≡ (droppedAt m l || (waitingAt m l && comes marks n (linkAt d l .from)))
   pub past : (l : ℕ) → d .«link_count» ≤ l → (waitingAt m′ l ≡ waitingAt m l) × (droppedAt m′ l ≡ droppedAt m l)
   pub age : (v : ℕ) → ageAt m′ v ≡ cond (ltb v n && getD marks v false) 0 (ageAt m v)
+  pub fastest : m′ .fastest ≡ m .fastest
 
 -- and by the source at place u alone
 record OneArrived (d : Description) (marks : List Bool) (u : ℕ) (m m′ : Machine) : Type 0 where
@@ -78,6 +79,7 @@ record OneArrived (d : Description) (marks : List Bool) (u : ℕ) (m m′ : Mach
   dropped : (l : ℕ) → l < d .«link_count» → droppedAt m′ l ≡ (droppedAt m l || (waitingAt m l && (getD marks u false && eqb (linkAt d l .from) (33 + u))))
   past : (l : ℕ) → d .«link_count» ≤ l → (waitingAt m′ l ≡ waitingAt m l) × (droppedAt m′ l ≡ droppedAt m l)
   age : (v : ℕ) → ageAt m′ v ≡ cond (eqb v u && getD marks u false) 0 (ageAt m v)
+  fastest : m′ .fastest ≡ m .fastest
 
 cond-or : (a b : Bool) (x : ℕ) → cond b 0 (cond a 0 x) ≡ cond (a || b) 0 x
 cond-or true true x = refl
@@ -102,6 +104,7 @@ module _ (d : Description) (wf : WellFormed d) (marks : List Bool) where
     dropped = λ l p. or-idle-right (droppedAt m l) (waitingAt m l) _ (and-false-left (getD marks u false) _ e);
     past = λ l p. (refl, refl);
     age = λ v. rw (and-false-right (eqb v u) (getD marks u false) e) refl;
+    fastest = refl;
   }
 
   fires : (u : ℕ) → u < d .«source_count» → (m : Machine) → Sized m → getD marks u false ≡ true → OneArrived d marks u m (setAge u 0 (fire d (33 + u) m))
@@ -115,6 +118,7 @@ module _ (d : Description) (wf : WellFormed d) (marks : List Bool) where
           waitings = f .sized .waitings;
           droppeds = f .sized .droppeds;
           ages = length-set (fire d (33 + u) m .ages) u 0 ∙ f .sized .ages;
+          fastests = f .sized .fastests;
         };
         used = f .used;
         awake = λ k o. rw e (f .awake k o);
@@ -122,6 +126,7 @@ module _ (d : Description) (wf : WellFormed d) (marks : List Bool) where
         dropped = λ l q. rw e (rw (lt-ltb l (d .«link_count») q) at (f .dropped l));
         past = λ l q. fired-past d (33 + u) m (fire d (33 + u) m) f l q;
         age = λ v. getD-set (fire d (33 + u) m .ages) u 0 0 v (omega (arith, f .sized .ages, wf .fields .few-sources)) ∙ rw (e, f .ages, and-on (eqb v u) true refl) refl;
+        fastest = f .fastest;
       }
 
   one-arrived : (u : ℕ) → u < d .«source_count» → (m : Machine) → Sized m → OneArrived d marks u m (arriveOne d marks u m)
@@ -141,6 +146,7 @@ module _ (d : Description) (wf : WellFormed d) (marks : List Bool) where
     dropped = λ l p. rw (le-ltb (linkAt d l .from - 33) 0 (omega arith), and-false-right (ltb 32 (linkAt d l .from)) false refl) (or-idle-right (droppedAt m l) (waitingAt m l) false refl);
     past = λ l p. (refl, refl);
     age = λ v. rw (le-ltb v 0 (omega arith)) refl;
+    fastest = refl;
   }
 
   arrived-more : (n : ℕ) (m m₁ m₂ : Machine) → Arrived d marks n m m₁ → OneArrived d marks n m₁ m₂ → Arrived d marks (suc n) m m₂
@@ -154,6 +160,7 @@ module _ (d : Description) (wf : WellFormed d) (marks : List Bool) where
         dropped = λ l p. rw (g .dropped l p, f .waiting l p, f .dropped l p, comes-more marks n (linkAt d l .from)) (drop-more (droppedAt m l) (waitingAt m l) _ _ (comes-apart marks n (linkAt d l .from)));
         past = λ l p. (g .past l p .0 ∙ f .past l p .0, g .past l p .1 ∙ f .past l p .1);
         age = λ v. rw (g .age v, f .age v, less-more (λ u. getD marks u false) v n) (cond-or (ltb v n && getD marks v false) _ (ageAt m v));
+        fastest = g .fastest ∙ f .fastest;
       }
 
   arrived-to : (n : ℕ) → n ≤ d .«source_count» → (m : Machine) → Sized m → Arrived d marks n m (upTo n (arriveOne d marks) m)

@@ -1,23 +1,25 @@
--- Demand 3. Assumes nothing.
-use Prim.Native.Nat.{ℕ, _≤_}
-use mathlib.Core.Path.{_≡_, subst}
-use mathlib.Core.Bool.{true}
-use mathlib.Core.List.{List}
-use lib.Dec.{leb}
-use borrow.Author.Tests.{le-leb}
+-- The promise, however the knob moves up to the quote, and demand 3, its case of one tempo. Assumes nothing.
+use Prim.Native.Nat.{ℕ, zero, suc, _≤_}
+use mathlib.Core.Path.{_≡_, refl, subst}
+use mathlib.Core.Bool.{Bool, true, false, _&&_}
+use mathlib.Core.List.{List, [], _∷_, _++_}
+use lib.Dec.{leb, eqb}
+use borrow.Author.Tests.{eqb-true, le-leb, leb-true}
 use native.Mathlib.Omega.{arith}
 use Rattle.model.specs.declared.Description.{Description}
 use Rattle.model.specs.declared.Machine.{Machine}
 use Rattle.model.specs.declared.Ticked.{Ticked}
 use Rattle.model.specs.declared.Outcome.the-variants.{Done}
 use Rattle.model.specs.declared.Quote.the-variants.{Tempo}
+use Rattle.model.specs.Basics.{tab}
 use Rattle.model.specs.Graph.{system}
 use Rattle.model.specs.Delays.{spacingOf}
 use Rattle.model.specs.File.{Widths}
-use Rattle.model.specs.Verdicts.{quoteOf, judgeAt}
+use Rattle.model.specs.Verdicts.{quoteOf}
 use Rattle.model.specs.Machine.{idle, started}
-use Rattle.model.specs.History.{Call}
-use Rattle.model.specs.Promise.{StartMeets, Calls, Assured, Demand3}
+use Rattle.model.specs.History.{Call, Tick, plainCall, isDone, observe, ticks}
+use Rattle.model.specs.Promise.{StartMeets, Calls, UpTo, Assured, Promise, atTempo, Demand3}
+use Rattle.lemmas.proofs.Tests.{and-left, and-right, both}
 use Rattle.theory.proofs.WellFormed.{WellFormed, Shaped}
 use Rattle.theory.proofs.FileLaws.{judge-well-formed}
 use Rattle.theory.proofs.Fielded.{shaped}
@@ -29,9 +31,9 @@ use Rattle.theory.proofs.Quotes.{Quoted, quoted}
 use Rattle.assurance.proofs.Assurance.{Facts, assured-by}
 
 -- what the laws of files, loads, delays, walks and quotes give
-facts : (d : Description) (q t : ℕ) → Widths d → quoteOf d ≡ Tempo q → 200 ≤ t → t ≤ q → Facts d q t
+facts : (d : Description) (q : ℕ) → Widths d → quoteOf d ≡ Tempo q → Facts d q
 unfolding system
-facts d q t w e low high =
+facts d q w e =
     let k : Quoted d q = quoted d q e in
     let g : WellFormed d = judge-well-formed d w (k .judged) in
     let s : Shaped (system d) = shaped d g in
@@ -40,24 +42,70 @@ facts d q t w e low high =
       loaded = loaded (system d) s (g .no-cycle);
       shaped = s;
       held = k .held;
-      spaced = λ u a b. (gap-some d g u a b q (omega (arith, k .low)) (k .high), gap-anti d g u a b t q (omega arith) high);
+      spaced = record {
+        low = k .low;
+        some = λ u a b. gap-some d g u a b q (omega (arith, k .low)) (k .high);
+        most = λ u t a b low high. gap-anti d g u a b t q (omega arith) high;
+      };
       settled = λ i j D x. held-fixed (system d) (spacingOf d q) i j D x;
       ordered = λ i j a b c. walk-order (system d) s (g .fields .few-sources) i j a c;
     }
 
 -- a list of calls from the idle record
-pub calls-assured : (d : Description) (q t : ℕ) (cs : List Call) (rs : List Ticked) (m : Machine) → Widths d → quoteOf d ≡ Tempo q → 200 ≤ t → t ≤ q → Calls d t (idle d t) cs rs m → Assured d q t cs rs m
-calls-assured d q t cs rs m w e low high k = assured-by d q t (facts d q t w e low high) cs rs m k
+pub calls-assured : (d : Description) (q : ℕ) (cs : List Call) (rs : List Ticked) (m : Machine) → Widths d → quoteOf d ≡ Tempo q → UpTo q (ticks d (idle d) cs) → Calls d (idle d) cs rs m → Assured d q cs rs m
+calls-assured d q cs rs m w e up k = assured-by d q (facts d q w e) cs up rs m k
 
--- with a quote and a tempo up to it the start is not refused: its record is the idle one
-pub start-idle : (d : Description) (q t : ℕ) (s : Ticked) → quoteOf d ≡ Tempo q → 200 ≤ t → t ≤ q → StartMeets d t s → s ≡ record { outcome = Done; machine = idle d t }
-unfolding started judgeAt
-start-idle d q t s e low high a =
-    let k : Quoted d q = quoted d q e in
-    let low′ : leb 200 t ≡ true = le-leb 200 t low in
-    let high′ : leb t 3000 ≡ true = le-leb t 3000 (omega (arith, k .high)) in
-    rw (k .judged, low′, high′) at a
+-- with a quote the start is not refused: its record is the idle one
+pub start-idle : (d : Description) (q : ℕ) (s : Ticked) → quoteOf d ≡ Tempo q → StartMeets d s → s ≡ record { outcome = Done; machine = idle d }
+unfolding started
+start-idle d q s e a = rw (quoted d q e .judged) at a
+
+pub promise : Promise
+promise d q s cs rs m w e a k up =
+    calls-assured d q cs rs m w e up (subst (λ (x : Ticked). Calls d (x .machine) cs rs m) (start-idle d q s e a) k)
+
+-- no call of a list is above q: so is no tick of it
+unfoldable pub slowCalls : ℕ → List Call → Bool
+slowCalls q [] = true
+slowCalls q (c ∷ cs) = leb (c .tempo) q && slowCalls q cs
+
+up-next : (q : ℕ) (k : Tick) (h : List Tick) → k .tempo ≤ q → UpTo q h → UpTo q (k ∷ h)
+up-next q k h p a zero r = p
+up-next q k h p a (suc x) r = a x (omega arith)
+
+pub slow-ticks : (q : ℕ) (d : Description) (cs : List Call) (m : Machine) → slowCalls q cs ≡ true → UpTo q (ticks d m cs)
+unfolding ticks slowCalls observe
+slow-ticks q d [] m e = λ x p. absurd (omega arith)
+slow-ticks q d (c ∷ cs) m e =
+    go (isDone (plainCall d m c .outcome)) refl (slow-ticks q d cs m rest) (slow-ticks q d cs (plainCall d m c .machine) rest)
+  where
+    rest : slowCalls q cs ≡ true
+    rest = and-right (leb (c .tempo) q) _ e
+
+    go : (b : Bool) → isDone (plainCall d m c .outcome) ≡ b → UpTo q (ticks d m cs) → UpTo q (ticks d (plainCall d m c .machine) cs) → UpTo q (ticks d m (c ∷ cs))
+    go true f a b = rw (f, ticks) (up-next q (observe d m c) (ticks d (plainCall d m c .machine) cs) (leb-true (c .tempo) q (and-left (leb (c .tempo) q) _ e)) b)
+    go false f a b = rw (f, ticks) a
+
+-- a list by the numbers of its calls
+slow-more : (q : ℕ) (cs : List Call) (c : Call) → slowCalls q cs ≡ true → c .tempo ≤ q → slowCalls q (cs ++ (c ∷ [])) ≡ true
+unfolding slowCalls
+slow-more q [] c e h = both (leb (c .tempo) q) true (le-leb (c .tempo) q h) refl
+slow-more q (b ∷ cs) c e h =
+    both (leb (b .tempo) q) _ (and-left (leb (b .tempo) q) _ e) (slow-more q cs c (and-right (leb (b .tempo) q) _ e) h)
+
+pub slow-tab : (q : ℕ) (call : ℕ → Call) → ((x : ℕ) → call x .tempo ≤ q) → (n : ℕ) → slowCalls q (tab n call) ≡ true
+unfolding tab slowCalls
+slow-tab q call h zero = refl
+slow-tab q call h (suc n) = slow-more q (tab n call) (call n) (slow-tab q call h n) (h n)
+
+-- demand 3: calls at one tempo up to the quote
+one-slow : (q t : ℕ) → t ≤ q → (cs : List Call) → atTempo t cs ≡ true → slowCalls q cs ≡ true
+unfolding atTempo slowCalls
+one-slow q t h [] e = refl
+one-slow q t h (c ∷ cs) e =
+    let k : c .tempo ≡ t = eqb-true (c .tempo) t (and-left (eqb (c .tempo) t) _ e) in
+    both (leb (c .tempo) q) _ (le-leb (c .tempo) q (omega arith)) (one-slow q t h cs (and-right (eqb (c .tempo) t) _ e))
 
 pub demand3 : Demand3
-demand3 d q t s cs rs m w e low high a k =
-    calls-assured d q t cs rs m w e low high (subst (λ (x : Ticked). Calls d t (x .machine) cs rs m) (start-idle d q t s e low high a) k)
+demand3 d q t s cs rs m w e high one a k =
+    promise d q s cs rs m w e a k (slow-ticks q d cs (idle d) (one-slow q t high cs one))

@@ -11,8 +11,7 @@ use Rattle.model.specs.declared.Description.{Description}
 use Rattle.model.specs.declared.Machine.{Machine}
 use Rattle.model.specs.Basics.{upTo}
 use Rattle.model.specs.Graph.{linkAt}
-use Rattle.model.specs.Delays.{spacingOf}
-use Rattle.model.specs.Machine.{waitingAt, ageAt, highestIn, clearLink, clearInto, ageOne, ageAll}
+use Rattle.model.specs.Machine.{waitingAt, ageAt, longestGap, highestIn, clearLink, clearInto, ageOne, ageAll}
 use Rattle.lemmas.proofs.Tests.{Cmp, less, same, more, cmp, and-false-right}
 use Rattle.lemmas.proofs.Bools.{and-on, and-not-or, set-false, less-more}
 use Rattle.theory.proofs.WellFormed.{WellFormed}
@@ -56,19 +55,21 @@ pub record Cleared (d : Description) (h n : ℕ) (m m′ : Machine) : Type 0 whe
   pub used : m′ .used ≡ m .used
   pub dropped : m′ .dropped ≡ m .dropped
   pub ages : m′ .ages ≡ m .ages
+  pub fastest : m′ .fastest ≡ m .fastest
   pub waiting : (l : ℕ) → waitingAt m′ l ≡ (waitingAt m l && not (ltb l n && eqb (linkAt d l .to) h))
 
 and-idle : (a b c : Bool) → b ≡ false → a ≡ (a && not (c && b))
 and-idle a b c e = sym (and-on a _ (rw (and-false-right c b e) refl))
 
 -- ages of the first n sources risen
-pub record Aged (d : Description) (t n : ℕ) (m m′ : Machine) : Type 0 where
+pub record Aged (d : Description) (n : ℕ) (m m′ : Machine) : Type 0 where
   pub sized : Sized m′
   pub awake : m′ .awake ≡ m .awake
   pub used : m′ .used ≡ m .used
   pub waiting : m′ .waiting ≡ m .waiting
   pub dropped : m′ .dropped ≡ m .dropped
-  pub age : (v : ℕ) → ageAt m′ v ≡ cond (ltb v n) (min (spacingOf d t (33 + v)) (ageAt m v + 1)) (ageAt m v)
+  pub fastest : m′ .fastest ≡ m .fastest
+  pub age : (v : ℕ) → ageAt m′ v ≡ cond (ltb v n) (min (longestGap d v) (ageAt m v + 1)) (ageAt m v)
 
 module _ (d : Description) (wf : WellFormed d) where
   -- what clearing one link leaves
@@ -82,12 +83,12 @@ module _ (d : Description) (wf : WellFormed d) where
           (getD-set (m .waiting) l false false k (omega (arith, z .waitings, wf .fields .few-links)) ∙ rw (and-on (eqb k l) true refl) (set-false (eqb k l) (waitingAt m k)))
       go false e = rw (e, clearLink) (and-idle (waitingAt m k) false (eqb k l) refl)
 
-  clear-rest : (h l : ℕ) (m : Machine) → Sized m → (b : Bool) → eqb (linkAt d l .to) h ≡ b → Sized (clearLink d h l m) × (clearLink d h l m .awake ≡ m .awake) × (clearLink d h l m .used ≡ m .used) × (clearLink d h l m .dropped ≡ m .dropped) × (clearLink d h l m .ages ≡ m .ages)
+  clear-rest : (h l : ℕ) (m : Machine) → Sized m → (b : Bool) → eqb (linkAt d l .to) h ≡ b → Sized (clearLink d h l m) × (clearLink d h l m .awake ≡ m .awake) × (clearLink d h l m .used ≡ m .used) × (clearLink d h l m .dropped ≡ m .dropped) × (clearLink d h l m .ages ≡ m .ages) × (clearLink d h l m .fastest ≡ m .fastest)
   unfolding clearLink
   clear-rest h l m z true e =
       rw (e, clearLink)
-      (record { awakes = z .awakes; useds = z .useds; waitings = length-set (m .waiting) l false ∙ z .waitings; droppeds = z .droppeds; ages = z .ages }, refl, refl, refl, refl)
-  clear-rest h l m z false e = rw (e, clearLink) (z, refl, refl, refl, refl)
+      (record { awakes = z .awakes; useds = z .useds; waitings = length-set (m .waiting) l false ∙ z .waitings; droppeds = z .droppeds; ages = z .ages; fastests = z .fastests }, refl, refl, refl, refl, refl)
+  clear-rest h l m z false e = rw (e, clearLink) (z, refl, refl, refl, refl, refl)
 
   cleared-to : (h n : ℕ) → n ≤ d .«link_count» → (m : Machine) → Sized m → Cleared d h n m (upTo n (clearLink d h) m)
   unfolding upTo
@@ -97,6 +98,7 @@ module _ (d : Description) (wf : WellFormed d) where
     used = refl;
     dropped = refl;
     ages = refl;
+    fastest = refl;
     waiting = λ l. rw (le-ltb l 0 (omega arith)) (and-idle (waitingAt m l) false true refl);
   }
   cleared-to h (suc n) p m z =
@@ -109,6 +111,7 @@ module _ (d : Description) (wf : WellFormed d) where
         used = g .2 ∙ f .used;
         dropped = g .3 ∙ f .dropped;
         ages = g .4 ∙ f .ages;
+        fastest = g .5 ∙ f .fastest;
         waiting = λ l. rw (clear-one h n (omega arith) m₁ (f .sized) l, f .waiting l, less-more (λ k. eqb (linkAt d k .to) h) l n) (and-not-or (waitingAt m l) (ltb l n && eqb (linkAt d l .to) h) (eqb l n && eqb (linkAt d n .to) h));
       }
 
@@ -116,39 +119,42 @@ module _ (d : Description) (wf : WellFormed d) where
   unfolding clearInto
   cleared h m z = cleared-to h (d .«link_count») (omega arith) m z
 
-  aged-to : (t n : ℕ) → n ≤ d .«source_count» → (m : Machine) → Sized m → Aged d t n m (upTo n (ageOne d t) m)
+  aged-to : (n : ℕ) → n ≤ d .«source_count» → (m : Machine) → Sized m → Aged d n m (upTo n (ageOne d) m)
   unfolding upTo ageOne
-  aged-to t zero p m z = record {
+  aged-to zero p m z = record {
     sized = z;
     awake = refl;
     used = refl;
     waiting = refl;
     dropped = refl;
+    fastest = refl;
     age = λ v. rw (le-ltb v 0 (omega arith)) refl;
   }
-  aged-to t (suc n) p m z =
-      let m₁ : Machine = upTo n (ageOne d t) m in
-      let f : Aged d t n m m₁ = aged-to t n (omega arith) m z in
+  aged-to (suc n) p m z =
+      let m₁ : Machine = upTo n (ageOne d) m in
+      let f : Aged d n m m₁ = aged-to n (omega arith) m z in
       record {
         sized = record {
           awakes = f .sized .awakes;
           useds = f .sized .useds;
           waitings = f .sized .waitings;
           droppeds = f .sized .droppeds;
-          ages = length-set (m₁ .ages) n (min (spacingOf d t (33 + n)) (ageAt m₁ n + 1)) ∙ f .sized .ages;
+          ages = length-set (m₁ .ages) n (min (longestGap d n) (ageAt m₁ n + 1)) ∙ f .sized .ages;
+          fastests = f .sized .fastests;
         };
         awake = f .awake;
         used = f .used;
         waiting = f .waiting;
         dropped = f .dropped;
-        age = λ v. getD-set (m₁ .ages) n (min (spacingOf d t (33 + n)) (ageAt m₁ n + 1)) 0 v (omega (arith, f .sized .ages, wf .fields .few-sources)) ∙ at m₁ v (f .age v) (f .age n) (cmp v n);
+        fastest = f .fastest;
+        age = λ v. getD-set (m₁ .ages) n (min (longestGap d n) (ageAt m₁ n + 1)) 0 v (omega (arith, f .sized .ages, wf .fields .few-sources)) ∙ at m₁ v (f .age v) (f .age n) (cmp v n);
       }
     where
-      at : (m₁ : Machine) (v : ℕ) → ageAt m₁ v ≡ cond (ltb v n) (min (spacingOf d t (33 + v)) (ageAt m v + 1)) (ageAt m v) → ageAt m₁ n ≡ cond (ltb n n) (min (spacingOf d t (33 + n)) (ageAt m n + 1)) (ageAt m n) → Cmp v n → cond (eqb v n) (min (spacingOf d t (33 + n)) (ageAt m₁ n + 1)) (ageAt m₁ v) ≡ cond (ltb v (suc n)) (min (spacingOf d t (33 + v)) (ageAt m v + 1)) (ageAt m v)
+      at : (m₁ : Machine) (v : ℕ) → ageAt m₁ v ≡ cond (ltb v n) (min (longestGap d v) (ageAt m v + 1)) (ageAt m v) → ageAt m₁ n ≡ cond (ltb n n) (min (longestGap d n) (ageAt m n + 1)) (ageAt m n) → Cmp v n → cond (eqb v n) (min (longestGap d n) (ageAt m₁ n + 1)) (ageAt m₁ v) ≡ cond (ltb v (suc n)) (min (longestGap d v) (ageAt m v + 1)) (ageAt m v)
       at m₁ v f g (less r) = rw (ne-eqb v n (λ e. omega arith), lt-ltb v (suc n) (omega arith), f, lt-ltb v n r) refl
       at m₁ v f g (same r) = rw (eq-eqb v n r, lt-ltb v (suc n) (omega arith), g, le-ltb n n (omega arith), r) refl
       at m₁ v f g (more r) = rw (ne-eqb v n (λ e. omega arith), le-ltb v (suc n) (omega arith), f, le-ltb v n (omega arith)) refl
 
-  pub aged : (t : ℕ) (m : Machine) → Sized m → Aged d t (d .«source_count») m (ageAll d t m)
+  pub aged : (m : Machine) → Sized m → Aged d (d .«source_count») m (ageAll d m)
   unfolding ageAll
-  aged t m z = aged-to t (d .«source_count») (omega arith) m z
+  aged m z = aged-to (d .«source_count») (omega arith) m z

@@ -25,6 +25,7 @@ pub record Sized (m : Machine) : Type 0 where
   pub waitings : length (m .waiting) ≡ 256
   pub droppeds : length (m .dropped) ≡ 256
   pub ages : length (m .ages) ≡ 16
+  pub fastests : length (m .fastest) ≡ 16
 
 -- an entry after a store, by task numbers, which begin at 1
 pub getD-task : {A : Type 0} (l : List A) (h : ℕ) (v d : A) (k : ℕ) → 1 ≤ k → 1 ≤ h → h ≤ length l → getD (set l (h - 1) v) (k - 1) d ≡ cond (eqb k h) v (getD l (k - 1) d)
@@ -50,6 +51,7 @@ pub record Fired (d : Description) (x n : ℕ) (m m′ : Machine) : Type 0 where
   pub sized : Sized m′
   pub used : m′ .used ≡ m .used
   pub ages : m′ .ages ≡ m .ages
+  pub fastest : m′ .fastest ≡ m .fastest
   pub awake : (k : ℕ) → 1 ≤ k → awakeAt m′ k ≡ (awakeAt m k || anyN (λ l. eqb (linkAt d l .from) x && eqb (linkAt d l .to) k) 0 n)
   pub waiting : (l : ℕ) → waitingAt m′ l ≡ (waitingAt m l || (ltb l n && eqb (linkAt d l .from) x))
   pub dropped : (l : ℕ) → droppedAt m′ l ≡ (droppedAt m l || (waitingAt m l && (ltb l n && eqb (linkAt d l .from) x)))
@@ -59,6 +61,7 @@ record LinkFired (d : Description) (x l : ℕ) (m m′ : Machine) : Type 0 where
   sized : Sized m′
   used : m′ .used ≡ m .used
   ages : m′ .ages ≡ m .ages
+  fastest : m′ .fastest ≡ m .fastest
   awake : (k : ℕ) → 1 ≤ k → awakeAt m′ k ≡ (awakeAt m k || (eqb (linkAt d l .from) x && eqb (linkAt d l .to) k))
   waiting : (k : ℕ) → waitingAt m′ k ≡ (waitingAt m k || (eqb k l && eqb (linkAt d l .from) x))
   dropped : (k : ℕ) → droppedAt m′ k ≡ (droppedAt m k || (waitingAt m k && (eqb k l && eqb (linkAt d l .from) x)))
@@ -79,6 +82,10 @@ mark-waiting false l m = refl
 mark-ages : (b : Bool) (l : ℕ) (m : Machine) → cond b (setDropped l true m) m .ages ≡ m .ages
 mark-ages true l m = refl
 mark-ages false l m = refl
+
+mark-fastest : (b : Bool) (l : ℕ) (m : Machine) → cond b (setDropped l true m) m .fastest ≡ m .fastest
+mark-fastest true l m = refl
+mark-fastest false l m = refl
 
 mark-length : (b : Bool) (l : ℕ) (m : Machine) → length (cond b (setDropped l true m) m .dropped) ≡ length (m .dropped)
 mark-length true l m = length-set (m .dropped) l true
@@ -116,9 +123,11 @@ module _ (d : Description) (wf : WellFormed d) where
           waitings = length-set (markDropped l m .waiting) l true ∙ (ap length (mark-waiting w l m) ∙ z .waitings);
           droppeds = mark-length w l m ∙ z .droppeds;
           ages = ap length (mark-ages w l m) ∙ z .ages;
+          fastests = ap length (mark-fastest w l m) ∙ z .fastests;
         };
         used = mark-used w l m;
         ages = mark-ages w l m;
+        fastest = mark-fastest w l m;
         awake = λ k o. rw (mark-awake w l m, e, eqb-sym (linkAt d l .to) k) (getD-task (m .awake) (linkAt d l .to) true false k o (to-most d (wf .fields) l p .0) (omega (arith, z .awakes, to-most d (wf .fields) l p .1)) ∙ set-true (eqb k (linkAt d l .to)) (awakeAt m k));
         waiting = λ k. rw (mark-waiting w l m, e, and-on (eqb k l) true refl) (getD-set (m .waiting) l true false k (omega (arith, z .waitings, wf .fields .few-links)) ∙ set-true (eqb k l) (waitingAt m k));
         dropped = λ k. rw (e, and-on (eqb k l) true refl) (mark-dropped l m (omega (arith, z .droppeds, wf .fields .few-links)) k);
@@ -129,6 +138,7 @@ module _ (d : Description) (wf : WellFormed d) where
     sized = z;
     used = refl;
     ages = refl;
+    fastest = refl;
     awake = λ k o. or-idle (awakeAt m k) _ _ e;
     waiting = λ k. or-idle-right (waitingAt m k) (eqb k l) _ e;
     dropped = λ k. or-idle-right (droppedAt m k) (waitingAt m k) _ (and-false-right (eqb k l) _ e);
@@ -147,6 +157,7 @@ module _ (d : Description) (wf : WellFormed d) where
     sized = z;
     used = refl;
     ages = refl;
+    fastest = refl;
     awake = λ k o. or-idle (awakeAt m k) false false refl;
     waiting = λ l. or-idle (waitingAt m l) (ltb l 0) _ (le-ltb l 0 (omega arith));
     dropped = λ l. rw (le-ltb l 0 (omega arith)) (or-idle-right (droppedAt m l) (waitingAt m l) false refl);
@@ -159,6 +170,7 @@ module _ (d : Description) (wf : WellFormed d) where
         sized = g .sized;
         used = g .used ∙ f .used;
         ages = g .ages ∙ f .ages;
+        fastest = g .fastest ∙ f .fastest;
         awake = λ k o. rw (g .awake k o, f .awake k o, any-next (λ l. eqb (linkAt d l .from) x && eqb (linkAt d l .to) k) n) (or-assoc (awakeAt m k) _ _);
         waiting = λ l. rw (g .waiting l, f .waiting l, less-more from l n) (or-assoc (waitingAt m l) _ _);
         dropped = λ l. rw (g .dropped l, f .waiting l, f .dropped l, less-more from l n) (drop-more (droppedAt m l) (waitingAt m l) (ltb l n && from l) (eqb l n && from n) (less-apart from l n));

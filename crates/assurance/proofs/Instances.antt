@@ -1,6 +1,6 @@
--- Demand 3 at two files of document 01 and at a swung one, and verdicts by spacings at Box with a pulse of each kind: hypotheses met by computation, so that the
+-- The promise at two files of document 01 and at a swung one, and verdicts by spacings at Box with a pulse of each kind: hypotheses met by computation, so that the
 -- theorems are known to speak of something. Assumes nothing.
-use Prim.Native.Nat.{ℕ, suc, _^_, _≤_, _<_}
+use Prim.Native.Nat.{ℕ, suc, _+_, _%_, _^_, _≤_, _<_}
 use mathlib.Core.Path.{_≡_, refl, sym, _∙_}
 use mathlib.Core.Bool.{Bool, true, false}
 use mathlib.Core.List.{List}
@@ -11,10 +11,11 @@ use borrow.Author.Tests.{ltb-true}
 use Rattle.model.specs.declared.Source.{Source}
 use Rattle.model.specs.declared.Source.the-variants.{Fixed, Paced, Swung}
 use Rattle.model.specs.declared.Description.{Description}
+use Rattle.model.specs.declared.Arrivals.{Arrivals}
 use Rattle.model.specs.declared.Outcome.the-variants.{Done}
 use Rattle.model.specs.declared.Quote.the-variants.{Tempo}
 use Rattle.model.specs.declared.Verdict.the-variants.{Doubt}
-use Rattle.model.specs.Basics.{sumN, topN, anyN, allN, joined}
+use Rattle.model.specs.Basics.{sumN, topN, anyN, allN, tab, joined}
 use Rattle.model.specs.Refusals.{noSource}
 use Rattle.model.specs.Field.{bytesOf, numberIn, bodyOf, fieldBytes, fieldIn, takeField, checkField, fieldOf}
 use Rattle.model.specs.Graph.{sourceAt, linked, system, walks, cyclic}
@@ -25,6 +26,7 @@ use Rattle.model.specs.Order.{visit, walk, inOrder}
 use Rattle.model.specs.Verdicts.{sourceVerdict, orderVerdict, verdictOf, verdictAt, allHeld, largestBelow, quoteOf}
 use Rattle.model.specs.Machine.{idle}
 use Rattle.model.specs.History.{Call, ticks, tickAt, fires, waitOf}
+use Rattle.model.specs.Promise.{UpTo}
 use Rattle.model.specs.Report.{reportOf}
 use Rattle.model.specs.Page.{HeldLine, FromPage}
 use Rattle.model.specs.Figures.{boxWith, box, boxFile, boxPage, twin}
@@ -41,6 +43,7 @@ use Rattle.theory.proofs.FileLaws.{judge-well-formed}
 use Rattle.theory.proofs.Levels.{Overloaded, test-6-link}
 use Rattle.theory.proofs.Quotes.{quote-at}
 use Rattle.theory.proofs.BySpacings.{verdict-same}
+use Rattle.assurance.proofs.Demand3.{slow-ticks, slow-tab}
 use Rattle.assurance.proofs.PlainCalls.{AssuredOf, plain-assured}
 use Rattle.assurance.proofs.Paper.{from-page}
 
@@ -92,9 +95,20 @@ box-doubtful = refl
 pub box-quote : quoteOf box ≡ Tempo 1783
 box-quote = quote-by box 1783 box-widths box-judged (omega arith) (omega arith) box-held (λ h. box-doubtful)
 
--- of every list of calls at every tempo up to it
-pub box-assured : (t : ℕ) → 200 ≤ t → t ≤ 1783 → (cs : List Call) → AssuredOf box 1783 t cs
-box-assured t low high cs = plain-assured box 1783 t box-widths box-quote low high cs
+-- of every list of calls, however the knob moves up to it
+pub box-assured : (cs : List Call) → UpTo 1783 (ticks box (idle box) cs) → AssuredOf box 1783 cs
+box-assured = plain-assured box 1783 box-widths box-quote
+
+-- the knob goes up through every tempo from 20.0 to 178.3, falls back and goes up again, whatever comes in each call
+abbrev pub sweep : ℕ → ℕ
+sweep x = 200 + x % 1584
+
+abbrev pub sweeping : (ℕ → Arrivals) → (ℕ → Bool) → ℕ → Call
+sweeping arrivals finish x = record { tempo = sweep x; arrivals = arrivals x; finish = finish x }
+
+pub box-swept : (arrivals : ℕ → Arrivals) (finish : ℕ → Bool) (n : ℕ) → AssuredOf box 1783 (tab n (sweeping arrivals finish))
+box-swept arrivals finish n =
+    box-assured (tab n (sweeping arrivals finish)) (slow-ticks 1783 box (tab n (sweeping arrivals finish)) (idle box) (slow-tab 1783 (sweeping arrivals finish) (λ x. omega arith) n))
 
 -- from its 57 bytes: the page, what it assures, and its line `link 3 33>2 held 700 of 701`
 pub box-page : reportOf boxFile ≡ boxPage
@@ -133,8 +147,8 @@ swung-doubtful = refl
 pub swung-quote : quoteOf swungBox ≡ Tempo 1212
 swung-quote = quote-by swungBox 1212 swung-widths swung-judged (omega arith) (omega arith) swung-held (λ h. swung-doubtful)
 
-pub swung-assured : (t : ℕ) → 200 ≤ t → t ≤ 1212 → (cs : List Call) → AssuredOf swungBox 1212 t cs
-swung-assured t low high cs = plain-assured swungBox 1212 t swung-widths swung-quote low high cs
+pub swung-assured : (cs : List Call) → UpTo 1212 (ticks swungBox (idle swungBox) cs) → AssuredOf swungBox 1212 cs
+swung-assured = plain-assured swungBox 1212 swung-widths swung-quote
 
 -- Box at 178.3, and Box with any pulse at a tempo where its spacing is 701 too: the verdicts are the same (C-12)
 keys : (t : ℕ) → spacing (Fixed 2000) 1783 ≡ spacing (Fixed 2000) t
@@ -178,13 +192,13 @@ twin-held = refl
 pub twin-quote : quoteOf (twin 9) ≡ Tempo 3000
 twin-quote = quote-by (twin 9) 3000 twin-widths twin-judged (omega arith) (omega arith) twin-held (λ h. absurd (omega arith))
 
-pub twin-assured : (t : ℕ) → 200 ≤ t → t ≤ 3000 → (cs : List Call) → AssuredOf (twin 9) 3000 t cs
-twin-assured t low high cs = plain-assured (twin 9) 3000 t twin-widths twin-quote low high cs
+pub twin-assured : (cs : List Call) → UpTo 3000 (ticks (twin 9) (idle (twin 9)) cs) → AssuredOf (twin 9) 3000 cs
+twin-assured = plain-assured (twin 9) 3000 twin-widths twin-quote
 
 -- so no event of its source waits longer than 8 ticks for task 1
-pub twin-waits : (t : ℕ) → 200 ≤ t → t ≤ 3000 → (cs : List Call) (x : ℕ) → x < length (ticks (twin 9) t (idle (twin 9) t) cs) → fires (tickAt (ticks (twin 9) t (idle (twin 9) t) cs) x) 33 ≡ true → waitOf (ticks (twin 9) t (idle (twin 9) t) cs) 1 x ≤ 8
+pub twin-waits : (cs : List Call) → UpTo 3000 (ticks (twin 9) (idle (twin 9)) cs) → (x : ℕ) → x < length (ticks (twin 9) (idle (twin 9)) cs) → fires (tickAt (ticks (twin 9) (idle (twin 9)) cs) x) 33 ≡ true → waitOf (ticks (twin 9) (idle (twin 9)) cs) 1 x ≤ 8
 unfolding computing
-twin-waits t low high cs x h f = twin-assured t low high cs .waited 2 x (omega arith) refl (omega arith) h f
+twin-waits cs up x h f = twin-assured cs up .waited 2 x (omega arith) refl (omega arith) h f
 
 -- Twin with spacing 8: task 1 is loaded by exactly 1, 8 / 8, so 33>1 is doubtful at every tempo (document 000's test (6))
 twin-8-formed : WellFormed (twin 8)

@@ -1,5 +1,5 @@
 -- The accepted ticks of the plain machine are a schedule, and a preemptive one. Assumes nothing.
-use Prim.Native.Nat.{ℕ, zero, suc, _+_, _-_, _≤_, _<_, min}
+use Prim.Native.Nat.{ℕ, zero, suc, _+_, _-_, _≤_, _<_, min, max}
 use mathlib.Core.Path.{_≡_, refl, sym, ap, _∙_}
 use mathlib.Core.Bool.{Bool, true, false, _||_, _&&_, not, cond}
 use mathlib.Core.List.{List}
@@ -13,12 +13,13 @@ use Rattle.model.specs.declared.Machine.{Machine}
 use Rattle.model.specs.Basics.{anyN}
 use Rattle.model.specs.Graph.{system, runOf, linkAt, linked}
 use Rattle.model.specs.Delays.{spacingOf}
-use Rattle.model.specs.Machine.{awakeAt, usedAt, ageAt, idle, arrive, highest, tooSoon}
+use Rattle.model.specs.Machine.{awakeAt, usedAt, ageAt, fastestAt, idle, arrive, highest, tooSoon}
 use Rattle.model.specs.History.{Call}
 use Rattle.lemmas.proofs.Tests.{Cmp, less, same, more, cmp, not-both, false-of, and-left, and-right, and-false-left, or-left, or-right, or-false-left, or-cases, both}
 use Rattle.lemmas.proofs.Range.{Found, any-at, any-found, none-any}
 use Rattle.lemmas.proofs.Table.{length-tab, getD-same}
 use Rattle.theory.proofs.WellFormed.{WellFormed, Shaped}
+use Rattle.theory.proofs.FileLaws.{knob-known}
 use Rattle.assurance.proofs.Firing.{Sized}
 use Rattle.assurance.proofs.Arriving.{arrived}
 use Rattle.assurance.proofs.Ending.{highest-le, highest-above, highest-awake}
@@ -38,20 +39,30 @@ live-on aw us k e = go (us k) refl
     go zero q = rw (q, e) refl
     go (suc u) q = or-left (ltb 0 (us k)) _ (lt-ltb 0 (us k) (omega arith))
 
-idle-sized : (d : Description) (t : ℕ) → Sized (idle d t)
+idle-sized : (d : Description) → Sized (idle d)
 unfolding idle
-idle-sized d t = record {
+idle-sized d = record {
   awakes = length-replicate 32 false;
   useds = length-replicate {A = ℕ} 32 0;
   waitings = length-replicate 256 false;
   droppeds = length-replicate 256 false;
   ages = length-tab 16 _;
+  fastests = length-replicate {A = ℕ} 16 0;
 }
 
-module _ (d : Description) (wf : WellFormed d) (t : ℕ) (ks : List Call) where
-  -- the record before tick x, its marks of arrival, the task that runs in it and whether its run ends
+-- at every tempo of the knob up to q the spacings are at least those of `gap`, which are at least 1
+pub record Spaced (d : Description) (q : ℕ) (gap : ℕ → ℕ) : Type 0 where
+  pub low : 200 ≤ q
+  pub some : (u : ℕ) → 33 ≤ u → u < 33 + d .«source_count» → 1 ≤ gap u
+  pub most : (u t : ℕ) → 33 ≤ u → u < 33 + d .«source_count» → 200 ≤ t → t ≤ q → gap u ≤ spacingOf d t u
+
+module _ (d : Description) (wf : WellFormed d) (ks : List Call) where
+  -- the record before tick x, its tempo, its marks of arrival, the task that runs in it and whether its run ends
   abbrev pub at : ℕ → Machine
-  at x = stateAt d t (idle d t) ks x
+  at x = stateAt d (idle d) ks x
+
+  abbrev pub tempoAt : ℕ → ℕ
+  tempoAt x = callAt ks x .tempo
 
   abbrev pub marksAt : ℕ → List Bool
   marksAt x = callAt ks x .arrivals .marks
@@ -64,12 +75,12 @@ module _ (d : Description) (wf : WellFormed d) (t : ℕ) (ks : List Call) where
 
   pub at-sized : (x : ℕ) → Sized (at x)
   unfolding stateAt
-  at-sized zero = idle-sized d t
-  at-sized (suc x) = step d wf t (marksAt x) (callAt ks x .finish) (at x) (at-sized x) .sized
+  at-sized zero = idle-sized d
+  at-sized (suc x) = step d wf (tempoAt x) (marksAt x) (callAt ks x .finish) (at x) (at-sized x) .sized
 
-  pub at-step : (x : ℕ) → Stepped d wf t (marksAt x) (highAt x) (endAt x) (at x) (at (suc x))
+  pub at-step : (x : ℕ) → Stepped d wf (tempoAt x) (marksAt x) (highAt x) (endAt x) (at x) (at (suc x))
   unfolding stateAt
-  at-step x = step d wf t (marksAt x) (callAt ks x .finish) (at x) (at-sized x)
+  at-step x = step d wf (tempoAt x) (marksAt x) (callAt ks x .finish) (at x) (at-sized x)
 
   pub high-low : (x : ℕ) → highAt x ≤ d .«task_count»
   high-low x = highest-le (arrive d (marksAt x) (at x) .awake) (d .«task_count»)
@@ -183,27 +194,58 @@ module _ (d : Description) (wf : WellFormed d) (t : ℕ) (ks : List Call) where
       (both (not (eqb (highAt x) 0)) _ n (or-left _ (callAt ks x .finish) (eq-eqb (usedAt (at x) (highAt x) + 1) (runOf d (highAt x)) (omega arith))))
       e
 
-  -- the spacings at the tempo of the calls are at least those of `gap`, and every tick is an accepted call
-  module _ (gap : ℕ → ℕ) (spaced : (u : ℕ) → 33 ≤ u → u < 33 + d .«source_count» → (1 ≤ gap u) × (gap u ≤ spacingOf d t u)) (passed : (x : ℕ) → x < length ks → Passed d t (at x) (marksAt x)) where
-    age-next : (x u : ℕ) → 33 ≤ u → u < 33 + d .«source_count» → ageAt (at (suc x)) (u - 33) ≡ min (spacingOf d t u) (cond (getD (marksAt x) (u - 33) false) 0 (ageAt (at x) (u - 33)) + 1)
+  -- past the list nothing arrives
+  pub marked-in : (x u : ℕ) → getD (marksAt x) u false ≡ true → x < length ks
+  marked-in x u e = go (cmp x (length ks))
+    where
+      late : length ks ≤ x → ⊥
+      late h = not-both e (ap (λ (c : Call). getD (c .arrivals .marks) u false) (List·getD-eq-default ks quietCall {n = x} h))
+
+      go : Cmp x (length ks) → x < length ks
+      go (less h) = h
+      go (same h) = absurd (late (omega arith))
+      go (more h) = absurd (late (omega arith))
+
+  -- every tick is an accepted call at a tempo up to q, where the spacings are at least those of `gap`
+  module _ (q : ℕ) (gap : ℕ → ℕ) (spaced : Spaced d q gap) (passed : (x : ℕ) → x < length ks → Passed d (tempoAt x) (at x) (marksAt x)) (slow : (x : ℕ) → x < length ks → tempoAt x ≤ q) where
+    age-next : (x u : ℕ) → 33 ≤ u → u < 33 + d .«source_count» → ageAt (at (suc x)) (u - 33) ≡ min (spacingOf d 200 u) (cond (getD (marksAt x) (u - 33) false) 0 (ageAt (at x) (u - 33)) + 1)
     age-next x u p q = let e : 33 + (u - 33) ≡ u = omega arith in rw e at (at-step x .age (u - 33) (omega arith))
+
+    pub tempo-low : (x : ℕ) → tempoAt x ≤ q
+    tempo-low x = go (cmp x (length ks))
+      where
+        late : length ks ≤ x → tempoAt x ≤ q
+        late h = rw (ap (λ (c : Call). c .tempo) (List·getD-eq-default ks quietCall {n = x} h)) (omega arith)
+
+        go : Cmp x (length ks) → tempoAt x ≤ q
+        go (less r) = slow x r
+        go (same r) = late (omega arith)
+        go (more r) = late (omega arith)
+
+    -- no kept tempo is above q
+    kept-low : (x v : ℕ) → v < 16 → fastestAt (at x) v ≤ q
+    unfolding stateAt idle
+    kept-low zero v p = rw (getD-same {A = ℕ} 16 v 0) (omega arith)
+    kept-low (suc x) v p = rw (at-step x .fastest v p) (go (getD (marksAt x) v false) (eqb (fastestAt (at x) v) 0) (kept-low x v p) (tempo-low x))
+      where
+        go : (b c : Bool) → fastestAt (at x) v ≤ q → tempoAt x ≤ q → cond b (tempoAt x) (cond c 0 (max (fastestAt (at x) v) (tempoAt x))) ≤ q
+        go true c f t = t
+        go false true f t = omega arith
+        go false false f t = omega arith
 
     ready : (x u : ℕ) → 33 ≤ u → u < 33 + d .«source_count» → getD (marksAt x) (u - 33) false ≡ true → gap u ≤ ageAt (at x) (u - 33)
     unfolding tooSoon
-    ready x u p q e = go (cmp x (length ks))
-      where
-        late : length ks ≤ x → ⊥
-        late h = not-both e (ap (λ (c : Call). getD (c .arrivals .marks) (u - 33) false) (List·getD-eq-default ks quietCall {n = x} h))
-
-        go : Cmp x (length ks) → gap u ≤ ageAt (at x) (u - 33)
-        go (less r) =
-            let n : (getD (marksAt x) (u - 33) false && ltb (ageAt (at x) (u - 33)) (spacingOf d t (33 + (u - 33)))) ≡ false = none-any _ 0 (d .«source_count») (passed x r .spaced) (u - 33) (omega arith) (omega arith) in
-            let l : ltb (ageAt (at x) (u - 33)) (spacingOf d t (33 + (u - 33))) ≡ false = rw e at n in
-            let b : spacingOf d t (33 + (u - 33)) ≤ ageAt (at x) (u - 33) = ltb-false _ _ l in
-            let y : 33 + (u - 33) ≡ u = omega arith in
-            omega (arith, rw y at b, spaced u p q .1)
-        go (same r) = absurd (late (omega arith))
-        go (more r) = absurd (late (omega arith))
+    ready x u p r e =
+        let h : x < length ks = marked-in x (u - 33) e in
+        let fastest : ℕ = max (fastestAt (at x) (u - 33)) (tempoAt x) in
+        let n : (getD (marksAt x) (u - 33) false && ltb (ageAt (at x) (u - 33)) (spacingOf d fastest (33 + (u - 33)))) ≡ false = none-any _ 0 (d .«source_count») (passed x h .spaced) (u - 33) (omega arith) (omega arith) in
+        let l : ltb (ageAt (at x) (u - 33)) (spacingOf d fastest (33 + (u - 33))) ≡ false = rw e at n in
+        let b : spacingOf d fastest (33 + (u - 33)) ≤ ageAt (at x) (u - 33) = ltb-false _ _ l in
+        let y : 33 + (u - 33) ≡ u = omega arith in
+        let k : 200 ≤ tempoAt x = knob-known d (tempoAt x) (passed x h .judged) .1 in
+        let f : fastest ≤ q = omega (arith, kept-low x (u - 33) (omega (arith, wf .fields .few-sources)), slow x h) in
+        let g : gap u ≤ spacingOf d fastest u = spaced .most u fastest p r (omega arith) f in
+        omega (arith, rw y at b)
 
     pub schedule : Schedule (system d) gap
     unfolding system
@@ -232,8 +274,8 @@ module _ (d : Description) (wf : WellFormed d) (t : ℕ) (ks : List Call) where
       next-live = λ x k e l. live-on (awakeAt (at (suc x))) (usedAt (at (suc x))) k (at-step x .awake k (link-some (highAt x) k l) ∙ after-fires (awakeAt (midAt x) k) (endAt x) (eqb k (highAt x)) (linked d (highAt x) k) e l);
       age-ready = ready;
       age-fired = λ x u p q e. rw (age-next x u p q, e) (omega arith);
-      age-older = λ x u p q. rw (age-next x u p q) (older (getD (marksAt x) (u - 33) false) (spacingOf d t u) (ageAt (at x) (u - 33)));
-      age-some = λ x u p q. rw (age-next x u p q) (omega (arith, spaced u p q .0, spaced u p q .1));
+      age-older = λ x u p q. rw (age-next x u p q) (older (getD (marksAt x) (u - 33) false) (spacingOf d 200 u) (ageAt (at x) (u - 33)));
+      age-some = λ x u p r. rw (age-next x u p r) (omega (arith, spaced .some u p r, spaced .most u 200 p r (omega arith) (spaced .low)));
     }
       where
         older : (b : Bool) (m a : ℕ) → min m (cond b 0 a + 1) ≤ suc a

@@ -1,4 +1,4 @@
--- The printed page alone: a first line `tempo a.b` says that the file is accepted, what its quote is and that demand 3 holds up to it, and each line
+-- The printed page alone: a first line `tempo a.b` says that the file is accepted, what its quote is and that the promise holds up to it, and each line
 -- of a held source link says how long its events wait. Assumes nothing.
 use Prim.Native.Nat.{ℕ, suc, _-_, _≤_, _<_}
 use mathlib.Core.Path.{_≡_, refl, ap}
@@ -27,7 +27,7 @@ use Rattle.theory.proofs.FileLaws.{judge-well-formed}
 use Rattle.theory.proofs.ReadBack.{read-whence, read-judged}
 use Rattle.theory.proofs.Quotes.{largest-found, quoted}
 use Rattle.theory.proofs.Pages.{Named, held-says, source-held, page-held, page-told, page-first, page-tempo, refused-no-tempo, printed-whole, filled-page}
-use Rattle.assurance.proofs.Demand3.{demand3}
+use Rattle.assurance.proofs.Demand3.{promise}
 use Rattle.assurance.proofs.PlainCalls.{plain-assured}
 
 -- of a description with a quote
@@ -50,8 +50,8 @@ module _ (d : Description) (q : ℕ) (w : Widths d) (e : quoteOf d ≡ Tempo q) 
         verdict = rw p (n .verdict-is);
         spacing = rw (n .from-is) at (s .spacing);
         below = s .below;
-        waits = λ t x cs low high inside f.
-            rw (n .to-is, n .verdict-is) at (plain-assured d q t w e low high cs .waited k x h (s .critical) (s .source) inside (rw (n .from-is) f));
+        waits = λ x cs up inside f.
+            rw (n .to-is, n .verdict-is) at (plain-assured d q w e cs up .waited k x h (s .critical) (s .source) inside (rw (n .from-is) f));
       }
 
   -- and every critical link from a source is held
@@ -83,7 +83,7 @@ from-page file q b e = go (readFile file .outcome) refl
           quoted = rw a z;
           low = quoted d q z .low;
           high = quoted d q z .high;
-          assured = λ t s cs rs m low high a c. demand3 d q t s cs rs m w z low high a c;
+          assured = λ s cs rs m a c up. promise d q s cs rs m w z a c up;
           held = λ l i j D M h.
               let n = page-held d (Tempo q) (fields d q w z) l i j D M (rw page at h) in
               line-true d q w z (n .0) l i j D M (n .1) (n .2);

@@ -1,5 +1,5 @@
 -- "Entries past a count are not looked at", by the machine: two records that agree below their counts start, tick and run alike. Assumes nothing.
-use Prim.Native.Nat.{ℕ, _+_, _-_, _≤_, _<_, min}
+use Prim.Native.Nat.{ℕ, _+_, _-_, _≤_, _<_, min, max}
 use mathlib.Core.Path.{_≡_, refl, ap, _∙_}
 use mathlib.Core.Bool.{Bool, true, false, cond, not, _||_, _&&_}
 use mathlib.Core.List.{List, [], _∷_}
@@ -19,16 +19,16 @@ use Rattle.model.specs.Basics.{upTo, allN, anyN}
 use Rattle.model.specs.Delays.{spacingOf}
 use Rattle.model.specs.Graph.{runOf}
 use Rattle.model.specs.Refusals.{onDone}
-use Rattle.model.specs.File.{SameTo, Widths, filledBy}
-use Rattle.model.specs.Verdicts.{judgeAt}
-use Rattle.model.specs.Machine.{awakeAt, usedAt, waitingAt, ageAt, setAwake, setUsed, setWaiting, setAge, markDropped, idle, unstarted, started, taskRule, linkRule, sourceRule, lawful, fireLink, fire, arriveOne, arrive, highestIn, highest, runTask, clearLink, clearInto, endRun, ageOne, ageAll, stepped, strangers, tooSoon, judgeTick, plainTick}
-use Rattle.model.specs.History.{Call, answers, left}
+use Rattle.model.specs.File.{SameTo, Widths, filledBy, judge}
+use Rattle.model.specs.Verdicts.{onKnob, judgeAt}
+use Rattle.model.specs.Machine.{awakeAt, usedAt, waitingAt, ageAt, fastestAt, setAwake, setUsed, setWaiting, setAge, markDropped, idle, unstarted, started, taskRule, linkRule, sourceRule, lawful, fireLink, fire, arriveOne, arrive, highestIn, highest, runTask, clearLink, clearInto, endRun, ageOne, ageAll, keep, stepped, strangers, tooSoon, judgeTick, plainTick}
+use Rattle.model.specs.History.{Call, plainCall, answers, left}
 use Rattle.model.specs.Run.{codes, page, ranFrom, ran, pageRan}
 use Rattle.lemmas.proofs.Range.{any-cong, all-cong, upTo-alike}
 use Rattle.lemmas.proofs.Table.{tab-cong}
 use Rattle.theory.proofs.FileLaws.{at-known}
 use Rattle.lemmas.proofs.Tests.{cond-same}
-use Rattle.theory.proofs.PastCounts.{done-same, same-knob, same-run, same-spacing}
+use Rattle.theory.proofs.PastCounts.{done-same, same-judge, same-knob, same-run, same-spacing}
 use Rattle.assurance.proofs.Ending.{highest-le}
 use Rattle.assurance.proofs.Replay.{judge-passed}
 
@@ -37,21 +37,21 @@ module _ (d e : Description) (s : SameTo d e) where
   gap-same : (t u : ℕ) → ltb u (d .«source_count») ≡ true → spacingOf d t (33 + u) ≡ spacingOf e t (33 + u)
   gap-same t u p = same-spacing d e s t (33 + u) (omega (arith, ltb-true u (d .«source_count») p))
 
-  same-idle : (t : ℕ) → idle d t ≡ idle e t
+  same-idle : idle d ≡ idle e
   unfolding idle
-  same-idle t =
-      ap (λ (l : List ℕ). record { awake = replicate 32 false; used = replicate 32 0; waiting = replicate 256 false; dropped = replicate 256 false; ages = l })
-      (tab-cong 16 _ _ (λ u h. cond-same (ltb u (d .«source_count»)) (ltb u (e .«source_count»)) _ _ 0 0 (ap (ltb u) (s .sources)) (gap-same t u) (λ p. refl)))
+  same-idle =
+      ap (λ (l : List ℕ). record { awake = replicate 32 false; used = replicate 32 0; waiting = replicate 256 false; dropped = replicate 256 false; ages = l; fastest = replicate 16 0 })
+      (tab-cong 16 _ _ (λ u h. cond-same (ltb u (d .«source_count»)) (ltb u (e .«source_count»)) _ _ 0 0 (ap (ltb u) (s .sources)) (gap-same 200 u) (λ p. refl)))
 
-  pub same-started : (t : ℕ) → started d t ≡ started e t
+  pub same-started : started d ≡ started e
   unfolding started
-  same-started t =
-      done-same (judgeAt d t) (judgeAt e t) _ _ _ (same-knob d e s t) (λ j. ap (λ (m : Machine). record { outcome = Done; machine = m }) (same-idle t))
+  same-started =
+      done-same (judge d) (judge e) _ _ _ (same-judge d e s) (λ j. ap (λ (m : Machine). record { outcome = Done; machine = m }) same-idle)
 
   -- the rules
-  pub same-lawful : (t : ℕ) (m : Machine) → lawful d t m ≡ lawful e t m
+  pub same-lawful : (m : Machine) → lawful d m ≡ lawful e m
   unfolding lawful
-  same-lawful t m = rw (tasks, links, sources)
+  same-lawful m = rw (tasks, links, sources)
     where
       tasks : allN (taskRule d m) 1 32 ≡ allN (taskRule e m) 1 32
       tasks = all-cong _ _ 1 32 (λ k p q.
@@ -65,10 +65,10 @@ module _ (d e : Description) (s : SameTo d e) where
           (λ b. ap (λ (x : Link). not (waitingAt m l) || awakeAt m (x .to)) (s .link l (ltb-true l (d .«link_count») b)))
           (λ b. refl))
 
-      sources : allN (sourceRule d t m) 0 16 ≡ allN (sourceRule e t m) 0 16
+      sources : allN (sourceRule d m) 0 16 ≡ allN (sourceRule e m) 0 16
       sources = all-cong _ _ 0 16 (λ u p q.
           cond-same (ltb u (d .«source_count»)) (ltb u (e .«source_count»)) _ _ _ _ (ap (ltb u) (s .sources))
-          (λ b. ap (leb (ageAt m u)) (gap-same t u b))
+          (λ b. ap (λ (g : ℕ). leb (ageAt m u) g && cond (eqb (fastestAt m u) 0) (eqb (ageAt m u) g) (onKnob (fastestAt m u))) (gap-same 200 u b))
           (λ b. refl))
 
   -- the refusals of a tick
@@ -79,12 +79,12 @@ module _ (d e : Description) (s : SameTo d e) where
   same-soon : (t : ℕ) (marks : List Bool) (m : Machine) → tooSoon d t marks m ≡ tooSoon e t marks m
   unfolding tooSoon
   same-soon t marks m =
-      any-cong _ _ 0 (d .«source_count») (λ u p q. ap (λ (g : ℕ). getD marks u false && ltb (ageAt m u) g) (same-spacing d e s t (33 + u) (omega arith)))
-      ∙ ap (anyN (λ u. getD marks u false && ltb (ageAt m u) (spacingOf e t (33 + u))) 0) (s .sources)
+      any-cong _ _ 0 (d .«source_count») (λ u p q. ap (λ (g : ℕ). getD marks u false && ltb (ageAt m u) g) (same-spacing d e s (max (fastestAt m u) t) (33 + u) (omega arith)))
+      ∙ ap (anyN (λ u. getD marks u false && ltb (ageAt m u) (spacingOf e (max (fastestAt m u) t) (33 + u))) 0) (s .sources)
 
   pub same-judge-tick : (t : ℕ) (m : Machine) (marks : List Bool) → judgeTick d t m marks ≡ judgeTick e t m marks
   unfolding judgeTick
-  same-judge-tick t m marks = rw (same-knob d e s t, same-lawful t m, same-strangers marks, same-soon t marks m)
+  same-judge-tick t m marks = rw (same-knob d e s t, same-lawful m, same-strangers marks, same-soon t marks m)
 
   -- the steps of a tick
   same-fire : (x : ℕ) (m : Machine) → fire d x m ≡ fire e x m
@@ -114,57 +114,56 @@ module _ (d e : Description) (s : SameTo d e) where
       ap (λ (r : ℕ). cond (not (eqb h 0) && (eqb (usedAt m h) r || finish)) (fire d h (clearInto d h (setUsed h 0 (setAwake h false m)))) m) (same-run d e s h p)
       ∙ ap (λ (x : Machine). cond (not (eqb h 0) && (eqb (usedAt m h) (runOf e h) || finish)) x m) (same-fire h (clearInto d h (setUsed h 0 (setAwake h false m))) ∙ ap (fire e h) (same-clear h (setUsed h 0 (setAwake h false m))))
 
-  same-age : (t : ℕ) (m : Machine) → ageAll d t m ≡ ageAll e t m
+  same-age : (m : Machine) → ageAll d m ≡ ageAll e m
   unfolding ageAll ageOne
-  same-age t m =
-      upTo-alike (d .«source_count») (ageOne d t) (ageOne e t) m
-      (λ u h y. ap (λ (g : ℕ). setAge u (min g (ageAt y u + 1)) y) (same-spacing d e s t (33 + u) (omega arith)))
-      ∙ ap (λ (n : ℕ). upTo n (ageOne e t) m) (s .sources)
+  same-age m =
+      upTo-alike (d .«source_count») (ageOne d) (ageOne e) m
+      (λ u h y. ap (λ (g : ℕ). setAge u (min g (ageAt y u + 1)) y) (same-spacing d e s 200 (33 + u) (omega arith)))
+      ∙ ap (λ (n : ℕ). upTo n (ageOne e) m) (s .sources)
 
   same-stepped : (t : ℕ) (marks : List Bool) (finish : Bool) (m : Machine) → 1 ≤ d .«task_count» → stepped d t marks finish m ≡ stepped e t marks finish m
   unfolding stepped
   same-stepped t marks finish m some = ap (worked d) (same-arrive marks m) ∙ go (arrive e marks m)
     where
       worked : Description → Machine → Machine
-      worked x y = ageAll x t (endRun x (highest x y) finish (runTask (highest x y) y))
+      worked x y = keep t marks (ageAll x (endRun x (highest x y) finish (runTask (highest x y) y)))
 
       go : (y : Machine) → worked d y ≡ worked e y
       go y =
-          ap (ageAll d t) (same-end (highest d y) finish (runTask (highest d y) y) (omega (arith, highest-le (y .awake) (d .«task_count»))))
-          ∙ same-age t (endRun e (highest d y) finish (runTask (highest d y) y))
-          ∙ ap (λ (n : ℕ). ageAll e t (endRun e (highestIn (y .awake) n) finish (runTask (highestIn (y .awake) n) y))) (s .tasks)
+          ap (λ (z : Machine). keep t marks (ageAll d z)) (same-end (highest d y) finish (runTask (highest d y) y) (omega (arith, highest-le (y .awake) (d .«task_count»))))
+          ∙ ap (keep t marks) (same-age (endRun e (highest d y) finish (runTask (highest d y) y)))
+          ∙ ap (λ (n : ℕ). keep t marks (ageAll e (endRun e (highestIn (y .awake) n) finish (runTask (highestIn (y .awake) n) y)))) (s .tasks)
 
   -- a tick and a run
-  module _ (w : Widths d) (t : ℕ) where
-    pub same-tick : (m : Machine) (a : Arrivals) (finish : Bool) → plainTick d t m a finish ≡ plainTick e t m a finish
+  module _ (w : Widths d) where
+    pub same-tick : (t : ℕ) (m : Machine) (a : Arrivals) (finish : Bool) → plainTick d t m a finish ≡ plainTick e t m a finish
     unfolding plainTick
-    same-tick m a finish =
+    same-tick t m a finish =
         done-same (judgeTick d t m (a .marks)) (judgeTick e t m (a .marks)) _ _ _ (same-judge-tick t m (a .marks))
         (λ j. ap (λ (x : Machine). record { outcome = Done; machine = x }) (same-stepped t (a .marks) finish m (at-known d t w (judge-passed d t m (a .marks) j .judged) .0 .some-task)))
 
-    pub same-answers : (m : Machine) (cs : List Call) → answers d t m cs ≡ answers e t m cs
+    pub same-answers : (m : Machine) (cs : List Call) → answers d m cs ≡ answers e m cs
     unfolding answers
     same-answers m [] = refl
     same-answers m (c ∷ cs) =
-        ap (λ (r : Ticked). r ∷ answers d t (r .machine) cs) (same-tick m (c .arrivals) (c .finish))
-        ∙ ap (λ (l : List Ticked). plainTick e t m (c .arrivals) (c .finish) ∷ l) (same-answers (plainTick e t m (c .arrivals) (c .finish) .machine) cs)
+        ap (λ (r : Ticked). r ∷ answers d (r .machine) cs) (same-tick (c .tempo) m (c .arrivals) (c .finish))
+        ∙ ap (λ (l : List Ticked). plainCall e m c ∷ l) (same-answers (plainCall e m c .machine) cs)
 
-    pub same-left : (m : Machine) (cs : List Call) → left d t m cs ≡ left e t m cs
+    pub same-left : (m : Machine) (cs : List Call) → left d m cs ≡ left e m cs
     unfolding left
     same-left m [] = refl
     same-left m (c ∷ cs) =
-        ap (λ (r : Ticked). left d t (r .machine) cs) (same-tick m (c .arrivals) (c .finish))
-        ∙ same-left (plainTick e t m (c .arrivals) (c .finish) .machine) cs
+        ap (λ (r : Ticked). left d (r .machine) cs) (same-tick (c .tempo) m (c .arrivals) (c .finish)) ∙ same-left (plainCall e m c .machine) cs
 
     -- the run call: its answer, and the buffer it leaves
-    pub same-ran : (cs : List Call) (buffer : List ℕ) → ran d t cs buffer ≡ ran e t cs buffer
+    pub same-ran : (cs : List Call) (buffer : List ℕ) → ran d cs buffer ≡ ran e cs buffer
     unfolding ran
     same-ran cs buffer =
-        ap (λ (m : Machine). onDone (judgeAt d t) (cond (ltb (length buffer) (length cs)) (unstarted ShortPage 0) (record { outcome = Done; machine = m })) unstarted) (same-left (idle d t) cs ∙ ap (λ (m : Machine). left e t m cs) (same-idle t))
-        ∙ ap (λ (o : Outcome). onDone o (ranFrom e t cs buffer) unstarted) (same-knob d e s t)
+        ap (λ (m : Machine). onDone (judge d) (cond (ltb (length buffer) (length cs)) (unstarted ShortPage 0) (record { outcome = Done; machine = m })) unstarted) (same-left (idle d) cs ∙ ap (λ (m : Machine). left e m cs) same-idle)
+        ∙ ap (λ (o : Outcome). onDone o (ranFrom e cs buffer) unstarted) (same-judge d e s)
 
-    pub same-page-ran : (cs : List Call) (buffer : List ℕ) → pageRan d t cs buffer ≡ pageRan e t cs buffer
+    pub same-page-ran : (cs : List Call) (buffer : List ℕ) → pageRan d cs buffer ≡ pageRan e cs buffer
     unfolding pageRan
     same-page-ran cs buffer =
-        ap (λ (rs : List Ticked). onDone (judgeAt d t) (filledBy (codes rs) buffer) (λ r place. buffer)) (same-answers (idle d t) cs ∙ ap (λ (m : Machine). answers e t m cs) (same-idle t))
-        ∙ ap (λ (o : Outcome). onDone o (filledBy (page e t cs) buffer) (λ r place. buffer)) (same-knob d e s t)
+        ap (λ (rs : List Ticked). onDone (judge d) (filledBy (codes rs) buffer) (λ r place. buffer)) (same-answers (idle d) cs ∙ ap (λ (m : Machine). answers e m cs) same-idle)
+        ∙ ap (λ (o : Outcome). onDone o (filledBy (page e cs) buffer) (λ r place. buffer)) (same-judge d e s)

@@ -13,10 +13,10 @@ use borrow.Author.Tests.{eqb-true, ne-eqb, lt-ltb, le-ltb}
 use Rattle.model.specs.declared.Description.{Description}
 use Rattle.model.specs.declared.Machine.{Machine}
 use Rattle.model.specs.Graph.{linkAt, linked, runOf}
-use Rattle.model.specs.Delays.{spacingOf}
-use Rattle.model.specs.Machine.{awakeAt, usedAt, waitingAt, droppedAt, ageAt, setAwake, setUsed, fire, arrive, highest, runTask, clearInto, endRun, ageAll, stepped}
+use Rattle.model.specs.Machine.{awakeAt, usedAt, waitingAt, droppedAt, ageAt, fastestAt, longestGap, setAwake, setUsed, fire, arrive, highest, runTask, clearInto, endRun, ageAll, keptAfter, keep, stepped}
 use Rattle.lemmas.proofs.Tests.{not-both, or-right}
 use Rattle.lemmas.proofs.Bools.{or-off, or-idle-right, and-on, set-false}
+use Rattle.lemmas.proofs.Table.{length-tab, getD-tab}
 use Rattle.theory.proofs.WellFormed.{WellFormed}
 use Rattle.assurance.proofs.Firing.{Sized, Fired, fired, fired-past, getD-task}
 use Rattle.assurance.proofs.Arriving.{comes, Arrived, arrived}
@@ -57,14 +57,15 @@ overAt d h finish m = not (eqb h 0) && (eqb (usedAt m h + 1) (runOf d h) || fini
 pub record Ran (d : Description) (h : ℕ) (o : Bool) (m m′ : Machine) : Type 0 where
   pub sized : Sized m′
   pub ages : m′ .ages ≡ m .ages
+  pub fastest : m′ .fastest ≡ m .fastest
   pub awake : (k : ℕ) → 1 ≤ k → awakeAt m′ k ≡ awakeAfter (awakeAt m k) o (eqb k h) (linked d h k)
   pub used : (k : ℕ) → 1 ≤ k → usedAt m′ k ≡ cond (eqb k h) (cond o 0 (suc (usedAt m k))) (usedAt m k)
   pub waiting : (l : ℕ) → l < d .«link_count» → waitingAt m′ l ≡ ((waitingAt m l && not (o && eqb (linkAt d l .to) h)) || (o && eqb (linkAt d l .from) h))
   pub dropped : (l : ℕ) → l < d .«link_count» → droppedAt m′ l ≡ (droppedAt m l || (waitingAt m l && not (o && eqb (linkAt d l .to) h) && (o && eqb (linkAt d l .from) h)))
   pub past : (l : ℕ) → d .«link_count» ≤ l → (waitingAt m′ l ≡ waitingAt m l) × (droppedAt m′ l ≡ droppedAt m l)
 
-keep : (b : Bool) → b ≡ (b && true || false)
-keep b = sym (or-off (b && true) ∙ and-on b true refl)
+unchanged : (b : Bool) → b ≡ (b && true || false)
+unchanged b = sym (or-off (b && true) ∙ and-on b true refl)
 
 module _ (d : Description) (wf : WellFormed d) where
   run-none : (m : Machine) → runTask 0 m ≡ m
@@ -91,9 +92,10 @@ module _ (d : Description) (wf : WellFormed d) where
   ran-none m z = record {
     sized = z;
     ages = refl;
-    awake = λ k o. keep (awakeAt m k);
+    fastest = refl;
+    awake = λ k o. unchanged (awakeAt m k);
     used = λ k o. rw (ne-eqb k 0 (λ e. omega arith)) refl;
-    waiting = λ l p. keep (waitingAt m l);
+    waiting = λ l p. unchanged (waitingAt m l);
     dropped = λ l p. or-idle-right (droppedAt m l) (waitingAt m l && true) false refl;
     past = λ l p. (refl, refl);
   }
@@ -107,11 +109,13 @@ module _ (d : Description) (wf : WellFormed d) where
       waitings = z .waitings;
       droppeds = z .droppeds;
       ages = z .ages;
+      fastests = z .fastests;
     };
     ages = refl;
-    awake = λ k o. keep (awakeAt m k);
+    fastest = refl;
+    awake = λ k o. unchanged (awakeAt m k);
     used = λ k o. getD-task (m .used) h (usedAt m h + 1) 0 k o p (omega (arith, z .useds)) ∙ one k (eqb k h) refl;
-    waiting = λ l r. keep (waitingAt m l);
+    waiting = λ l r. unchanged (waitingAt m l);
     dropped = λ l r. or-idle-right (droppedAt m l) (waitingAt m l && true) false refl;
     past = λ l r. (refl, refl);
   }
@@ -127,12 +131,13 @@ module _ (d : Description) (wf : WellFormed d) where
       let us : List ℕ = set (m .used) (h - 1) (usedAt m h + 1) in
       let m₃ : Machine = setUsed h 0 (setAwake h false (setUsed h (usedAt m h + 1) m)) in
       let lu : length us ≡ 32 = length-set (m .used) (h - 1) (usedAt m h + 1) ∙ z .useds in
-      let z₃ : Sized m₃ = record { awakes = length-set (m .awake) (h - 1) false ∙ z .awakes; useds = length-set us (h - 1) 0 ∙ lu; waitings = z .waitings; droppeds = z .droppeds; ages = z .ages } in
+      let z₃ : Sized m₃ = record { awakes = length-set (m .awake) (h - 1) false ∙ z .awakes; useds = length-set us (h - 1) 0 ∙ lu; waitings = z .waitings; droppeds = z .droppeds; ages = z .ages; fastests = z .fastests } in
       let c : Cleared d h (d .«link_count») m₃ (clearInto d h m₃) = cleared d wf h m₃ z₃ in
       let f : Fired d h (d .«link_count») (clearInto d h m₃) (fire d h (clearInto d h m₃)) = fired d wf h (clearInto d h m₃) (c .sized) in
       record {
         sized = f .sized;
         ages = f .ages ∙ c .ages;
+        fastest = f .fastest ∙ c .fastest;
         awake = λ k o. f .awake k o ∙ rw (c .awake, getD-task (m .awake) h false false k o p (omega (arith, z .awakes))) (rw (set-false (eqb k h) (awakeAt m k)) refl);
         used = λ k o. rw (f .used, c .used) (getD-task us h 0 0 k o p (omega arith) ∙ zeroed k o (eqb k h) refl);
         waiting = λ l r. f .waiting l ∙ rw (lt-ltb l (d .«link_count») r, c .waiting l, lt-ltb l (d .«link_count») r) refl;
@@ -162,19 +167,20 @@ module _ (d : Description) (wf : WellFormed d) where
     pub dropped : (l : ℕ) → l < d .«link_count» → droppedAt m′ l ≡ (droppedAt m l || (waitingAt m l && comes marks (d .«source_count») (linkAt d l .from)) || ((waitingAt m l || comes marks (d .«source_count») (linkAt d l .from)) && not (o && eqb (linkAt d l .to) h) && (o && eqb (linkAt d l .from) h)))
     pub past : (l : ℕ) → d .«link_count» ≤ l → (waitingAt m′ l ≡ waitingAt m l) × (droppedAt m′ l ≡ droppedAt m l)
     pub age-past : (v : ℕ) → d .«source_count» ≤ v → ageAt m′ v ≡ ageAt m v
-    pub age : (v : ℕ) → v < d .«source_count» → ageAt m′ v ≡ min (spacingOf d t (33 + v)) (cond (getD marks v false) 0 (ageAt m v) + 1)
+    pub age : (v : ℕ) → v < d .«source_count» → ageAt m′ v ≡ min (longestGap d v) (cond (getD marks v false) 0 (ageAt m v) + 1)
+    pub fastest : (v : ℕ) → v < 16 → fastestAt m′ v ≡ keptAfter t (getD marks v false) (fastestAt m v)
 
   pub step : (t : ℕ) (marks : List Bool) (finish : Bool) (m : Machine) → Sized m → Stepped t marks (highest d (arrive d marks m)) (overAt d (highest d (arrive d marks m)) finish m) m (stepped d t marks finish m)
-  unfolding stepped
+  unfolding stepped keep
   step t marks finish m z =
       let m₁ : Machine = arrive d marks m in
       let h : ℕ = highest d m₁ in
       let a : Arrived d marks (d .«source_count») m m₁ = arrived d wf marks m z in
       let same : overAt d h finish m₁ ≡ overAt d h finish m = ap (λ (l : List ℕ). not (eqb h 0) && (eqb (getD l (h - 1) 0 + 1) (runOf d h) || finish)) (a .used) in
       let r : Ran d h (overAt d h finish m) m₁ (endRun d h finish (runTask h m₁)) = rw same at (ran h finish m₁ (a .sized) (omega (arith, highest-le (m₁ .awake) (d .«task_count»), wf .fields .few-tasks))) in
-      let g : Aged d t (d .«source_count») (endRun d h finish (runTask h m₁)) (ageAll d t (endRun d h finish (runTask h m₁))) = aged d wf t (endRun d h finish (runTask h m₁)) (r .sized) in
+      let g : Aged d (d .«source_count») (endRun d h finish (runTask h m₁)) (ageAll d (endRun d h finish (runTask h m₁))) = aged d wf (endRun d h finish (runTask h m₁)) (r .sized) in
       record {
-        sized = g .sized;
+        sized = record { awakes = g .sized .awakes; useds = g .sized .useds; waitings = g .sized .waitings; droppeds = g .sized .droppeds; ages = g .sized .ages; fastests = length-tab 16 _ };
         awake = λ k o. rw (g .awake) (r .awake k o);
         used = λ k o. rw (g .used) (r .used k o ∙ ap (λ (l : List ℕ). cond (eqb k h) (cond (overAt d h finish m) 0 (suc (getD l (k - 1) 0))) (getD l (k - 1) 0)) (a .used));
         waiting = λ l p. rw (g .waiting) (rw (a .waiting l p) at (r .waiting l p));
@@ -182,4 +188,5 @@ module _ (d : Description) (wf : WellFormed d) where
         past = λ l p. (ap (λ (ws : List Bool). getD ws l false) (g .waiting) ∙ (r .past l p .0 ∙ a .past l p .0), ap (λ (ds : List Bool). getD ds l false) (g .dropped) ∙ (r .past l p .1 ∙ a .past l p .1));
         age-past = λ v p. g .age v ∙ rw (le-ltb v (d .«source_count») p, r .ages, a .age v, le-ltb v (d .«source_count») p) refl;
         age = λ v p. g .age v ∙ rw (lt-ltb v (d .«source_count») p, r .ages, a .age v, lt-ltb v (d .«source_count») p) refl;
+        fastest = λ v p. getD-tab 16 _ 0 v p ∙ ap (λ (l : List ℕ). keptAfter t (getD marks v false) (getD l v 0)) (g .fastest ∙ (r .fastest ∙ a .fastest));
       }

@@ -158,12 +158,15 @@ judge-steps d w = go (overfull d) refl (parseFile (fileOf d) .outcome) refl
         ∙ ap (λ (x : Reading). lastChecks (x .description)) (parsed-copy d w r)
         ∙ last-copy d (few-counts d q))
 
--- what is known once a description is judged at a tempo
-pub at-known : (d : Description) (t : ℕ) → Widths d → judgeAt d t ≡ Done → WellFormed d × (200 ≤ t) × (t ≤ 3000)
+-- what is judged as done at a tempo is accepted, and the tempo is on the knob
+pub knob-known : (d : Description) (t : ℕ) → judgeAt d t ≡ Done → (judge d ≡ Done) × (200 ≤ t) × (t ≤ 3000)
 unfolding judgeAt
-at-known d t w = go (judge d) refl (onKnob t) refl
+knob-known d t = go (judge d) refl (onKnob t) refl
   where
-    go : (o : Outcome) → judge d ≡ o → (b : Bool) → onKnob t ≡ b → onDone o (cond b (let x : Outcome = Done in x) (Refused OffKnob 0)) Refused ≡ Done → WellFormed d × (200 ≤ t) × (t ≤ 3000)
-    go Done e true k f = let z = within 200 t 3000 k in (judge-well-formed d w e, z .0, z .1)
+    go : (o : Outcome) → judge d ≡ o → (b : Bool) → onKnob t ≡ b → onDone o (cond b (let x : Outcome = Done in x) (Refused OffKnob 0)) Refused ≡ Done → (judge d ≡ Done) × (200 ≤ t) × (t ≤ 3000)
+    go Done e true k f = let z = within 200 t 3000 k in (e, z .0, z .1)
     go Done e false k f = refused-not f
     go (Refused r p) e b k f = refused-not f
+
+pub at-known : (d : Description) (t : ℕ) → Widths d → judgeAt d t ≡ Done → WellFormed d × (200 ≤ t) × (t ≤ 3000)
+at-known d t w f = let k = knob-known d t f in (judge-well-formed d w (k .0), k .1, k .2)

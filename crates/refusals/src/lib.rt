@@ -73,12 +73,14 @@ pub fn blank_machine() -> Machine
     let waiting = [false; 256];
     let dropped = [false; 256];
     let ages = [0u32; 16];
+    let fastest = [0u32; 16];
     Machine {
         awake,
         used,
         waiting,
         dropped,
         ages,
+        fastest,
     }
 }
 

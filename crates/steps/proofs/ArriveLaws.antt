@@ -1,19 +1,18 @@
 -- The links out of all arriving sources, joined in a loop over the mask and fired together. Assumes nothing.
-use Prim.Native.Nat.{ℕ, _+_, _-_, _*_, _≤_, _<_}
+use Prim.Native.Nat.{ℕ, _+_, _-_, _*_, _≤_, _<_, min}
 use mathlib.Core.Path.{_≡_, refl, sym, ap, subst, _∙_}
 use mathlib.Core.Bool.{Bool, true, false, _||_, _&&_, cond}
 use mathlib.Core.List.{List}
 use native.Mathlib.Omega.{arith}
 use native.Mathlib.Decide.{decLt}
-use lib.ListN.{getD, set, length}
+use lib.ListN.{getD, set, length, length-set}
 use lib.Dec.{eqb, ltb}
 use borrow.Author.Tests.{eqb-true, eq-eqb, ne-eqb, lt-ltb, le-ltb, ltb-true}
 use Rattle.model.specs.declared.Description.{Description}
 use Rattle.model.specs.declared.Machine.{Machine}
 use Rattle.model.specs.Basics.{anyN}
-use Rattle.model.specs.Delays.{spacingOf}
 use Rattle.model.specs.Graph.{linkAt, linked}
-use Rattle.model.specs.Machine.{awakeAt, waitingAt, droppedAt, ageAt, arrive}
+use Rattle.model.specs.Machine.{awakeAt, waitingAt, droppedAt, ageAt, longestGap, arrive}
 use Rattle.lemmas.proofs.Tests.{same-test, not-both, and-left, and-right, and-false-right, both}
 use Rattle.lemmas.proofs.Bools.{or-none, or-idle-right}
 use Rattle.lemmas.proofs.Range.{any-at, any-found, any-none}
@@ -24,42 +23,52 @@ use Rattle.sets.specs.Sets.{member}
 use Rattle.sets.specs.Wide.{inside}
 use Rattle.sets.proofs.SetLaws.{member-none}
 use Rattle.wiring.specs.Rows.{RowsOf}
-use Rattle.spacings.specs.Gaps.{GapsOf}
 use Rattle.steps.specs.declared.words.Words.{Words}
 use Rattle.model.specs.Run.{heard, marksIn}
 use Rattle.steps.specs.Parts.{Known}
-use Rattle.steps.specs.Words.{wideAt, Sent, Ages, Holds}
+use Rattle.steps.specs.Words.{wideAt, Sent, Stored, Ages, Holds}
 use Rattle.steps.proofs.MaskLaws.{Turn, mark-in, heard-under, passed, any-turn}
 use Rattle.steps.proofs.MarkLaws.{row-out, woken, marks-sent}
 use Rattle.lemmas.proofs.Table.{getD-set}
 
--- the links out of the sources of a mask below r, the tasks that they wake, and the ticks at which each may come next
-pub record Joined (rows gaps : List ℕ) (mask r tick : ℕ) (ready₀ ready : List ℕ) (out : Wide) (wakes : ℕ) : Type 0 where
-  pub links : (l : ℕ) → inside out l ≡ anyN (λ u. heard mask u && inside (wideAt rows (9 * (33 + u))) l) 0 r
-  pub tasks : (k : ℕ) → member wakes k ≡ anyN (λ u. heard mask u && member (getD rows (9 * (33 + u) + 8) 0) k) 0 r
-  pub next : (u : ℕ) → u < r → heard mask u ≡ true → getD ready u 0 ≡ tick + getD gaps u 0
-  pub others : (u : ℕ) → heard mask u ≡ false → getD ready u 0 ≡ getD ready₀ u 0
+-- numbers stored for the sources of a mask below r
+pub stored-none : (mask v : ℕ) (l : List ℕ) → length l ≡ 16 → Stored mask 0 v l l
+stored-none mask v l z = record { many = z; here = λ u h. absurd (omega arith); others = λ u e. refl }
 
-pub joined-none : (rows gaps : List ℕ) (mask tick : ℕ) (ready : List ℕ) (out : Wide) → ((l : ℕ) → inside out l ≡ false) → Joined rows gaps mask 0 tick ready ready out 0
-unfolding anyN
-joined-none rows gaps mask tick ready out e = record { links = e; tasks = member-none; next = λ u h. absurd (omega arith); others = λ u e. refl }
-
-pub joined-more : (rows gaps : List ℕ) (mask r tick : ℕ) (ready₀ ready : List ℕ) (out out′ : Wide) (wakes wakes′ u rest′ v : ℕ) → Turn mask r u rest′ → length ready ≡ 16 → v ≡ tick + getD gaps u 0 → ((l : ℕ) → inside out′ l ≡ (inside out l || inside (wideAt rows (9 * (33 + u))) l)) → ((k : ℕ) → member wakes′ k ≡ (member wakes k || member (getD rows (9 * (33 + u) + 8) 0) k)) → Joined rows gaps mask r tick ready₀ ready out wakes → Joined rows gaps mask (u + 1) tick ready₀ (set ready u v) out′ wakes′
-joined-more rows gaps mask r tick ready₀ ready out out′ wakes wakes′ u rest′ v T z e a b j = record {
-  links = λ l. a l ∙ ap (λ i. i || inside (wideAt rows (9 * (33 + u))) l) (j .links l) ∙ sym (any-turn (λ v. inside (wideAt rows (9 * (33 + v))) l) mask r u rest′ T);
-  tasks = λ k. b k ∙ ap (λ i. i || member (getD rows (9 * (33 + u) + 8) 0) k) (j .tasks k) ∙ sym (any-turn (λ v. member (getD rows (9 * (33 + v) + 8) 0) k) mask r u rest′ T);
-  next = passed (λ k. getD (set ready u v) k 0 ≡ tick + getD gaps k 0) mask r u rest′ T (λ k h on. other k (λ q. omega (arith, T .from)) ∙ j .next k h on) (stored u ∙ rw (eq-eqb u u refl) e);
-  others = λ k off. other k (λ q. not-both (T .here) (ap (heard mask) (sym q) ∙ off)) ∙ j .others k off;
+pub stored-more : (mask r v : ℕ) (l₀ l : List ℕ) (u rest′ : ℕ) → Turn mask r u rest′ → Stored mask r v l₀ l → Stored mask (u + 1) v l₀ (set l u v)
+stored-more mask r v l₀ l u rest′ T s = record {
+  many = length-set l u v ∙ s .many;
+  here = passed (λ k. getD (set l u v) k 0 ≡ v) mask r u rest′ T (λ k h on. other k (λ q. omega (arith, T .from)) ∙ s .here k h on) (at u ∙ rw (eq-eqb u u refl) refl);
+  others = λ k off. other k (λ q. not-both (T .here) (ap (heard mask) (sym q) ∙ off)) ∙ s .others k off;
 }
   where
-    stored : (k : ℕ) → getD (set ready u v) k 0 ≡ cond (eqb k u) v (getD ready k 0)
-    stored k = getD-set ready u v 0 k (omega (arith, z, T .within))
+    at : (k : ℕ) → getD (set l u v) k 0 ≡ cond (eqb k u) v (getD l k 0)
+    at k = getD-set l u v 0 k (omega (arith, s .many, T .within))
 
-    other : (k : ℕ) → (k ≡ u → ⊥) → getD (set ready u v) k 0 ≡ getD ready k 0
-    other k q = stored k ∙ rw (ne-eqb k u q) refl
+    other : (k : ℕ) → (k ≡ u → ⊥) → getD (set l u v) k 0 ≡ getD l k 0
+    other k q = at k ∙ rw (ne-eqb k u q) refl
+
+-- all of the mask are passed
+pub stored-all : (mask r v : ℕ) (l₀ l : List ℕ) → ((u : ℕ) → heard mask u ≡ true → u < r) → Stored mask r v l₀ l → Stored mask 16 v l₀ l
+stored-all mask r v l₀ l under s = record { many = s .many; here = λ u h on. s .here u (under u on) on; others = s .others }
+
+-- the links out of the sources of a mask below r, and the tasks that they wake
+pub record Joined (rows : List ℕ) (mask r : ℕ) (out : Wide) (wakes : ℕ) : Type 0 where
+  pub links : (l : ℕ) → inside out l ≡ anyN (λ u. heard mask u && inside (wideAt rows (9 * (33 + u))) l) 0 r
+  pub tasks : (k : ℕ) → member wakes k ≡ anyN (λ u. heard mask u && member (getD rows (9 * (33 + u) + 8) 0) k) 0 r
+
+pub joined-none : (rows : List ℕ) (mask : ℕ) (out : Wide) → ((l : ℕ) → inside out l ≡ false) → Joined rows mask 0 out 0
+unfolding anyN
+joined-none rows mask out e = record { links = e; tasks = member-none }
+
+pub joined-more : (rows : List ℕ) (mask r : ℕ) (out out′ : Wide) (wakes wakes′ u rest′ : ℕ) → Turn mask r u rest′ → ((l : ℕ) → inside out′ l ≡ (inside out l || inside (wideAt rows (9 * (33 + u))) l)) → ((k : ℕ) → member wakes′ k ≡ (member wakes k || member (getD rows (9 * (33 + u) + 8) 0) k)) → Joined rows mask r out wakes → Joined rows mask (u + 1) out′ wakes′
+joined-more rows mask r out out′ wakes wakes′ u rest′ T a b j = record {
+  links = λ l. a l ∙ ap (λ i. i || inside (wideAt rows (9 * (33 + u))) l) (j .links l) ∙ sym (any-turn (λ v. inside (wideAt rows (9 * (33 + v))) l) mask r u rest′ T);
+  tasks = λ k. b k ∙ ap (λ i. i || member (getD rows (9 * (33 + u) + 8) 0) k) (j .tasks k) ∙ sym (any-turn (λ v. member (getD rows (9 * (33 + v) + 8) 0) k) mask r u rest′ T);
+}
 
 -- all of a mask's sources are passed: what has come is what comes in the record
-module _ (d : Description) (t : ℕ) (rows gaps : List ℕ) (mask r tick : ℕ) (ready₀ ready : List ℕ) (out : Wide) (wakes : ℕ) (j : Joined rows gaps mask r tick ready₀ ready out wakes) (under : (u : ℕ) → heard mask u ≡ true → u < r) (g : WellFormed d) (w : RowsOf d (d .«link_count») rows) (s : GapsOf d t gaps) (k : Known d mask) where
+module _ (d : Description) (rows : List ℕ) (mask r tick : ℕ) (since₀ since : List ℕ) (out : Wide) (wakes : ℕ) (j : Joined rows mask r out wakes) (s : Stored mask 16 tick since₀ since) (under : (u : ℕ) → heard mask u ≡ true → u < r) (g : WellFormed d) (w : RowsOf d (d .«link_count») rows) (k : Known d mask) where
   on : (u : ℕ) → heard mask u ≡ true → (u < d .«source_count») × (getD (marksIn mask) u false ≡ true)
   on u e =
       let h : u < d .«source_count» = heard-under mask (d .«source_count») u (k .1) e in
@@ -124,14 +133,13 @@ module _ (d : Description) (t : ℕ) (rows gaps : List ℕ) (mask r tick : ℕ) 
   links-past l h =
       j .links l ∙ any-none (λ u. heard mask u && inside (wideAt rows (9 * (33 + u))) l) 0 r (λ u a b. and-false-right (heard mask u) _ (row-out d rows (33 + u) g w l ∙ rw (le-ltb l (d .«link_count») h) refl))
 
-  pub all-arrived : (w₀ w′ : Words) (used : List ℕ) (m : Machine) → tick ≡ w₀ .tick → length ready ≡ 16 → Sent w₀ out wakes w′ → Holds d t w₀ used ready₀ m → Holds d t w′ used ready (arrive d (marksIn mask) m)
-  all-arrived w₀ w′ used m same many sent h = record {
+  pub all-arrived : (w₀ w′ : Words) (used : List ℕ) (m : Machine) → tick ≡ w₀ .tick → Sent w₀ out wakes w′ → Holds d w₀ used since₀ m → Holds d w′ used since (arrive d (marksIn mask) m)
+  all-arrived w₀ w′ used m same sent h = record {
     marks = marks-sent d w₀ w′ out wakes sent m m′ some (f .sized) (λ i p. f .awake i p ∙ ap (λ b. awakeAt m i || b) (sym (tasks-are i))) (λ l. waits l (decLt l (d .«link_count»))) (λ l. drops l (decLt l (d .«link_count»))) (h .marks);
     same-used = h .same-used ∙ sym (f .used);
-    ages = subst (λ n. Ages d t n ready m′) (same ∙ sym (sent .then)) (record {
-      many = many;
-      spaced = h .ages .spaced;
-      near = λ u p. near u p (heard mask u) refl;
+    ages = subst (λ n. Ages d n since m′) (same ∙ sym (sent .then)) (record {
+      many = s .many;
+      before = λ u p. before u p (heard mask u) refl;
       here = λ u p. here u p (heard mask u) refl;
       past = λ u p. f .age u ∙ rw (le-ltb u (d .«source_count») p) (h .ages .past u p);
     });
@@ -159,10 +167,10 @@ module _ (d : Description) (t : ℕ) (rows gaps : List ℕ) (mask r tick : ℕ) 
       age : (u : ℕ) → u < d .«source_count» → ageAt m′ u ≡ cond (heard mask u) 0 (ageAt m u)
       age u p = f .age u ∙ rw (lt-ltb u (d .«source_count») p, mark-in mask u (omega (arith, k .0))) refl
 
-      near : (u : ℕ) → u < d .«source_count» → (b : Bool) → heard mask u ≡ b → getD ready u 0 ≤ tick + spacingOf d t (33 + u)
-      near u p true e = omega (arith, j .next u (under u e) e, s .at u p)
-      near u p false e = omega (arith, j .others u e, h .ages .near u p)
+      before : (u : ℕ) → u < d .«source_count» → (b : Bool) → heard mask u ≡ b → getD since u 0 ≤ tick
+      before u p true e = omega (arith, s .here u (omega (arith, k .0)) e)
+      before u p false e = omega (arith, s .others u e, h .ages .before u p)
 
-      here : (u : ℕ) → u < d .«source_count» → (b : Bool) → heard mask u ≡ b → ageAt m′ u ≡ spacingOf d t (33 + u) - (getD ready u 0 - tick)
-      here u p true e = let a : ageAt m′ u ≡ 0 = age u p ∙ rw e refl in omega (arith, j .next u (under u e) e, s .at u p)
-      here u p false e = let a : ageAt m′ u ≡ ageAt m u = age u p ∙ rw e refl in omega (arith, j .others u e, h .ages .here u p)
+      here : (u : ℕ) → u < d .«source_count» → (b : Bool) → heard mask u ≡ b → ageAt m′ u ≡ min (longestGap d u) (tick - getD since u 0)
+      here u p true e = let a : ageAt m′ u ≡ 0 = age u p ∙ rw e refl in omega (arith, s .here u (omega (arith, k .0)) e)
+      here u p false e = let a : ageAt m′ u ≡ ageAt m u = age u p ∙ rw e refl in omega (arith, s .others u e, h .ages .here u p)

@@ -100,7 +100,7 @@ module _ (d : Description) (rows : List ℕ) (x : ℕ) (w w′ : Words) (alone :
   pub marks-slept : (m : Machine) → WellFormed d → RowsOf d (d .«link_count») rows → 1 ≤ x → x ≤ 32 → Marks d w m → Marks d w′ (clearInto d x (setAwake x false m))
   marks-slept m g r p q h =
       let m₁ : Machine = setAwake x false m in
-      let z : Sized m₁ = record { awakes = length-set (m .awake) (x - 1) false ∙ h .sized .awakes; useds = h .sized .useds; waitings = h .sized .waitings; droppeds = h .sized .droppeds; ages = h .sized .ages } in
+      let z : Sized m₁ = record { awakes = length-set (m .awake) (x - 1) false ∙ h .sized .awakes; useds = h .sized .useds; waitings = h .sized .waitings; droppeds = h .sized .droppeds; ages = h .sized .ages; fastests = h .sized .fastests } in
       let f : Cleared d x (d .«link_count») m₁ (clearInto d x m₁) = cleared d g x m₁ z in
       record {
         sized = f .sized;
@@ -114,7 +114,7 @@ module _ (d : Description) (rows : List ℕ) (x : ℕ) (w w′ : Words) (alone :
 -- a change of another part leaves the marks
 pub marks-used : (d : Description) (w : Words) (m : Machine) (k x : ℕ) → Marks d w m → Marks d w (setUsed k x m)
 marks-used d w m k x h = record {
-  sized = record { awakes = h .sized .awakes; useds = length-set (m .used) (k - 1) x ∙ h .sized .useds; waitings = h .sized .waitings; droppeds = h .sized .droppeds; ages = h .sized .ages };
+  sized = record { awakes = h .sized .awakes; useds = length-set (m .used) (k - 1) x ∙ h .sized .useds; waitings = h .sized .waitings; droppeds = h .sized .droppeds; ages = h .sized .ages; fastests = h .sized .fastests };
   no-zero = h .no-zero;
   present = h .present;
   awake = h .awake;

@@ -1,8 +1,9 @@
 -- A record and the words that hold it: marks one by one, ages, the start, and the rules. Assumes nothing.
-use Prim.Native.Nat.{ℕ, zero, suc, _+_, _-_, _/_, _%_, _≤_, _<_}
+use Prim.Native.Nat.{ℕ, zero, suc, _+_, _-_, _/_, _%_, _≤_, _<_, min}
 use mathlib.Core.Path.{_≡_, refl, sym, ap, subst, _∙_}
 use mathlib.Core.Bool.{Bool, true, false, _||_, _&&_, not, cond}
 use mathlib.Core.List.{List, [], _∷_}
+use mathlib.Core.Logic.{inl}
 use native.Mathlib.Omega.{arith}
 use native.Mathlib.Decide.{decLt}
 use lib.ListN.{getD, length, replicate, List·getD-eq-default}
@@ -12,13 +13,13 @@ use borrow.Author.Tests.{eqb-true, eq-eqb, ne-eqb, leb-true, lt-ltb, le-ltb, lt-
 use Rattle.model.specs.declared.Description.{Description}
 use Rattle.model.specs.declared.Machine.{Machine}
 use Rattle.model.specs.Basics.{allN}
-use Rattle.model.specs.Delays.{spacingOf}
-use Rattle.model.specs.Machine.{awakeAt, usedAt, ageAt, idle, taskRule, linkRule, sourceRule, lawful}
+use Rattle.model.specs.Verdicts.{onKnob}
+use Rattle.model.specs.Machine.{awakeAt, usedAt, ageAt, fastestAt, longestGap, idle, taskRule, linkRule, sourceRule, lawful}
 use Rattle.lemmas.proofs.Tests.{not-both, false-of, and-left, and-right}
 use Rattle.lemmas.proofs.Table.{getD-tab, length-tab, getD-same}
 use Rattle.lemmas.proofs.Range.{all-at}
 use Rattle.theory.proofs.WellFormed.{WellFormed}
-use Rattle.theory.proofs.Spacing.{gap-some}
+use Rattle.theory.proofs.Spacing.{gap-most}
 use Rattle.assurance.proofs.Firing.{Sized}
 use Rattle.sets.specs.declared.wide.Wide.{Wide}
 use Rattle.sets.specs.Sets.{member}
@@ -26,8 +27,8 @@ use Rattle.sets.specs.Wide.{wordIn, inside}
 use Rattle.sets.proofs.SetLaws.{member-none}
 use Rattle.steps.specs.declared.words.Words.{Words}
 use Rattle.spacings.specs.Gaps.{GapsOf}
-use Rattle.steps.specs.Words.{Holds}
-use Rattle.steps.specs.Record.{AwakeOf, AwakeIn, LinksOf, AgesOf, ReadyOf, Begins}
+use Rattle.steps.specs.Words.{Holds, Keeps}
+use Rattle.steps.specs.Record.{AwakeOf, AwakeIn, LinksOf, AgesOf, SinceOf, Begins}
 use Rattle.lemmas.proofs.Bools.{and-off, and-swap, less-more}
 
 -- a number that is marked
@@ -92,27 +93,28 @@ awake-done awake set z h = (h .0, λ k p. let e : suc (k - 1) ≡ k = omega arit
     at j (no p) = rw (le-ltb j 32 (omega arith)) (sym (List·getD-eq-default awake false {n = j} (omega arith)))
 
 -- the record that words hold is the record of their lists
-pub unpacked : (d : Description) (t : ℕ) (gaps : List ℕ) (sources : ℕ) (w : Words) (used ready : List ℕ) (m : Machine) (aw wa dr : List Bool) (ag : List ℕ) → d .«source_count» ≡ sources → GapsOf d t gaps → Holds d t w used ready m → AwakeOf (w .awake) aw → LinksOf (w .waiting) wa → LinksOf (w .dropped) dr → AgesOf gaps sources ready (w .tick) ag → record { awake = aw; used = used; waiting = wa; dropped = dr; ages = ag } ≡ m
-unpacked d t gaps sources w used ready m aw wa dr ag q g h a b c e =
+pub unpacked : (d : Description) (gaps : List ℕ) (sources : ℕ) (w : Words) (used since fastest : List ℕ) (m : Machine) (aw wa dr : List Bool) (ag : List ℕ) → d .«source_count» ≡ sources → GapsOf d 200 gaps → Holds d w used since m → fastest ≡ m .fastest → AwakeOf (w .awake) aw → LinksOf (w .waiting) wa → LinksOf (w .dropped) dr → AgesOf gaps sources since (w .tick) ag → record { awake = aw; used = used; waiting = wa; dropped = dr; ages = ag; fastest = fastest } ≡ m
+unpacked d gaps sources w used since fastest m aw wa dr ag q g h k a b c e =
     whole (ext-getD false aw (m .awake) (a .0 ∙ sym (h .marks .sized .awakes)) (λ k p. let s : k + 1 - 1 ≡ k = omega arith in a .1 k (omega (arith, a .0)) ∙ h .marks .awake (k + 1) (omega arith) ∙ ap (λ i. getD (m .awake) i false) s))
     (h .same-used)
     (ext-getD false wa (m .waiting) (b .0 ∙ sym (h .marks .sized .waitings)) (λ l p. b .1 l (omega (arith, b .0)) ∙ h .marks .waiting l))
     (ext-getD false dr (m .dropped) (c .0 ∙ sym (h .marks .sized .droppeds)) (λ l p. c .1 l (omega (arith, c .0)) ∙ h .marks .dropped l))
     (ext-getD 0 ag (m .ages) (e .many ∙ sym (h .marks .sized .ages)) (λ u p. age u (decLt u (d .«source_count»))))
+    k
   where
-    whole : aw ≡ m .awake → used ≡ m .used → wa ≡ m .waiting → dr ≡ m .dropped → ag ≡ m .ages → record { awake = aw; used = used; waiting = wa; dropped = dr; ages = ag } ≡ m
-    whole p q r s t = rw (p, q, r, s, t) refl
+    whole : aw ≡ m .awake → used ≡ m .used → wa ≡ m .waiting → dr ≡ m .dropped → ag ≡ m .ages → fastest ≡ m .fastest → record { awake = aw; used = used; waiting = wa; dropped = dr; ages = ag; fastest = fastest } ≡ m
+    whole p q r s t k = rw (p, q, r, s, t, k) refl
 
     age : (u : ℕ) → Dec (u < d .«source_count») → getD ag u 0 ≡ getD (m .ages) u 0
-    age u (yes p) = e .here u (omega arith) ∙ ap (λ x. x - (getD ready u 0 - w .tick)) (g .at u p) ∙ sym (h .ages .here u p)
+    age u (yes p) = e .here u (omega arith) ∙ ap (λ x. min x (w .tick - getD since u 0)) (g .at u p) ∙ sym (h .ages .here u p)
     age u (no p) = e .past u (omega arith) ∙ sym (h .ages .past u (omega arith))
 
 -- at the start
-pub begun : (d : Description) (t : ℕ) (w : Words) → WellFormed d → 200 ≤ t → t ≤ 3000 → Begins w → Holds d t w (replicate 32 0) (replicate 16 0) (idle d t)
+pub begun : (d : Description) (w : Words) (gaps since : List ℕ) → WellFormed d → Begins w → GapsOf d 200 gaps → SinceOf gaps since → Holds d w (replicate 32 0) since (idle d)
 unfolding idle
-begun d t w g low high b = record {
+begun d w gaps since g b s r = record {
   marks = record {
-    sized = record { awakes = refl; useds = refl; waitings = refl; droppeds = refl; ages = length-tab 16 _ };
+    sized = record { awakes = refl; useds = refl; waitings = refl; droppeds = refl; ages = length-tab 16 _; fastests = refl };
     no-zero = none 0;
     present = λ k p. absurd (not-both p (none k));
     awake = λ k p. none k ∙ sym (getD-same 32 (k - 1) false);
@@ -121,30 +123,37 @@ begun d t w g low high b = record {
   };
   same-used = refl;
   ages = record {
-    many = refl;
-    spaced = λ u p. gap-some d g (33 + u) (omega arith) (omega arith) t (omega arith) high;
-    near = λ u p. omega (arith, getD-same {A = ℕ} 16 u 0);
-    here = λ u p. getD-tab 16 _ 0 u (omega (arith, g .fields .few-sources)) ∙ rw (lt-ltb u (d .«source_count») p) (let e : _≡_ {A = ℕ} (getD (replicate 16 0) u 0) 0 = getD-same 16 u 0 in omega arith);
+    many = r .many;
+    before = λ u p. omega (arith, b .first, at u p);
+    here = λ u p. getD-tab 16 _ 0 u (omega (arith, g .fields .few-sources)) ∙ rw (lt-ltb u (d .«source_count») p) (omega (arith, b .first, at u p, s .at u p, s .fit .most u));
     past = λ u p. absent u p (decLt u 16);
   };
 }
   where
+    at : (u : ℕ) → u < d .«source_count» → getD since u 0 ≡ 4294967296 - getD gaps u 0
+    at u p = r .here u (omega (arith, g .fields .few-sources))
+
     none : (k : ℕ) → member (w .awake) k ≡ false
     none k = ap (λ s. member s k) (b .asleep) ∙ member-none k
 
-    absent : (u : ℕ) → d .«source_count» ≤ u → Dec (u < 16) → ageAt (idle d t) u ≡ 0
+    absent : (u : ℕ) → d .«source_count» ≤ u → Dec (u < 16) → ageAt (idle d) u ≡ 0
     absent u p (yes q) = getD-tab 16 _ 0 u q ∙ rw (le-ltb u (d .«source_count») p) refl
-    absent u p (no q) = List·getD-eq-default (idle d t .ages) 0 {n = u} (omega (arith, length-tab 16 (λ u. cond (ltb u (d .«source_count»)) (spacingOf d t (33 + u)) 0)))
+    absent u p (no q) = List·getD-eq-default (idle d .ages) 0 {n = u} (omega (arith, length-tab 16 (λ u. cond (ltb u (d .«source_count»)) (longestGap d u) 0)))
+
+-- it keeps no tempo
+pub none-kept : (d : Description) (w : Words) → Keeps w (replicate 16 0) (idle d)
+unfolding idle
+none-kept d w = record { same = refl; above = λ u p. inl (getD-same 16 u 0) }
 
 -- words of a record that keeps the rules hold it
-module _ (d : Description) (t : ℕ) (m : Machine) (g : WellFormed d) (low : 200 ≤ t) (high : t ≤ 3000) (l : lawful d t m ≡ true) (z : Sized m) where
+module _ (d : Description) (m : Machine) (g : WellFormed d) (l : lawful d m ≡ true) (z : Sized m) where
   task-rule : (k : ℕ) → 1 ≤ k → k ≤ 32 → taskRule d m k ≡ true
   unfolding lawful
   task-rule k p q = all-at (taskRule d m) 1 32 (and-left (allN (taskRule d m) 1 32) _ l) k p (omega arith)
 
-  source-rule : (u : ℕ) → u < 16 → sourceRule d t m u ≡ true
+  source-rule : (u : ℕ) → u < 16 → sourceRule d m u ≡ true
   unfolding lawful
-  source-rule u p = all-at (sourceRule d t m) 0 16 (and-right (allN (linkRule d m) 0 256) _ (and-right (allN (taskRule d m) 1 32) _ l)) u (omega arith) (omega arith)
+  source-rule u p = all-at (sourceRule d m) 0 16 (and-right (allN (linkRule d m) 0 256) _ (and-right (allN (taskRule d m) 1 32) _ l)) u (omega arith) (omega arith)
 
   absent : (k : ℕ) → 1 ≤ k → d .«task_count» < k → awakeAt m k ≡ true → ⊥
   absent k p q e = go (decLt 32 k)
@@ -155,22 +164,25 @@ module _ (d : Description) (t : ℕ) (m : Machine) (g : WellFormed d) (low : 200
           let r : (not (awakeAt m k) && eqb (usedAt m k) 0) ≡ true = rw (lt-leb k (d .«task_count») q) at (task-rule k p (omega arith)) in
           not-both e (not-true (awakeAt m k) (and-left (not (awakeAt m k)) _ r))
 
-  age-low : (u : ℕ) → u < d .«source_count» → ageAt m u ≤ spacingOf d t (33 + u)
+  age-low : (u : ℕ) → u < d .«source_count» → ageAt m u ≤ longestGap d u
   age-low u p =
-      let r : leb (ageAt m u) (spacingOf d t (33 + u)) ≡ true = rw (lt-ltb u (d .«source_count») p) at (source-rule u (omega (arith, g .fields .few-sources))) in
-      leb-true (ageAt m u) (spacingOf d t (33 + u)) r
+      let r : (leb (ageAt m u) (longestGap d u) && cond (eqb (fastestAt m u) 0) (eqb (ageAt m u) (longestGap d u)) (onKnob (fastestAt m u))) ≡ true = rw (lt-ltb u (d .«source_count») p) at (source-rule u (omega (arith, g .fields .few-sources))) in
+      leb-true (ageAt m u) (longestGap d u) (and-left (leb (ageAt m u) (longestGap d u)) _ r)
+
+  longest-most : (u : ℕ) → u < d .«source_count» → longestGap d u ≤ 1000000000
+  longest-most u p = gap-most d g (33 + u) (omega arith) (omega arith) 200
 
   age-none : (u : ℕ) → d .«source_count» ≤ u → ageAt m u ≡ 0
   age-none u p = go (decLt u 16)
     where
       go : Dec (u < 16) → ageAt m u ≡ 0
       go (yes h) =
-          let r : eqb (ageAt m u) 0 ≡ true = rw (le-ltb u (d .«source_count») p) at (source-rule u h) in
-          eqb-true (ageAt m u) 0 r
+          let r : (eqb (ageAt m u) 0 && eqb (fastestAt m u) 0) ≡ true = rw (le-ltb u (d .«source_count») p) at (source-rule u h) in
+          eqb-true (ageAt m u) 0 (and-left (eqb (ageAt m u) 0) _ r)
       go (no h) = List·getD-eq-default (m .ages) 0 {n = u} (omega (arith, z .ages))
 
-  pub packed : (gaps ready : List ℕ) (w : Words) → GapsOf d t gaps → AwakeIn (m .awake) (w .awake) → ((l : ℕ) → inside (w .waiting) l ≡ getD (m .waiting) l false) → ((l : ℕ) → inside (w .dropped) l ≡ getD (m .dropped) l false) → ReadyOf gaps (m .ages) ready → w .tick ≡ 0 → Holds d t w (m .used) ready m
-  packed gaps ready w s a b c r e = record {
+  pub packed : (since : List ℕ) (w : Words) → AwakeIn (m .awake) (w .awake) → ((l : ℕ) → inside (w .waiting) l ≡ getD (m .waiting) l false) → ((l : ℕ) → inside (w .dropped) l ≡ getD (m .dropped) l false) → SinceOf (m .ages) since → w .tick ≡ 4294967296 → Holds d w (m .used) since m
+  packed since w a b c r e = record {
     marks = record {
       sized = z;
       no-zero = a .0;
@@ -182,9 +194,8 @@ module _ (d : Description) (t : ℕ) (m : Machine) (g : WellFormed d) (low : 200
     same-used = refl;
     ages = record {
       many = r .many;
-      spaced = λ u p. gap-some d g (33 + u) (omega arith) (omega arith) t (omega arith) high;
-      near = λ u p. omega (arith, r .here u (omega (arith, g .fields .few-sources)), s .at u p);
-      here = λ u p. omega (arith, r .here u (omega (arith, g .fields .few-sources)), s .at u p, age-low u p);
+      before = λ u p. omega (arith, r .here u (omega (arith, g .fields .few-sources)));
+      here = λ u p. omega (arith, r .here u (omega (arith, g .fields .few-sources)), age-low u p, longest-most u p);
       past = age-none;
     };
   }

@@ -1,8 +1,9 @@
 -- One step of a tick on the words and on the record that they hold. Assumes nothing.
-use Prim.Native.Nat.{ℕ, zero, suc, _+_, _-_, _≤_, _<_, min}
+use Prim.Native.Nat.{ℕ, zero, suc, _+_, _-_, _≤_, _<_, min, max}
 use mathlib.Core.Path.{_≡_, refl, sym, ap, subst, _∙_}
 use mathlib.Core.Bool.{Bool, true, false, _||_, not}
 use mathlib.Core.List.{List}
+use mathlib.Core.Logic.{_⊎_, inl, inr}
 use native.Mathlib.Omega.{arith}
 use lib.ListN.{getD, set, length-set}
 use lib.Seq.{getD-set-same}
@@ -12,8 +13,7 @@ use Rattle.model.specs.declared.Description.{Description}
 use Rattle.model.specs.declared.Machine.{Machine}
 use Rattle.model.specs.Basics.{upTo}
 use Rattle.model.specs.Graph.{runOf}
-use Rattle.model.specs.Delays.{spacingOf}
-use Rattle.model.specs.Machine.{usedAt, ageAt, setAwake, setUsed, fire, arriveOne, runTask, clearInto, endRun, ageAll}
+use Rattle.model.specs.Machine.{usedAt, ageAt, longestGap, setAwake, setUsed, fire, arriveOne, runTask, clearInto, endRun, ageAll}
 use Rattle.theory.proofs.WellFormed.{WellFormed}
 use Rattle.assurance.proofs.Firing.{Sized, Fired, fired}
 use Rattle.assurance.proofs.Ending.{Cleared, cleared, Aged, aged}
@@ -21,7 +21,7 @@ use Rattle.sets.specs.Sets.{member, LastIn}
 use Rattle.sets.specs.Wide.{inside}
 use Rattle.steps.specs.declared.words.Words.{Words}
 use Rattle.model.specs.Run.{heard, marksIn}
-use Rattle.steps.specs.Words.{Marks, Ages, Holds, worked}
+use Rattle.steps.specs.Words.{Marks, Ages, Holds, worked, Above, raisedTo}
 use Rattle.steps.proofs.MaskLaws.{mark-in}
 use Rattle.steps.proofs.MarkLaws.{marks-used, highest-is, highest-none}
 use Rattle.lemmas.proofs.Bools.{and-off}
@@ -46,11 +46,10 @@ arrive-none d mask l n m h p none =
     upTo-rest l (n - l) (arriveOne d (marksIn mask)) m (λ u a b x. arrive-off d (marksIn mask) u x (mark-in mask u (omega arith) ∙ none u a (omega arith))) ∙ ap (λ n. upTo n (arriveOne d (marksIn mask)) m) q
 
 -- ages beside other parts
-pub ages-same : (d : Description) (t now : ℕ) (ready : List ℕ) (m m′ : Machine) → m′ .ages ≡ m .ages → Ages d t now ready m → Ages d t now ready m′
-ages-same d t now ready m m′ e h = record {
+pub ages-same : (d : Description) (now : ℕ) (since : List ℕ) (m m′ : Machine) → m′ .ages ≡ m .ages → Ages d now since m → Ages d now since m′
+ages-same d now since m m′ e h = record {
   many = h .many;
-  spaced = h .spaced;
-  near = h .near;
+  before = h .before;
   here = λ u p. ap (λ (l : List ℕ). getD l u 0) e ∙ h .here u p;
   past = λ u p. ap (λ (l : List ℕ). getD l u 0) e ∙ h .past u p;
 }
@@ -76,13 +75,13 @@ end-on : (d : Description) (h : ℕ) (finish : Bool) (m : Machine) → 1 ≤ h �
 unfolding endRun
 end-on d h finish m p e = rw (e, ne-eqb h 0 (λ z. omega arith)) refl
 
-pub work-none : (d : Description) (t : ℕ) (w : Words) (used ready : List ℕ) (finish : Bool) (m : Machine) → w .awake ≡ 0 → Holds d t w used ready m → Holds d t w used ready (worked d finish m)
-work-none d t w used ready finish m e h =
+pub work-none : (d : Description) (w : Words) (used since : List ℕ) (finish : Bool) (m : Machine) → w .awake ≡ 0 → Holds d w used since m → Holds d w used since (worked d finish m)
+work-none d w used since finish m e h =
     let q : worked d finish m ≡ m = ap (λ k. endRun d k finish (runTask k m)) (highest-none d w m (h .marks) e) ∙ ap (endRun d 0 finish) (run-none m) ∙ end-none d finish m in
-    subst (λ (k : Machine). Holds d t w used ready k) (sym q) h
+    subst (λ (k : Machine). Holds d w used since k) (sym q) h
 
 -- h is the highest awake task, which has used so much more
-module _ (d : Description) (t : ℕ) (w : Words) (used ready runs : List ℕ) (finish : Bool) (m : Machine) (g : WellFormed d) (s : runs ≡ d .runs) (H : Holds d t w used ready m) (h more : ℕ) (l : LastIn (w .awake) h) (p : 1 ≤ h) (q : h ≤ 32) (e : more ≡ getD used (h - 1) 0 + 1) where
+module _ (d : Description) (w : Words) (used since runs : List ℕ) (finish : Bool) (m : Machine) (g : WellFormed d) (s : runs ≡ d .runs) (H : Holds d w used since m) (h more : ℕ) (l : LastIn (w .awake) h) (p : 1 ≤ h) (q : h ≤ 32) (e : more ≡ getD used (h - 1) 0 + 1) where
   ran-is : runTask h m ≡ setUsed h more m
   ran-is = run-on h m p ∙ ap (λ x. setUsed h x m) (sym (e ∙ ap (λ (us : List ℕ). getD us (h - 1) 0 + 1) (H .same-used)))
 
@@ -92,42 +91,42 @@ module _ (d : Description) (t : ℕ) (w : Words) (used ready runs : List ℕ) (f
   test-is : (eqb more (getD runs (h - 1) 0) || finish) ≡ (eqb (usedAt (setUsed h more m) h) (runOf d h) || finish)
   test-is = rw (s, getD-set-same (m .used) (h - 1) more 0 (omega (arith, H .marks .sized .useds))) refl
 
-  pub work-on : (eqb more (getD runs (h - 1) 0) || finish) ≡ false → Holds d t w (set used (h - 1) more) ready (worked d finish m)
+  pub work-on : (eqb more (getD runs (h - 1) 0) || finish) ≡ false → Holds d w (set used (h - 1) more) since (worked d finish m)
   work-on f =
-      subst (λ (k : Machine). Holds d t w (set used (h - 1) more) ready k) (sym (work-is ∙ end-off d h finish (setUsed h more m) (sym test-is ∙ f)))
+      subst (λ (k : Machine). Holds d w (set used (h - 1) more) since k) (sym (work-is ∙ end-off d h finish (setUsed h more m) (sym test-is ∙ f)))
       (record {
         marks = marks-used d w m h more (H .marks);
         same-used = ap (λ (us : List ℕ). set us (h - 1) more) (H .same-used);
-        ages = ages-same d t (w .tick) ready m (setUsed h more m) refl (H .ages);
+        ages = ages-same d (w .tick) since m (setUsed h more m) refl (H .ages);
       })
 
   -- its run ends
-  pub work-over : (w₁ w₂ : Words) → (eqb more (getD runs (h - 1) 0) || finish) ≡ true → ((k : Machine) → Marks d w k → Marks d w₁ (clearInto d h (setAwake h false k))) → ((k : Machine) → Marks d w₁ k → Marks d w₂ (fire d h k)) → w₂ .tick ≡ w .tick → Holds d t w₂ (set (set used (h - 1) more) (h - 1) 0) ready (worked d finish m)
+  pub work-over : (w₁ w₂ : Words) → (eqb more (getD runs (h - 1) 0) || finish) ≡ true → ((k : Machine) → Marks d w k → Marks d w₁ (clearInto d h (setAwake h false k))) → ((k : Machine) → Marks d w₁ k → Marks d w₂ (fire d h k)) → w₂ .tick ≡ w .tick → Holds d w₂ (set (set used (h - 1) more) (h - 1) 0) since (worked d finish m)
   work-over w₁ w₂ f sleeps fires n =
       let m₁ : Machine = setUsed h 0 (setUsed h more m) in
       let m₂ : Machine = setAwake h false m₁ in
       let k₁ : Marks d w m₁ = marks-used d w (setUsed h more m) h 0 (marks-used d w m h more (H .marks)) in
-      let z : Sized m₂ = record { awakes = length-set (m .awake) (h - 1) false ∙ H .marks .sized .awakes; useds = k₁ .sized .useds; waitings = H .marks .sized .waitings; droppeds = H .marks .sized .droppeds; ages = H .marks .sized .ages } in
+      let z : Sized m₂ = record { awakes = length-set (m .awake) (h - 1) false ∙ H .marks .sized .awakes; useds = k₁ .sized .useds; waitings = H .marks .sized .waitings; droppeds = H .marks .sized .droppeds; ages = H .marks .sized .ages; fastests = H .marks .sized .fastests } in
       let c : Cleared d h (d .«link_count») m₂ (clearInto d h m₂) = cleared d g h m₂ z in
       let r : Fired d h (d .«link_count») (clearInto d h m₂) (fire d h (clearInto d h m₂)) = fired d g h (clearInto d h m₂) (c .sized) in
-      subst (λ (k : Machine). Holds d t w₂ (set (set used (h - 1) more) (h - 1) 0) ready k) (sym (work-is ∙ end-on d h finish (setUsed h more m) p (sym test-is ∙ f)))
+      subst (λ (k : Machine). Holds d w₂ (set (set used (h - 1) more) (h - 1) 0) since k) (sym (work-is ∙ end-on d h finish (setUsed h more m) p (sym test-is ∙ f)))
       (record {
         marks = fires (clearInto d h m₂) (sleeps m₁ k₁);
         same-used = ap (λ (us : List ℕ). set (set us (h - 1) more) (h - 1) 0) (H .same-used) ∙ sym (r .used ∙ c .used);
-        ages = subst (λ i. Ages d t i ready (fire d h (clearInto d h m₂))) (sym n) (ages-same d t (w .tick) ready m (fire d h (clearInto d h m₂)) (r .ages ∙ c .ages) (H .ages));
+        ages = subst (λ i. Ages d i since (fire d h (clearInto d h m₂))) (sym n) (ages-same d (w .tick) since m (fire d h (clearInto d h m₂)) (r .ages ∙ c .ages) (H .ages));
       })
 
 -- step 4: one tick more has passed
-module _ (d : Description) (t : ℕ) (w w′ : Words) (used ready : List ℕ) (m : Machine) (g : WellFormed d) (a : w′ .awake ≡ w .awake) (b : w′ .waiting ≡ w .waiting) (c : w′ .dropped ≡ w .dropped) (n : w′ .tick ≡ w .tick + 1) (h : Holds d t w used ready m) where
-  f : Aged d t (d .«source_count») m (ageAll d t m)
-  f = aged d g t m (h .marks .sized)
+module _ (d : Description) (w w′ : Words) (used since : List ℕ) (m : Machine) (g : WellFormed d) (a : w′ .awake ≡ w .awake) (b : w′ .waiting ≡ w .waiting) (c : w′ .dropped ≡ w .dropped) (n : w′ .tick ≡ w .tick + 1) (h : Holds d w used since m) where
+  f : Aged d (d .«source_count») m (ageAll d m)
+  f = aged d g m (h .marks .sized)
 
-  later : (u : ℕ) → u < d .«source_count» → ageAt (ageAll d t m) u ≡ spacingOf d t (33 + u) - (getD ready u 0 - w′ .tick)
+  later : (u : ℕ) → u < d .«source_count» → ageAt (ageAll d m) u ≡ min (longestGap d u) (w′ .tick - getD since u 0)
   later u p =
-      let e : ageAt (ageAll d t m) u ≡ min (spacingOf d t (33 + u)) (ageAt m u + 1) = f .age u ∙ rw (lt-ltb u (d .«source_count») p) refl in
-      omega (arith, h .ages .here u p, h .ages .near u p, h .ages .spaced u p)
+      let e : ageAt (ageAll d m) u ≡ min (longestGap d u) (ageAt m u + 1) = f .age u ∙ rw (lt-ltb u (d .«source_count») p) refl in
+      omega (arith, h .ages .here u p, h .ages .before u p)
 
-  pub passes : Holds d t w′ used ready (ageAll d t m)
+  pub passes : Holds d w′ used since (ageAll d m)
   passes = record {
     marks = record {
       sized = f .sized;
@@ -140,9 +139,17 @@ module _ (d : Description) (t : ℕ) (w w′ : Words) (used ready : List ℕ) (m
     same-used = h .same-used ∙ sym (f .used);
     ages = record {
       many = h .ages .many;
-      spaced = h .ages .spaced;
-      near = λ u p. omega (arith, h .ages .near u p);
+      before = λ u p. omega (arith, h .ages .before u p);
       here = later;
       past = λ u p. f .age u ∙ rw (le-ltb u (d .«source_count») p) (h .ages .past u p);
     };
   }
+
+-- kept tempos none of which is below t need not be raised
+pub not-below : (t low : ℕ) (fastest : List ℕ) → t ≤ low → Above (min low t) fastest → (u : ℕ) → u < 16 → getD fastest u 0 ≡ raisedTo t (getD fastest u 0)
+not-below t low fastest h a u p = go (getD fastest u 0) (a u p)
+  where
+    go : (f : ℕ) → (f ≡ 0) ⊎ (min low t ≤ f) → f ≡ raisedTo t f
+    go zero k = refl
+    go (suc n) (inl e) = absurd (omega arith)
+    go (suc n) (inr e) = rw (ne-eqb (suc n) 0 (λ z. omega arith)) (let q : suc n ≡ max (suc n) t = omega arith in q)

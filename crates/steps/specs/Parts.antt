@@ -8,8 +8,8 @@ use Rattle.model.specs.declared.Machine.{Machine}
 use Rattle.model.specs.Run.{heard}
 
 -- a record from its parts
-abbrev pub parts : List Bool → List ℕ → List Bool → List Bool → List ℕ → Machine
-parts awake used waiting dropped ages = record { awake = awake; used = used; waiting = waiting; dropped = dropped; ages = ages }
+abbrev pub parts : List Bool → List ℕ → List Bool → List Bool → List ℕ → List ℕ → Machine
+parts awake used waiting dropped ages fastest = record { awake = awake; used = used; waiting = waiting; dropped = dropped; ages = ages; fastest = fastest }
 
 -- a mask of nothing but sources, and one of sources that exist
 abbrev pub Sourced : ℕ → Type 0

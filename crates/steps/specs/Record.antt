@@ -1,5 +1,5 @@
 -- The machine's record from words of bits, and words from a record.
-use Prim.Native.Nat.{ℕ, _+_, _-_, _≤_, _<_}
+use Prim.Native.Nat.{ℕ, _+_, _-_, _≤_, _<_, min}
 use mathlib.Core.Bool.{Bool, true, false}
 use mathlib.Core.List.{List}
 use mathlib.Core.Path.{_≡_}
@@ -25,30 +25,32 @@ AwakeIn awake r = (member r 0 ≡ false) × ((k : ℕ) → 1 ≤ k → member r 
 abbrev pub LinksOf : Wide → List Bool → Type 0
 LinksOf set r = (length r ≡ 256) × ((l : ℕ) → l < 256 → getD r l false ≡ inside set l)
 
--- ages, of the ticks at which sources may come
-pub record AgesOf (gaps : List ℕ) (sources : ℕ) (ready : List ℕ) (now : ℕ) (r : List ℕ) : Type 0 where
+-- ages, of the ticks at which they were 0
+pub record AgesOf (gaps : List ℕ) (sources : ℕ) (since : List ℕ) (now : ℕ) (r : List ℕ) : Type 0 where
   pub many : length r ≡ 16
-  pub here : (u : ℕ) → u < sources → getD r u 0 ≡ getD gaps u 0 - (getD ready u 0 - now)
+  pub here : (u : ℕ) → u < sources → getD r u 0 ≡ min (getD gaps u 0) (now - getD since u 0)
   pub past : (u : ℕ) → sources ≤ u → getD r u 0 ≡ 0
 
--- and those ticks, of ages
-pub record ReadyOf (gaps ages r : List ℕ) : Type 0 where
+-- and those ticks, of ages at the first tick
+pub record SinceOf (ages r : List ℕ) : Type 0 where
   pub many : length r ≡ 16
-  pub here : (u : ℕ) → u < 16 → getD r u 0 ≡ getD gaps u 0 - getD ages u 0
+  pub here : (u : ℕ) → u < 16 → getD r u 0 ≡ 4294967296 - getD ages u 0
 
 -- the words of the start
 pub record Begins (w : Words) : Type 0 where
   pub asleep : w .awake ≡ 0
   pub waiting : (l : ℕ) → inside (w .waiting) l ≡ false
   pub dropped : (l : ℕ) → inside (w .dropped) l ≡ false
-  pub first : w .tick ≡ 0
+  pub first : w .tick ≡ 4294967296
+  pub knob : w .tempo ≡ 0
 
--- the record that words hold
-abbrev pub Unpacks : List ℕ → ℕ → Words → List ℕ → List ℕ → Machine → Type 0
-Unpacks gaps sources w used ready r =
-    (d : Description) (t : ℕ) (m : Machine) → d .«source_count» ≡ sources → GapsOf d t gaps → Holds d t w used ready m → r ≡ m
+-- the record that words hold, the spacings being those for 20.0
+abbrev pub Unpacks : List ℕ → ℕ → Words → List ℕ → List ℕ → List ℕ → Machine → Type 0
+Unpacks gaps sources w used since fastest r =
+    (d : Description) (m : Machine) → d .«source_count» ≡ sources → GapsOf d 200 gaps → Holds d w used since m → fastest ≡ m .fastest → r ≡ m
 
 -- words that hold a record which keeps the rules
-pub record Packs (gaps : List ℕ) (m : Machine) (w : Words) (ready : List ℕ) : Type 0 where
-  pub holds : (d : Description) (t : ℕ) → WellFormed d → 200 ≤ t → t ≤ 3000 → GapsOf d t gaps → lawful d t m ≡ true → Holds d t w (m .used) ready m
-  pub first : w .tick ≡ 0
+pub record Packs (m : Machine) (w : Words) (since : List ℕ) : Type 0 where
+  pub holds : (d : Description) → WellFormed d → lawful d m ≡ true → Holds d w (m .used) since m
+  pub first : w .tick ≡ 4294967296
+  pub knob : w .tempo ≡ 0

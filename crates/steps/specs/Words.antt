@@ -1,14 +1,15 @@
 -- How words of bits hold the machine's record, and what each step on them ensures: of every record that the words hold, they hold
 -- what the plain machine's step makes of it.
-use Prim.Native.Nat.{ℕ, _+_, _-_, _^_, _≤_, _<_}
-use mathlib.Core.Bool.{Bool, true, false, _||_, _&&_}
+use Prim.Native.Nat.{ℕ, _+_, _-_, _^_, _≤_, _<_, min, max}
+use mathlib.Core.Bool.{Bool, true, false, _||_, _&&_, cond}
 use mathlib.Core.List.{List}
 use mathlib.Core.Path.{_≡_}
+use mathlib.Core.Logic.{_⊎_}
 use lib.ListN.{getD, length}
+use lib.Dec.{eqb}
 use Rattle.model.specs.declared.Description.{Description}
 use Rattle.model.specs.declared.Machine.{Machine}
-use Rattle.model.specs.Delays.{spacingOf}
-use Rattle.model.specs.Machine.{awakeAt, waitingAt, droppedAt, ageAt, setAwake, fire, arrive, highest, runTask, clearInto, endRun, ageAll}
+use Rattle.model.specs.Machine.{awakeAt, waitingAt, droppedAt, ageAt, longestGap, setAwake, fire, arrive, highest, runTask, clearInto, endRun, ageAll}
 use Rattle.theory.proofs.WellFormed.{WellFormed}
 use Rattle.assurance.proofs.Firing.{Sized}
 use Rattle.sets.specs.declared.wide.Wide.{Wide}
@@ -16,8 +17,7 @@ use Rattle.sets.specs.Sets.{member}
 use Rattle.sets.specs.Wide.{inside}
 use Rattle.wiring.specs.Rows.{RowsOf}
 use Rattle.steps.specs.declared.words.Words.{Words}
-use Rattle.spacings.specs.Gaps.{GapsOf}
-use Rattle.model.specs.Run.{marksIn}
+use Rattle.model.specs.Run.{heard, marksIn}
 use Rattle.steps.specs.Parts.{Known}
 
 -- four words of a table as a set
@@ -33,19 +33,27 @@ pub record Marks (d : Description) (w : Words) (m : Machine) : Type 0 where
   pub waiting : (l : ℕ) → inside (w .waiting) l ≡ waitingAt m l
   pub dropped : (l : ℕ) → inside (w .dropped) l ≡ droppedAt m l
 
--- the ages of a record are read off the first ticks at which sources may come
-pub record Ages (d : Description) (t now : ℕ) (ready : List ℕ) (m : Machine) : Type 0 where
-  pub many : length ready ≡ 16
-  pub spaced : (u : ℕ) → u < d .«source_count» → 1 ≤ spacingOf d t (33 + u)
-  pub near : (u : ℕ) → u < d .«source_count» → getD ready u 0 ≤ now + spacingOf d t (33 + u)
-  pub here : (u : ℕ) → u < d .«source_count» → ageAt m u ≡ spacingOf d t (33 + u) - (getD ready u 0 - now)
+-- the ages of a record are read off the ticks at which they were 0
+pub record Ages (d : Description) (now : ℕ) (since : List ℕ) (m : Machine) : Type 0 where
+  pub many : length since ≡ 16
+  pub before : (u : ℕ) → u < d .«source_count» → getD since u 0 ≤ now
+  pub here : (u : ℕ) → u < d .«source_count» → ageAt m u ≡ min (longestGap d u) (now - getD since u 0)
   pub past : (u : ℕ) → d .«source_count» ≤ u → ageAt m u ≡ 0
 
--- the words, what tasks have used and when sources may come hold a record
-pub record Holds (d : Description) (t : ℕ) (w : Words) (used ready : List ℕ) (m : Machine) : Type 0 where
+-- the words, what tasks have used and when ages were 0 hold a record but for its kept tempos
+pub record Holds (d : Description) (w : Words) (used since : List ℕ) (m : Machine) : Type 0 where
   pub marks : Marks d w m
   pub same-used : used ≡ m .used
-  pub ages : Ages d t (w .tick) ready m
+  pub ages : Ages d (w .tick) since m
+
+-- of kept tempos none is below some tempo, but 0
+abbrev pub Above : ℕ → List ℕ → Type 0
+Above low fastest = (u : ℕ) → u < 16 → (getD fastest u 0 ≡ 0) ⊎ (low ≤ getD fastest u 0)
+
+-- and its kept tempos are these
+pub record Keeps (w : Words) (fastest : List ℕ) (m : Machine) : Type 0 where
+  pub same : fastest ≡ m .fastest
+  pub above : Above (w .tempo) fastest
 
 -- the links of a set have fired, and their tasks are awake
 pub record Sent (w : Words) (out : Wide) (wakes : ℕ) (w′ : Words) : Type 0 where
@@ -53,38 +61,61 @@ pub record Sent (w : Words) (out : Wide) (wakes : ℕ) (w′ : Words) : Type 0 w
   pub waiting : (l : ℕ) → inside (w′ .waiting) l ≡ (inside (w .waiting) l || inside out l)
   pub dropped : (l : ℕ) → inside (w′ .dropped) l ≡ (inside (w .dropped) l || (inside (w .waiting) l && inside out l))
   pub then : w′ .tick ≡ w .tick
+  pub knob : w′ .tempo ≡ w .tempo
 
 -- node x has fired
 pub record Fires (rows : List ℕ) (x : ℕ) (w w′ : Words) : Type 0 where
   pub fired : (d : Description) (m : Machine) → WellFormed d → RowsOf d (d .«link_count») rows → Marks d w m → Marks d w′ (fire d x m)
   pub then : w′ .tick ≡ w .tick
+  pub knob : w′ .tempo ≡ w .tempo
 
--- the sources of a mask have arrived
-pub record Arrives (rows gaps : List ℕ) (mask : ℕ) (w : Words) (ready : List ℕ) (w′ : Words) (ready′ : List ℕ) : Type 0 where
-  pub arrived : (d : Description) (t : ℕ) (used : List ℕ) (m : Machine) → WellFormed d → RowsOf d (d .«link_count») rows → GapsOf d t gaps → Known d mask
-      → Holds d t w used ready m → Holds d t w′ used ready′ (arrive d (marksIn mask) m)
+-- a number is stored for each source of a mask below r, and for no other
+pub record Stored (mask r v : ℕ) (l₀ l : List ℕ) : Type 0 where
+  pub many : length l ≡ 16
+  pub here : (u : ℕ) → u < r → heard mask u ≡ true → getD l u 0 ≡ v
+  pub others : (u : ℕ) → heard mask u ≡ false → getD l u 0 ≡ getD l₀ u 0
+
+-- the sources of a mask have arrived at tempo t
+pub record Arrives (rows : List ℕ) (t mask : ℕ) (w : Words) (since fastest : List ℕ) (w′ : Words) (since′ fastest′ : List ℕ) : Type 0 where
+  pub arrived : (d : Description) (used : List ℕ) (m : Machine) → WellFormed d → RowsOf d (d .«link_count») rows → Known d mask
+      → Holds d w used since m → Holds d w′ used since′ (arrive d (marksIn mask) m)
+  pub kept : Stored mask 16 t fastest fastest′
   pub then : w′ .tick ≡ w .tick
+  pub knob : w′ .tempo ≡ w .tempo
 
 -- task h sleeps, and the marks on links into it are clear
 pub record Sleeps (rows : List ℕ) (h : ℕ) (w w′ : Words) : Type 0 where
   pub slept : (d : Description) (m : Machine) → WellFormed d → RowsOf d (d .«link_count») rows → 1 ≤ h → h ≤ 32 → Marks d w m → Marks d w′ (clearInto d h (setAwake h false m))
   pub then : w′ .tick ≡ w .tick
+  pub knob : w′ .tempo ≡ w .tempo
 
 -- the highest awake task of a record has run, and its run has ended if this tick ends it
 abbrev pub worked : Description → Bool → Machine → Machine
 worked d finish m = let h = highest d m in endRun d h finish (runTask h m)
 
 pub record Works (rows runs : List ℕ) (finish : Bool) (w : Words) (used : List ℕ) (w′ : Words) (used′ : List ℕ) : Type 0 where
-  pub worked-on : (d : Description) (t : ℕ) (ready : List ℕ) (m : Machine) → WellFormed d → RowsOf d (d .«link_count») rows → runs ≡ d .runs
-      → Holds d t w used ready m → Holds d t w′ used′ ready (worked d finish m)
+  pub worked-on : (d : Description) (since : List ℕ) (m : Machine) → WellFormed d → RowsOf d (d .«link_count») rows → runs ≡ d .runs
+      → Holds d w used since m → Holds d w′ used′ since (worked d finish m)
   pub then : w′ .tick ≡ w .tick
+  pub knob : w′ .tempo ≡ w .tempo
 
 -- awake tasks have places in the tables, and a tick more fits what each has used
 pub record Workable (w : Words) (used : List ℕ) : Type 0 where
   pub low : (k : ℕ) → member (w .awake) k ≡ true → (1 ≤ k) × (k ≤ 32)
   pub countable : (k : ℕ) → k < 32 → getD used k 0 + 1 < 2 ^ 32
 
--- one tick more has passed
-pub record Passes (w w′ : Words) : Type 0 where
-  pub passed : (d : Description) (t : ℕ) (used ready : List ℕ) (m : Machine) → WellFormed d → Holds d t w used ready m → Holds d t w′ used ready (ageAll d t m)
+-- a kept tempo after a tick at tempo t in which its source did not fire
+abbrev pub raisedTo : ℕ → ℕ → ℕ
+raisedTo t f = cond (eqb f 0) 0 (max f t)
+
+-- kept tempos of which none is below `low` are raised to t
+pub record Raises (t low : ℕ) (fastest fastest′ : List ℕ) : Type 0 where
+  pub many : length fastest′ ≡ 16
+  pub raised : Above (min low t) fastest → (u : ℕ) → u < 16 → getD fastest′ u 0 ≡ raisedTo t (getD fastest u 0)
+
+-- one tick more has passed, at tempo t
+pub record Passes (t : ℕ) (w : Words) (fastest : List ℕ) (w′ : Words) (fastest′ : List ℕ) : Type 0 where
+  pub passed : (d : Description) (used since : List ℕ) (m : Machine) → WellFormed d → Holds d w used since m → Holds d w′ used since (ageAll d m)
+  pub raises : Raises t (w .tempo) fastest fastest′
   pub then : w′ .tick ≡ w .tick + 1
+  pub knob : w′ .tempo ≡ t

@@ -7,12 +7,12 @@ use sets::wide;
 use sets::wide::Wide;
 ghost use mathlib.Core.Path.{_≡_};
 ghost use mathlib.Core.Bool.{false, _||_, _&&_};
-ghost use Prim.Native.Nat.{ℕ, _+_, _-_, _≤_, _<_};
+ghost use Prim.Native.Nat.{ℕ, _+_, _-_, _≤_, _<_, min};
 ghost use lib.ListN.{getD, length};
 ghost use lib.Dec.{eqb, ltb};
 ghost use Rattle.sets.specs.Sets.{member};
 ghost use Rattle.sets.specs.Wide.{inside};
-ghost use Rattle.steps.specs.Record.{AwakeOf, LinksOf, AgesOf, ReadyOf, Unpacks, Packs, Begins, AwakeIn};
+ghost use Rattle.steps.specs.Record.{AwakeOf, LinksOf, AgesOf, SinceOf, Unpacks, Packs, Begins, AwakeIn};
 
 // The words at the start: all tasks sleep and marks are clear.
 pub fn begin() -> Words
@@ -24,7 +24,8 @@ pub fn begin() -> Words
         awake: 0,
         waiting,
         dropped,
-        tick: 0,
+        tick: 4294967296,
+        tempo: 0,
     }
 }
 
@@ -107,99 +108,99 @@ fn links_of(set: Wide) -> [bool; 256]
     marks
 }
 
-// The age of a source that may come at a tick: its spacing, less the ticks until then.
-fn age_at(gap: u32, ready: u64, tick: u64) -> u32
-    ensures { λ r. ⌜ r ≡ gap - (ready - tick) ⌝ }
+// The age of a source whose age was 0 at a tick: the ticks since then, up to its longest spacing.
+fn age_at(gap: u32, since: u64, tick: u64) -> u32
+    ensures { λ r. ⌜ r ≡ min gap (tick - since) ⌝ }
 {
-    if ready <= tick {
-        return gap;
+    if tick <= since {
+        return 0;
     }
-    let left = ready - tick;
-    if left < long(gap) {
-        return gap - left as u32;
+    let age = tick - since;
+    if age < long(gap) {
+        return age as u32;
     }
-    0
+    gap
 }
 
-fn ages_of<'a>(gaps: &'a [u32; 16], sources: usize, ready: &'a [u64; 16], tick: u64) -> [u32; 16]
+fn ages_of<'a>(gaps: &'a [u32; 16], sources: usize, since: &'a [u64; 16], tick: u64) -> [u32; 16]
     requires { ⌜ sources ≤ 16 ⌝ }
-    ensures { λ r. ⌜ AgesOf (now (gaps .entry)) sources (now (ready .entry)) tick r ⌝ }
+    ensures { λ r. ⌜ AgesOf (now (gaps .entry)) sources (now (since .entry)) tick r ⌝ }
 {
     let mut ages = [0u32; 16];
     let mut u: usize = 0;
     while u < sources {
-        ages[u] = age_at(gaps[u], ready[u], tick);
+        ages[u] = age_at(gaps[u], since[u], tick);
         u += 1;
     }
     ages
 }
 
-// The tick at which a source of some age may come, counted from now.
-fn ready_at(gap: u32, age: u32) -> u64
-    ensures { λ r. ⌜ r ≡ gap - age ⌝ }
+// The tick at which the age of a source was 0, the ticks being counted from 2^32 on.
+fn since_at(age: u32) -> u64
+    ensures { λ r. ⌜ r ≡ 4294967296 - age ⌝ }
 {
-    if age < gap {
-        return long(gap - age);
-    }
-    0
+    4294967296 - long(age)
 }
 
-fn ready_of<'a>(gaps: &'a [u32; 16], ages: &'a [u32; 16]) -> [u64; 16]
-    ensures { λ r. ⌜ ReadyOf (now (gaps .entry)) (now (ages .entry)) r ⌝ }
+pub fn since_of(ages: &[u32; 16]) -> [u64; 16]
+    ensures { λ r. ⌜ SinceOf (now (ages .entry)) r ⌝ }
 {
-    let mut ready = [0u64; 16];
+    let mut since = [0u64; 16];
     let mut u: usize = 0;
     while u < 16 {
-        ready[u] = ready_at(gaps[u], ages[u]);
+        since[u] = since_at(ages[u]);
         u += 1;
     }
-    ready
+    since
 }
 
-// The record that words hold.
+// The record that words hold, with what tasks have used and the tempos that are kept.
 pub fn unpack<'a>(
     gaps: &'a [u32; 16],
     sources: usize,
     w: Words,
     used: [u32; 32],
-    ready: &'a [u64; 16],
+    since: &'a [u64; 16],
+    fastest: [u32; 16],
 ) -> Machine
     requires { ⌜ sources ≤ 16 ⌝ }
-    ensures { λ r. ⌜ Unpacks (now (gaps .entry)) sources w used (now (ready .entry)) r ⌝ }
+    ensures { λ r. ⌜ Unpacks (now (gaps .entry)) sources w used (now (since .entry)) fastest r ⌝ }
 {
     let waits = w.waiting;
     let drops = w.dropped;
     let awake = awake_of(w.awake);
     let waiting = links_of(waits);
     let dropped = links_of(drops);
-    let ages = ages_of(gaps, sources, ready, w.tick);
+    let ages = ages_of(gaps, sources, since, w.tick);
     Machine {
         awake,
         used,
         waiting,
         dropped,
         ages,
+        fastest,
     }
 }
 
-// The words of a record and the ticks at which its sources may come; what tasks have used stays as it is.
+// The words of a record and the ticks at which ages were 0; what tasks have used and the tempos that are kept stay as they are.
 pub struct Packed {
     pub words: Words,
-    pub ready: [u64; 16],
+    pub since: [u64; 16],
 }
 
-pub fn pack(gaps: &[u32; 16], m: Machine) -> Packed
-    ensures { λ r. ⌜ Packs (now (gaps .entry)) m (r .words) (r .ready) ⌝ }
+pub fn pack(m: Machine) -> Packed
+    ensures { λ r. ⌜ Packs m (r .words) (r .since) ⌝ }
 {
     let ages = m.ages;
     let waiting = links_in(&m.waiting);
     let dropped = links_in(&m.dropped);
-    let ready = ready_of(gaps, &ages);
+    let since = since_of(&ages);
     let words = Words {
         awake: awake_in(&m.awake),
         waiting,
         dropped,
-        tick: 0,
+        tick: 4294967296,
+        tempo: 0,
     };
-    Packed { words, ready }
+    Packed { words, since }
 }

@@ -5,11 +5,11 @@ use sets::wide;
 use sets::wide::Wide;
 ghost use mathlib.Core.Path.{_≡_};
 ghost use mathlib.Core.Bool.{_||_};
-ghost use Prim.Native.Nat.{_+_, _<_, _^_};
-ghost use lib.ListN.{length};
+ghost use Prim.Native.Nat.{ℕ, _+_, _<_, _^_};
+ghost use lib.ListN.{length, getD};
 ghost use lib.Dec.{eqb};
 ghost use Rattle.steps.specs.Parts.{Sourced};
-ghost use Rattle.steps.specs.Words.{wideAt, Sent, Fires, Arrives, Sleeps, Works, Workable, Passes};
+ghost use Rattle.steps.specs.Words.{wideAt, Sent, Fires, Arrives, Sleeps, Works, Workable, raisedTo, Raises, Passes};
 
 // The four words from place i on.
 fn row(rows: &[u64; 576], i: usize) -> Wide
@@ -36,6 +36,7 @@ fn send(w: Words, out: Wide, wakes: u64) -> Words
         waiting: wide::union(waiting, out),
         dropped: wide::union(dropped, missed),
         tick: w.tick,
+        tempo: w.tempo,
     }
 }
 
@@ -54,17 +55,18 @@ pub fn long(x: u32) -> u64
     x as u64
 }
 
-// Step 1: each arriving source fires, and its age becomes 0: it may come once its spacing has passed. Links out of different sources
-// are different links, so those out of all that arrive fire together.
-pub fn arrive<'a>(
-    rows: &'a [u64; 576],
-    gaps: &'a [u32; 16],
+// Step 1 at tempo t: each arriving source fires, its age becomes 0, and it keeps t. Links out of different sources are different links, so those
+// out of all that arrive fire together.
+pub fn arrive(
+    rows: &[u64; 576],
+    t: u32,
     mask: u64,
     w: Words,
-    ready: &mut [u64; 16],
+    since: &mut [u64; 16],
+    fastest: &mut [u32; 16],
 ) -> Words
-    requires { ⌜ Sourced mask × (w .tick < 2 ^ 63) × (length (now ready) ≡ 16) ⌝ }
-    ensures { λ r. ⌜ Arrives (now (rows .entry)) (now (gaps .entry)) mask w (now (ready .entry)) r (now (ready .exit)) ⌝ }
+    requires { ⌜ Sourced mask × (length (now since) ≡ 16) × (length (now fastest) ≡ 16) ⌝ }
+    ensures { λ r. ⌜ Arrives (now (rows .entry)) t mask w (now (since .entry)) (now (fastest .entry)) r (now (since .exit)) (now (fastest .exit)) ⌝ }
 {
     let mut out = wide::none();
     let mut wakes: u64 = 0;
@@ -73,7 +75,8 @@ pub fn arrive<'a>(
         let u = sets::first(rest);
         out = wide::union(out, row(rows, 9 * (33 + u)));
         wakes = sets::union(wakes, rows[9 * (33 + u) + 8]);
-        ready[u] = w.tick + long(gaps[u]);
+        since[u] = w.tick;
+        fastest[u] = t;
         rest = sets::rest(rest);
     }
     send(w, out, wakes)
@@ -92,6 +95,7 @@ fn sleep(rows: &[u64; 576], h: usize, w: Words) -> Words
         waiting: wide::without(waiting, into),
         dropped,
         tick: w.tick,
+        tempo: w.tempo,
     }
 }
 
@@ -129,11 +133,47 @@ pub fn work<'a>(
     w
 }
 
-// Step 4: ages rise by one, up to the spacing.
-pub fn pass(w: Words) -> Words
-    requires { ⌜ w .tick < 2 ^ 63 ⌝ }
-    ensures { λ r. ⌜ Passes w r ⌝ }
+// What a kept tempo becomes by a tick at tempo t: the larger of the two; 0 stays 0.
+fn raised(f: u32, t: u32) -> u32
+    ensures { λ r. ⌜ r ≡ raisedTo t f ⌝ }
 {
+    if f == 0 {
+        return 0;
+    }
+    if f < t {
+        return t;
+    }
+    f
+}
+
+fn raise(t: u32, fastest: &mut [u32; 16])
+    requires { ⌜ length (now fastest) ≡ 16 ⌝ }
+    ensures { λ _. ⌜ (length (now (fastest .exit)) ≡ 16) × ((u : ℕ) → u < 16 → getD (now (fastest .exit)) u 0 ≡ raisedTo t (getD (now (fastest .entry)) u 0)) ⌝ }
+{
+    let mut u: usize = 0;
+    while u < 16 {
+        fastest[u] = raised(fastest[u], t);
+        u += 1;
+    }
+}
+
+// Kept tempos rise up to t, none being below some tempo: if that is not below t, none is looked at.
+fn keep(t: u32, low: u32, fastest: &mut [u32; 16])
+    requires { ⌜ length (now fastest) ≡ 16 ⌝ }
+    ensures { λ _. ⌜ Raises t low (now (fastest .entry)) (now (fastest .exit)) ⌝ }
+{
+    if t <= low {
+        return;
+    }
+    raise(t, fastest)
+}
+
+// Step 4 at tempo t: ages rise by one, up to the longest spacing, and kept tempos up to t.
+pub fn pass(t: u32, w: Words, fastest: &mut [u32; 16]) -> Words
+    requires { ⌜ (w .tick < 2 ^ 63) × (length (now fastest) ≡ 16) ⌝ }
+    ensures { λ r. ⌜ Passes t w (now (fastest .entry)) r (now (fastest .exit)) ⌝ }
+{
+    keep(t, w.tempo, fastest);
     let waiting = w.waiting;
     let dropped = w.dropped;
     Words {
@@ -141,5 +181,6 @@ pub fn pass(w: Words) -> Words
         waiting,
         dropped,
         tick: w.tick + 1,
+        tempo: t,
     }
 }

@@ -2,11 +2,12 @@
 
 use sets::wide::Wide;
 
-// Bit k of awake is task k; bit l of waiting and of dropped is the link at place l. Ages are not kept: beside the words goes, for each
-// source, the first tick at which it may come, and tick counts the ticks.
+// Bit k of awake is task k; bit l of waiting and of dropped is the link at place l. tick counts the ticks, from 2^32 on. Ages are not kept: beside
+// the words goes, for each source, the tick at which its age was 0, be it before the first. No kept tempo is below tempo, but 0.
 pub struct Words {
     pub awake: u64,
     pub waiting: Wide,
     pub dropped: Wide,
     pub tick: u64,
+    pub tempo: u32,
 }

@@ -26,14 +26,14 @@ same-length c = search needs
 
 returns : tie.Need-returns
 returns c =
-    let S = c .before .before .before .before .before .before .before .before .before .before .before .before .before .before .before .before .before .before .before .before .before .before .before .before .before .before .before .before .before .before .before .before .before .before .before .before in
+    let S = @start@ in
     let m = S .args .t1 in
     let e₁ : length (m .awake) ≡ 32 = search needs in
     let e₂ : length (m .used) ≡ 32 = search needs in
     let e₃ : length (m .waiting) ≡ 256 = search needs in
     let e₄ : length (m .dropped) ≡ 256 = search needs in
     let e₅ : length (m .ages) ≡ 16 = search needs in
-    record-put m (S .args .out .now) _ _ _ _ _ (S .pre) _ _ _ _ _ e₁ e₂ e₃ e₄ e₅ (c .before .before .before .before .before .before .before .before .before .before .before .before .before .before .before .before .before .before .before .before .before .before .before .before .before .before .before .before .before .before .put-marks .ensures) (c .before .before .before .before .before .before .before .before .before .before .before .before .before .before .before .before .before .before .before .before .before .before .before .put-numbers .ensures) (c .before .before .before .before .before .before .before .before .before .before .before .before .before .before .before .before .put-marks2 .ensures) (c .before .before .before .before .before .before .before .before .before .put-marks3 .ensures) (c .before .before .put-numbers2 .ensures)
+    record-put m (S .args .out .now) _ _ _ _ _ (S .pre) _ _ _ _ _ e₁ e₂ e₃ e₄ e₅ (@put-marks@ .ensures) (@put-numbers@ .ensures) (@put-marks2@ .ensures) (@put-marks3@ .ensures) (@put-numbers2@ .ensures)
 
 pub put-record-spec : {M : Type 1} → statement M
 put-record-spec =

@@ -42,9 +42,9 @@ source-lawful-requires c κs = search needs
 
 returns : tie.Need-returns Inv-loop μ-loop
 returns c = λ d t aw wa dr us p g.
-    let S = c .before .before .before .before .before .before in
-    let L = c .before .before .before .before .before .loop in
-    all-fails (sourceRule d t (parts aw us wa dr (S .args .ages .now))) 0 16 (L .u) (c .before .before .before .before .loop-test .taken) (rw (zero-add (L .u)) (source-is d t (S .args .gaps .now) (S .args .sources) (L .u) aw wa dr us (S .args .ages .now) (c .before .source-lawful .result) p g (c .before .source-lawful .ensures) ∙ not-true _ (c .if1 .taken)))
+    let S = @start@ in
+    let L = @loop@ in
+    all-fails (sourceRule d t (parts aw us wa dr (S .args .ages .now))) 0 16 (L .u) (@loop-test@ .taken) (rw (zero-add (L .u)) (source-is d t (S .args .gaps .now) (S .args .sources) (L .u) aw wa dr us (S .args .ages .now) (@source-lawful@ .result) p g (@source-lawful@ .ensures) ∙ not-true _ (@if1@ .taken)))
 
 add-u : tie.Need-add-u Inv-loop μ-loop
 add-u c = omega arith
@@ -54,15 +54,15 @@ loop-less c = omega arith
 
 loop-again : tie.Need-loop-again Inv-loop μ-loop
 loop-again c =
-    let S = c .before .before .before .before .before .before in
-    let L = c .before .before .before .before .before .loop in
-    (omega arith, λ d t aw wa dr us p g. all-next (sourceRule d t (parts aw us wa dr (S .args .ages .now))) 0 (L .u) (L .inv .1 d t aw wa dr us p g) (rw (zero-add (L .u)) (source-is d t (S .args .gaps .now) (S .args .sources) (L .u) aw wa dr us (S .args .ages .now) (c .before .source-lawful .result) p g (c .before .source-lawful .ensures) ∙ not-false _ (c .if1 .left))))
+    let S = @start@ in
+    let L = @loop@ in
+    (omega arith, λ d t aw wa dr us p g. all-next (sourceRule d t (parts aw us wa dr (S .args .ages .now))) 0 (L .u) (L .inv .1 d t aw wa dr us p g) (rw (zero-add (L .u)) (source-is d t (S .args .gaps .now) (S .args .sources) (L .u) aw wa dr us (S .args .ages .now) (@source-lawful@ .result) p g (@source-lawful@ .ensures) ∙ not-false _ (@if1@ .left))))
 
 returns-2 : tie.Need-returns-2 Inv-loop μ-loop
 returns-2 c = λ d t aw wa dr us p g.
-    let S = c .before .before in
-    let L = c .before .loop in
-    let e : L .u ≡ 16 = omega (arith, c .loop-test .left, L .inv .0) in
+    let S = @start@ in
+    let L = @loop@ in
+    let e : L .u ≡ 16 = omega (arith, @loop-test@ .left, L .inv .0) in
     sym (ap (allN (sourceRule d t (parts aw us wa dr (S .args .ages .now))) 0) (sym e) ∙ L .inv .1 d t aw wa dr us p g)
 
 pub sources-lawful-spec : {M : Type 1} → statement M

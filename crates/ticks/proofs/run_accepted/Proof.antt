@@ -6,10 +6,10 @@ use Rattle.ticks.proofs.run_accepted.Statement.{statement}
 use Rattle.ticks.proofs.run_accepted.Tie as tie
 
 gaps-of-requires : tie.Need-gaps-of-requires
-gaps-of-requires c κs = at-known (c .before .before .args .d) (c .before .before .args .t) (typed-widths (c .before .before .args .d) _ (c .before .before .good .0)) (c .before .before .pre)
+gaps-of-requires c κs = at-known (@args@ .d) (@args@ .t) (typed-widths (@args@ .d) _ (@good@ .0)) (@pre@)
 
 run-judged-requires : tie.Need-run-judged-requires
-run-judged-requires c κs = (at-known (c .before .before .before .before .args .d) (c .before .before .before .before .args .t) (typed-widths (c .before .before .before .before .args .d) _ (c .before .before .before .before .good .0)) (c .before .before .before .before .pre) .0, c .before .before .before .before .pre, c .before .gaps-of .ensures)
+run-judged-requires c κs = (at-known (@args@ .d) (@args@ .t) (typed-widths (@args@ .d) _ (@good@ .0)) (@pre@) .0, @pre@, @gaps-of@ .ensures)
 
 same-length : tie.Need-same-length
 same-length c = search needs

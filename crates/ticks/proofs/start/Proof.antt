@@ -18,22 +18,22 @@ refused-start-requires : tie.Need-refused-start-requires
 refused-start-requires c κs = search needs
 
 returns : tie.Need-returns
-returns c = let S = c .before .before .before .before .before in let told = c .before .before .judged .given in c .refused-start .ensures ∙ start-refused (S .args .d) (S .args .t) (told .0 .0) (told .0 .1 .0) (sym (c .before .before .before .before .judge-at .ensures) ∙ told .1)
+returns c = let S = @start@ in let told = @judged@ .given in @refused-start@ .ensures ∙ start-refused (S .args .d) (S .args .t) (told .0 .0) (told .0 .1 .0) (sym (@judge-at@ .ensures) ∙ told .1)
 
 enum-told : tie.Need-enum-told
 enum-told c = search needs
 
 gaps-of-requires : tie.Need-gaps-of-requires
-gaps-of-requires c κs = at-known (c .before .before .before .args .d) (c .before .before .before .args .t) (typed-widths (c .before .before .before .args .d) _ (c .before .before .before .good .0)) (sym (c .before .before .judge-at .ensures) ∙ c .enum-told .given .1)
+gaps-of-requires c κs = at-known (@args@ .d) (@args@ .t) (typed-widths (@args@ .d) _ (@good@ .0)) (sym (@judge-at@ .ensures) ∙ @enum-told@ .given .1)
 
 begin-requires : tie.Need-begin-requires
 begin-requires c κs = search needs
 
 unpack-requires : tie.Need-unpack-requires
-unpack-requires c κs = at-known (c .before .before .before .before .before .before .before .args .d) (c .before .before .before .before .before .before .before .args .t) (typed-widths (c .before .before .before .before .before .before .before .args .d) _ (c .before .before .before .before .before .before .before .good .0)) (sym (c .before .before .before .before .before .before .judge-at .ensures) ∙ c .before .before .before .before .enum-told .given .1) .0 .fields .few-sources
+unpack-requires c κs = at-known (@args@ .d) (@args@ .t) (typed-widths (@args@ .d) _ (@good@ .0)) (sym (@judge-at@ .ensures) ∙ @enum-told@ .given .1) .0 .fields .few-sources
 
 returns-2 : tie.Need-returns-2
-returns-2 c = let S = c .before .before .before .before .before .before .before .before in let k = at-known (c .before .before .before .before .before .before .before .before .args .d) (c .before .before .before .before .before .before .before .before .args .t) (typed-widths (c .before .before .before .before .before .before .before .before .args .d) _ (c .before .before .before .before .before .before .before .before .good .0)) (sym (c .before .before .before .before .before .before .before .judge-at .ensures) ∙ c .before .before .before .before .before .enum-told .given .1) in start-done (S .args .d) (S .args .t) (c .unpack .result) (sym (c .before .before .before .before .before .before .before .judge-at .ensures) ∙ c .before .before .before .before .before .enum-told .given .1) (c .unpack .ensures (S .args .d) (S .args .t) (idle (S .args .d) (S .args .t)) refl (c .before .before .before .before .gaps-of .ensures) (begun (S .args .d) (S .args .t) (c .before .before .begin .result) (k .0) (k .1) (k .2) (c .before .before .begin .ensures)))
+returns-2 c = let S = @start@ in let k = at-known (@args@ .d) (@args@ .t) (typed-widths (@args@ .d) _ (@good@ .0)) (sym (@judge-at@ .ensures) ∙ @enum-told@ .given .1) in start-done (S .args .d) (S .args .t) (@unpack@ .result) (sym (@judge-at@ .ensures) ∙ @enum-told@ .given .1) (@unpack@ .ensures (S .args .d) (S .args .t) (idle (S .args .d) (S .args .t)) refl (@gaps-of@ .ensures) (begun (S .args .d) (S .args .t) (@begin@ .result) (k .0) (k .1) (k .2) (@begin@ .ensures)))
 
 pub start-spec : {M : Type 1} → statement M
 start-spec =

@@ -16,19 +16,19 @@ use Rattle.machine.proofs.call.advance.Tie as tie
 
 run-on-requires : tie.Need-run-on-requires
 run-on-requires c κs =
-    let S = c .before .before in
+    let S = @start@ in
     let p = S .pre in
     (workable (p .description) (p .tempo) (S .args .w) (S .args .w) (S .args .used .now) (S .args .ready .now) (S .args .ready .now) (p .machine) (p .machine) (p .tables .formed) (p .keeps) (p .holds) (p .holds), p .early)
 
 returns : tie.Need-returns
 returns c =
-    let S = c .before .before .before in
+    let S = @start@ in
     let A = S .args in
-    let v = c .run-on in
+    let v = @run-on@ in
     let used = v .last .1 .1 .1 .1 .0 in
     record {
-      ends = λ d t m T j l H. v .ensures .done ∙ ap (λ (x : Ticked). x .outcome) (tick-done d t m (record { marks = marksIn (A .call .mask) }) (A .call .finish) j l (strangers-none d (A .call .mask) (silent-known d (A .call .mask) (T .formed) (c .before .before .if1 .taken))) (silent-soon d t (A .call .mask) (A .w .tick) (A .ready .now) m (T .formed) (c .before .before .if1 .taken) (H .ages)));
-      leaves = λ d t m T j l H. subst (λ (k : Machine). Holds d t (v .result .words) used (A .ready .now) k) (ap (λ (x : Ticked). x .machine) (tick-done d t m (record { marks = marksIn (A .call .mask) }) (A .call .finish) j l (strangers-none d (A .call .mask) (silent-known d (A .call .mask) (T .formed) (c .before .before .if1 .taken))) (silent-soon d t (A .call .mask) (A .w .tick) (A .ready .now) m (T .formed) (c .before .before .if1 .taken) (H .ages)))) (subst (λ (k : Machine). Holds d t (v .result .words) used (A .ready .now) (ageAll d t (worked d (A .call .finish) k))) (silent-arrive d (A .call .mask) m (T .formed) (c .before .before .if1 .taken)) (v .ensures .ran d t (A .ready .now) m (T .formed) (T .rowed) (T .same-runs) H));
+      ends = λ d t m T j l H. v .ensures .done ∙ ap (λ (x : Ticked). x .outcome) (tick-done d t m (record { marks = marksIn (A .call .mask) }) (A .call .finish) j l (strangers-none d (A .call .mask) (silent-known d (A .call .mask) (T .formed) (@if1@ .taken))) (silent-soon d t (A .call .mask) (A .w .tick) (A .ready .now) m (T .formed) (@if1@ .taken) (H .ages)));
+      leaves = λ d t m T j l H. subst (λ (k : Machine). Holds d t (v .result .words) used (A .ready .now) k) (ap (λ (x : Ticked). x .machine) (tick-done d t m (record { marks = marksIn (A .call .mask) }) (A .call .finish) j l (strangers-none d (A .call .mask) (silent-known d (A .call .mask) (T .formed) (@if1@ .taken))) (silent-soon d t (A .call .mask) (A .w .tick) (A .ready .now) m (T .formed) (@if1@ .taken) (H .ages)))) (subst (λ (k : Machine). Holds d t (v .result .words) used (A .ready .now) (ageAll d t (worked d (A .call .finish) k))) (silent-arrive d (A .call .mask) m (T .formed) (@if1@ .taken)) (v .ensures .ran d t (A .ready .now) m (T .formed) (T .rowed) (T .same-runs) H));
       soon = omega (arith, v .ensures .then);
     }
 
@@ -40,15 +40,15 @@ refused-requires c κs = search needs
 
 returns-2 : tie.Need-returns-2
 returns-2 c =
-    let S = c .before .before .before .before in
+    let S = @start@ in
     let A = S .args in
     let few : A .sources ≤ 16 = omega (arith, S .pre .tables .as-wide, S .pre .tables .formed .fields .few-sources) in
     let w = A .w in
-    let r = c .refused in
+    let r = @refused@ in
     let soon = answer-tick (r .result) (Refused Stranger 0) w (r .ensures) in
     record {
-      ends = λ d t m T j l H. answer-ends (r .result) (Refused Stranger 0) w m _ (r .ensures) (tick-stranger d t m (record { marks = marksIn (A .call .mask) }) (A .call .finish) j l (strangers-some d (A .call .mask) (A .sources) (T .as-wide) few (S .pre .fits) (S .pre .sourced) (λ z. c .before .if2 .taken (c .before .before .above .ensures ∙ z))));
-      leaves = λ d t m T j l H. answer-holds d t (A .used .now) (A .ready .now) (r .result) (Refused Stranger 0) w m _ (r .ensures) (tick-stranger d t m (record { marks = marksIn (A .call .mask) }) (A .call .finish) j l (strangers-some d (A .call .mask) (A .sources) (T .as-wide) few (S .pre .fits) (S .pre .sourced) (λ z. c .before .if2 .taken (c .before .before .above .ensures ∙ z)))) H;
+      ends = λ d t m T j l H. answer-ends (r .result) (Refused Stranger 0) w m _ (r .ensures) (tick-stranger d t m (record { marks = marksIn (A .call .mask) }) (A .call .finish) j l (strangers-some d (A .call .mask) (A .sources) (T .as-wide) few (S .pre .fits) (S .pre .sourced) (λ z. @if2@ .taken (@above@ .ensures ∙ z))));
+      leaves = λ d t m T j l H. answer-holds d t (A .used .now) (A .ready .now) (r .result) (Refused Stranger 0) w m _ (r .ensures) (tick-stranger d t m (record { marks = marksIn (A .call .mask) }) (A .call .finish) j l (strangers-some d (A .call .mask) (A .sources) (T .as-wide) few (S .pre .fits) (S .pre .sourced) (λ z. @if2@ .taken (@above@ .ensures ∙ z)))) H;
       soon = omega (arith, soon);
     }
 
@@ -60,19 +60,19 @@ refused-requires-2 c κs = search needs
 
 returns-3 : tie.Need-returns-3
 returns-3 c =
-    let S = c .before .before .before .before .before .before .before in
+    let S = @start@ in
     let A = S .args in
     let few : A .sources ≤ 16 = omega (arith, S .pre .tables .as-wide, S .pre .tables .formed .fields .few-sources) in
     let w = A .w in
-    let r = c .refused2 in
+    let r = @refused2@ in
     let soon = answer-tick (r .result) (Refused TooSoon 0) w (r .ensures) in
     record {
       ends = λ d t m T j l H.
-          let K = known d (A .call .mask) (A .sources) (c .before .before .before .before .before .above .result) (T .as-wide) few (c .before .before .before .before .before .above .ensures) (c .before .before .before .before .if2 .left) in
-          answer-ends (r .result) (Refused TooSoon 0) w m _ (r .ensures) (tick-soon d t m (record { marks = marksIn (A .call .mask) }) (A .call .finish) j l (strangers-none d (A .call .mask) K) (sym (c .before .before .too-soon .ensures d t m K (H .ages)) ∙ c .before .if3 .taken));
+          let K = known d (A .call .mask) (A .sources) (@above@ .result) (T .as-wide) few (@above@ .ensures) (@if2@ .left) in
+          answer-ends (r .result) (Refused TooSoon 0) w m _ (r .ensures) (tick-soon d t m (record { marks = marksIn (A .call .mask) }) (A .call .finish) j l (strangers-none d (A .call .mask) K) (sym (@too-soon@ .ensures d t m K (H .ages)) ∙ @if3@ .taken));
       leaves = λ d t m T j l H.
-          let K = known d (A .call .mask) (A .sources) (c .before .before .before .before .before .above .result) (T .as-wide) few (c .before .before .before .before .before .above .ensures) (c .before .before .before .before .if2 .left) in
-          answer-holds d t (A .used .now) (A .ready .now) (r .result) (Refused TooSoon 0) w m _ (r .ensures) (tick-soon d t m (record { marks = marksIn (A .call .mask) }) (A .call .finish) j l (strangers-none d (A .call .mask) K) (sym (c .before .before .too-soon .ensures d t m K (H .ages)) ∙ c .before .if3 .taken)) H;
+          let K = known d (A .call .mask) (A .sources) (@above@ .result) (T .as-wide) few (@above@ .ensures) (@if2@ .left) in
+          answer-holds d t (A .used .now) (A .ready .now) (r .result) (Refused TooSoon 0) w m _ (r .ensures) (tick-soon d t m (record { marks = marksIn (A .call .mask) }) (A .call .finish) j l (strangers-none d (A .call .mask) K) (sym (@too-soon@ .ensures d t m K (H .ages)) ∙ @if3@ .taken)) H;
       soon = omega (arith, soon);
     }
 
@@ -81,30 +81,30 @@ arrive-requires c κs = search needs
 
 run-on-requires-2 : tie.Need-run-on-requires-2
 run-on-requires-2 c κs =
-    let S = c .before .before .before .before .before .before .before .before .before in
+    let S = @start@ in
     let A = S .args in
     let few : A .sources ≤ 16 = omega (arith, S .pre .tables .as-wide, S .pre .tables .formed .fields .few-sources) in
     let d = S .pre .description in
     let t = S .pre .tempo in
     let T = S .pre .tables in
-    (workable d t (A .w) (c .before .arrive .result) (A .used .now) (A .ready .now) (c .before .arrive .last .1 .1 .1 .1 .0) (S .pre .machine) (arrive d (marksIn (A .call .mask)) (S .pre .machine)) (T .formed) (S .pre .keeps) (S .pre .holds) (c .before .arrive .ensures .arrived d t (A .used .now) (S .pre .machine) (T .formed) (T .rowed) (T .spaced) (known d (A .call .mask) (A .sources) (c .before .before .before .before .before .before .before .above .result) (T .as-wide) few (c .before .before .before .before .before .before .before .above .ensures) (c .before .before .before .before .before .before .if2 .left)) (S .pre .holds)), omega (arith, S .pre .early, c .before .arrive .ensures .then))
+    (workable d t (A .w) (@arrive@ .result) (A .used .now) (A .ready .now) (@arrive@ .last .1 .1 .1 .1 .0) (S .pre .machine) (arrive d (marksIn (A .call .mask)) (S .pre .machine)) (T .formed) (S .pre .keeps) (S .pre .holds) (@arrive@ .ensures .arrived d t (A .used .now) (S .pre .machine) (T .formed) (T .rowed) (T .spaced) (known d (A .call .mask) (A .sources) (@above@ .result) (T .as-wide) few (@above@ .ensures) (@if2@ .left)) (S .pre .holds)), omega (arith, S .pre .early, @arrive@ .ensures .then))
 
 returns-4 : tie.Need-returns-4
 returns-4 c =
-    let S = c .before .before .before .before .before .before .before .before .before .before in
+    let S = @start@ in
     let A = S .args in
     let few : A .sources ≤ 16 = omega (arith, S .pre .tables .as-wide, S .pre .tables .formed .fields .few-sources) in
-    let a = c .before .before .arrive in
-    let v = c .run-on2 in
+    let a = @arrive@ in
+    let v = @run-on2@ in
     let ready = a .last .1 .1 .1 .1 .0 in
     let used = v .last .1 .1 .1 .1 .0 in
     record {
       ends = λ d t m T j l H.
-          let K = known d (A .call .mask) (A .sources) (c .before .before .before .before .before .before .before .before .above .result) (T .as-wide) few (c .before .before .before .before .before .before .before .before .above .ensures) (c .before .before .before .before .before .before .before .if2 .left) in
-          v .ensures .done ∙ ap (λ (x : Ticked). x .outcome) (tick-done d t m (record { marks = marksIn (A .call .mask) }) (A .call .finish) j l (strangers-none d (A .call .mask) K) (sym (c .before .before .before .before .before .too-soon .ensures d t m K (H .ages)) ∙ c .before .before .before .before .if3 .left));
+          let K = known d (A .call .mask) (A .sources) (@above@ .result) (T .as-wide) few (@above@ .ensures) (@if2@ .left) in
+          v .ensures .done ∙ ap (λ (x : Ticked). x .outcome) (tick-done d t m (record { marks = marksIn (A .call .mask) }) (A .call .finish) j l (strangers-none d (A .call .mask) K) (sym (@too-soon@ .ensures d t m K (H .ages)) ∙ @if3@ .left));
       leaves = λ d t m T j l H.
-          let K = known d (A .call .mask) (A .sources) (c .before .before .before .before .before .before .before .before .above .result) (T .as-wide) few (c .before .before .before .before .before .before .before .before .above .ensures) (c .before .before .before .before .before .before .before .if2 .left) in
-          subst (λ (k : Machine). Holds d t (v .result .words) used ready k) (ap (λ (x : Ticked). x .machine) (tick-done d t m (record { marks = marksIn (A .call .mask) }) (A .call .finish) j l (strangers-none d (A .call .mask) K) (sym (c .before .before .before .before .before .too-soon .ensures d t m K (H .ages)) ∙ c .before .before .before .before .if3 .left))) (v .ensures .ran d t ready (arrive d (marksIn (A .call .mask)) m) (T .formed) (T .rowed) (T .same-runs) (a .ensures .arrived d t (A .used .now) m (T .formed) (T .rowed) (T .spaced) K H));
+          let K = known d (A .call .mask) (A .sources) (@above@ .result) (T .as-wide) few (@above@ .ensures) (@if2@ .left) in
+          subst (λ (k : Machine). Holds d t (v .result .words) used ready k) (ap (λ (x : Ticked). x .machine) (tick-done d t m (record { marks = marksIn (A .call .mask) }) (A .call .finish) j l (strangers-none d (A .call .mask) K) (sym (@too-soon@ .ensures d t m K (H .ages)) ∙ @if3@ .left))) (v .ensures .ran d t ready (arrive d (marksIn (A .call .mask)) m) (T .formed) (T .rowed) (T .same-runs) (a .ensures .arrived d t (A .used .now) m (T .formed) (T .rowed) (T .spaced) K H));
       soon = omega (arith, v .ensures .then, a .ensures .then);
     }
 

@@ -11,15 +11,15 @@ work-requires : tie.Need-work-requires
 work-requires c κs = search needs
 
 pass-requires : tie.Need-pass-requires
-pass-requires c κs = omega (arith, c .before .before .pre .1, c .work .ensures .then)
+pass-requires c κs = omega (arith, @pre@ .1, @work@ .ensures .then)
 
 returns : tie.Need-returns
 returns c =
-    let S = c .before .before .before in
+    let S = @start@ in
     record {
       done = refl;
-      ran = λ d t ready m g r s H. c .pass .ensures .passed d t (c .before .work .last .1 .1 .1 .1 .0) ready (worked d (S .args .finish) m) g (c .before .work .ensures .worked-on d t ready m g r s H);
-      then = c .pass .ensures .then ∙ ap (λ k. k + 1) (c .before .work .ensures .then);
+      ran = λ d t ready m g r s H. @pass@ .ensures .passed d t (@work@ .last .1 .1 .1 .1 .0) ready (worked d (S .args .finish) m) g (@work@ .ensures .worked-on d t ready m g r s H);
+      then = @pass@ .ensures .then ∙ ap (λ k. k + 1) (@work@ .ensures .then);
     }
 
 pub run-on-spec : {M : Type 1} → statement M

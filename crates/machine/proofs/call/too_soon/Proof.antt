@@ -18,42 +18,42 @@ abbrev μ-loop : tie.MeasureT-loop
 μ-loop mask ready tick rest₀ rest = rest
 
 loop-holds : tie.Need-loop-holds Inv-loop μ-loop
-loop-holds c = (0, rest-all (c .args .mask), λ u h e. absurd (omega arith))
+loop-holds c = (0, rest-all (@args@ .mask), λ u h e. absurd (omega arith))
 
 first-requires : tie.Need-first-requires Inv-loop μ-loop
 first-requires c κs = search needs
 
 mul-if1 : tie.Need-mul-if1 Inv-loop μ-loop
-mul-if1 c = omega (arith, least (c .before .before .before .args .mask) (c .before .before .loop .inv .0) (c .before .before .loop .rest) (c .first .result) (c .before .before .before .pre) (c .before .before .loop .inv .1) (c .first .ensures))
+mul-if1 c = omega (arith, least (@args@ .mask) (@loop@ .inv .0) (@loop@ .rest) (@first@ .result) (@pre@) (@loop@ .inv .1) (@first@ .ensures))
 
 element-copy-out-if1 : tie.Need-element-copy-out-if1 Inv-loop μ-loop
-element-copy-out-if1 c = omega (arith, least (c .before .before .before .args .mask) (c .before .before .loop .inv .0) (c .before .before .loop .rest) (c .first .result) (c .before .before .before .pre) (c .before .before .loop .inv .1) (c .first .ensures))
+element-copy-out-if1 c = omega (arith, least (@args@ .mask) (@loop@ .inv .0) (@loop@ .rest) (@first@ .result) (@pre@) (@loop@ .inv .1) (@first@ .ensures))
 
 returns : tie.Need-returns Inv-loop μ-loop
 returns c = λ d t m k a.
-    let S = c .before .before .before .before .before in
-    let L = c .before .before .before .before .loop in
-    soon-one d t (S .args .mask) (c .before .before .first .result) (S .args .tick) (S .args .ready .now) m k a (here (S .args .mask) (L .inv .0) (L .rest) (c .before .before .first .result) (L .inv .1) (c .before .before .first .ensures)) (c .if1 .taken)
+    let S = @start@ in
+    let L = @loop@ in
+    soon-one d t (S .args .mask) (@first@ .result) (S .args .tick) (S .args .ready .now) m k a (here (S .args .mask) (L .inv .0) (L .rest) (@first@ .result) (L .inv .1) (@first@ .ensures)) (@if1@ .taken)
 
 rest-requires : tie.Need-rest-requires Inv-loop μ-loop
 rest-requires c κs = search needs
 
 loop-less : tie.Need-loop-less Inv-loop μ-loop
-loop-less c = c .rest .ensures .fewer
+loop-less c = @rest@ .ensures .fewer
 
 loop-again : tie.Need-loop-again Inv-loop μ-loop
 loop-again c =
-    let S = c .before .before .before .before .before .before in
-    let L = c .before .before .before .before .before .loop in
-    let u = c .before .before .before .first .result in
-    let T = turn (S .args .mask) (L .inv .0) (L .rest) u (c .rest .result) (S .pre) (L .inv .1) (c .before .before .before .first .ensures) (c .rest .ensures) in
-    (u + 1, T .after, passed (λ u. getD (S .args .ready .now) u 0 ≤ S .args .tick) (S .args .mask) (L .inv .0) u (c .rest .result) T (L .inv .2) (omega (arith, c .before .if1 .left)))
+    let S = @start@ in
+    let L = @loop@ in
+    let u = @first@ .result in
+    let T = turn (S .args .mask) (L .inv .0) (L .rest) u (@rest@ .result) (S .pre) (L .inv .1) (@first@ .ensures) (@rest@ .ensures) in
+    (u + 1, T .after, passed (λ u. getD (S .args .ready .now) u 0 ≤ S .args .tick) (S .args .mask) (L .inv .0) u (@rest@ .result) T (L .inv .2) (omega (arith, @if1@ .left)))
 
 returns-2 : tie.Need-returns-2 Inv-loop μ-loop
 returns-2 c = λ d t m k a.
-    let S = c .before .before in
-    let L = c .before .loop in
-    soon-none d t (S .args .mask) (S .args .tick) (S .args .ready .now) m k a (λ u e. L .inv .2 u (rest-under (S .args .mask) (L .inv .0) (L .rest) (L .inv .1) (c .loop-test .left) u e) e)
+    let S = @start@ in
+    let L = @loop@ in
+    soon-none d t (S .args .mask) (S .args .tick) (S .args .ready .now) m k a (λ u e. L .inv .2 u (rest-under (S .args .mask) (L .inv .0) (L .rest) (L .inv .1) (@loop-test@ .left) u e) e)
 
 pub too-soon-spec : {M : Type 1} → statement M
 too-soon-spec =

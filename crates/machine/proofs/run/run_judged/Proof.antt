@@ -14,8 +14,8 @@ same-length c = search needs
 
 returns : tie.Need-returns
 returns c =
-    let S = c .before .before .before .before .before .before .before in
-    c .before .before .run-wired .ensures (S .args .d) (S .args .t) (c .before .before .before .before .wiring-of .ensures) (S .pre .2) (S .pre .1)
+    let S = @start@ in
+    @run-wired@ .ensures (S .args .d) (S .args .t) (@wiring-of@ .ensures) (S .pre .2) (S .pre .1)
 
 pub run-judged-spec : {M : Type 1} → statement M
 run-judged-spec = tie.close (tie.spec wiring-of-requires run-wired-requires same-length returns)

@@ -13,24 +13,25 @@ links-in-requires c κs = search needs
 links-in-requires-2 : tie.Need-links-in-requires-2
 links-in-requires-2 c κs = search needs
 
-ready-of-requires : tie.Need-ready-of-requires
-ready-of-requires c κs = search needs
+since-of-requires : tie.Need-since-of-requires
+since-of-requires c κs = search needs
 
 awake-in-requires : tie.Need-awake-in-requires
 awake-in-requires c κs = search needs
 
 returns : tie.Need-returns
 returns c =
-    let m = c .before .before .before .before .before .before .before .before .before .before .before .before .args .t2 in
+    let m = c .before .before .before .before .before .before .before .before .before .before .before .before .args .t1 in
     let awakes : length (m .awake) ≡ 32 = search needs in
     let useds : length (m .used) ≡ 32 = search needs in
     let waitings : length (m .waiting) ≡ 256 = search needs in
     let droppeds : length (m .dropped) ≡ 256 = search needs in
     let old : length (m .ages) ≡ 16 = search needs in
-    let z : Sized m = record { awakes = awakes; useds = useds; waitings = waitings; droppeds = droppeds; ages = old } in
-    record { holds = λ d t g low high s l. packed d t m g low high l z (c .before .before .before .before .before .before .before .before .before .before .before .before .args .gaps .now) (c .before .before .before .ready-of .result) _ s (c .awake-in .ensures) (c .before .before .before .before .before .before .before .before .links-in .ensures) (c .before .before .before .before .before .links-in2 .ensures) (c .before .before .before .ready-of .ensures) refl; first = refl }
+    let kept : length (m .fastest) ≡ 16 = search needs in
+    let z : Sized m = record { awakes = awakes; useds = useds; waitings = waitings; droppeds = droppeds; ages = old; fastests = kept } in
+    record { holds = λ d g l. packed d m g l z (c .before .before .before .since-of .result) _ (c .awake-in .ensures) (c .before .before .before .before .before .before .before .before .links-in .ensures) (c .before .before .before .before .before .links-in2 .ensures) (c .before .before .before .since-of .ensures) refl; first = refl; knob = refl }
 
 pub pack-spec : {M : Type 1} → statement M
 pack-spec =
     tie.close
-    (tie.spec links-in-requires links-in-requires-2 ready-of-requires awake-in-requires returns)
+    (tie.spec links-in-requires links-in-requires-2 since-of-requires awake-in-requires returns)

@@ -17,7 +17,7 @@ ages-of-requires : tie.Need-ages-of-requires
 ages-of-requires c κs = search needs
 
 returns : tie.Need-returns
-returns c = λ d t m q g h. unpacked d t (c .before .before .before .before .before .before .args .gaps .now) (c .before .before .before .before .before .before .args .sources) (c .before .before .before .before .before .before .args .w) (c .before .before .before .before .before .before .args .used) (c .before .before .before .before .before .before .args .ready .now) m (c .before .before .before .awake-of .result) (c .before .before .links-of .result) (c .before .links-of2 .result) (c .ages-of .result) q g h (c .before .before .before .awake-of .ensures) (c .before .before .links-of .ensures) (c .before .links-of2 .ensures) (c .ages-of .ensures)
+returns c = λ d m q g h k. unpacked d (c .before .before .before .before .before .before .args .gaps .now) (c .before .before .before .before .before .before .args .sources) (c .before .before .before .before .before .before .args .w) (c .before .before .before .before .before .before .args .used) (c .before .before .before .before .before .before .args .since .now) (c .before .before .before .before .before .before .args .fastest) m (c .before .before .before .awake-of .result) (c .before .before .links-of .result) (c .before .links-of2 .result) (c .ages-of .result) q g h k (c .before .before .before .awake-of .ensures) (c .before .before .links-of .ensures) (c .before .links-of2 .ensures) (c .ages-of .ensures)
 
 pub unpack-spec : {M : Type 1} → statement M
 unpack-spec =

@@ -9,7 +9,7 @@ use Rattle.steps.proofs.step.work.Statement.{statement}
 use Rattle.steps.proofs.step.work.Tie as tie
 
 returns : tie.Need-returns
-returns c = record { worked-on = λ d t ready m g r s h. work-none d t (c .before .before .args .w) (c .before .before .args .used .now) ready (c .before .before .args .finish) m (c .if1 .taken) h; then = refl }
+returns c = record { worked-on = λ d since m g r s h. work-none d (c .before .before .args .w) (c .before .before .args .used .now) since (c .before .before .args .finish) m (c .if1 .taken) h; then = refl; knob = refl }
 
 last-requires : tie.Need-last-requires
 last-requires c κs = search needs
@@ -68,8 +68,9 @@ returns-2 c =
     let h = c .before .before .before .before .before .before .last .result in
     let low = c .before .before .before .before .before .before .before .before .before .pre .low (c .before .before .before .before .before .before .last .result) (c .before .before .before .before .before .before .last .ensures .in-set) in
     record {
-      worked-on = λ d t ready m g r s H. work-over d t (S .args .w) (S .args .used .now) ready (S .args .runs .now) (S .args .finish) m g s H h (getD (S .args .used .now) (h - 1) 0 + 1) (c .before .before .before .before .before .before .last .ensures) (low .0) (low .1) refl (c .before .sleep .result) (c .fire .result) (sym (c .before .before .before .ends .ensures) ∙ c .before .before .if2 .taken) (λ k. c .before .sleep .ensures .slept d k g r (low .0) (low .1)) (λ k. c .fire .ensures .fired d k g r) (c .fire .ensures .then ∙ c .before .sleep .ensures .then);
+      worked-on = λ d since m g r s H. work-over d (S .args .w) (S .args .used .now) since (S .args .runs .now) (S .args .finish) m g s H h (getD (S .args .used .now) (h - 1) 0 + 1) (c .before .before .before .before .before .before .last .ensures) (low .0) (low .1) refl (c .before .sleep .result) (c .fire .result) (sym (c .before .before .before .ends .ensures) ∙ c .before .before .if2 .taken) (λ k. c .before .sleep .ensures .slept d k g r (low .0) (low .1)) (λ k. c .fire .ensures .fired d k g r) (c .fire .ensures .then ∙ c .before .sleep .ensures .then);
       then = c .fire .ensures .then ∙ c .before .sleep .ensures .then;
+      knob = c .fire .ensures .knob ∙ c .before .sleep .ensures .knob;
     }
 
 returns-3 : tie.Need-returns-3
@@ -78,8 +79,9 @@ returns-3 c =
     let h = c .before .before .before .before .last .result in
     let low = c .before .before .before .before .before .before .before .pre .low (c .before .before .before .before .last .result) (c .before .before .before .before .last .ensures .in-set) in
     record {
-      worked-on = λ d t ready m g r s H. work-on d t (S .args .w) (S .args .used .now) ready (S .args .runs .now) (S .args .finish) m g s H h (getD (S .args .used .now) (h - 1) 0 + 1) (c .before .before .before .before .last .ensures) (low .0) (low .1) refl (sym (c .before .ends .ensures) ∙ c .if2 .left);
+      worked-on = λ d since m g r s H. work-on d (S .args .w) (S .args .used .now) since (S .args .runs .now) (S .args .finish) m g s H h (getD (S .args .used .now) (h - 1) 0 + 1) (c .before .before .before .before .last .ensures) (low .0) (low .1) refl (sym (c .before .ends .ensures) ∙ c .if2 .left);
       then = refl;
+      knob = refl;
     }
 
 pub work-spec : {M : Type 1} → statement M

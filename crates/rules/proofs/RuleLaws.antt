@@ -11,8 +11,8 @@ use borrow.Author.Tests.{ltb-true, leb-true, le-leb, lt-ltb}
 use Rattle.model.specs.declared.Description.{Description}
 use Rattle.model.specs.Basics.{allN}
 use Rattle.model.specs.Graph.{linkAt}
-use Rattle.model.specs.Delays.{spacingOf}
-use Rattle.model.specs.Machine.{taskRule, linkRule, sourceRule}
+use Rattle.model.specs.Verdicts.{onKnob}
+use Rattle.model.specs.Machine.{longestGap, taskRule, linkRule, sourceRule}
 use Rattle.lemmas.proofs.Tests.{same-test, false-of, not-both, both}
 use Rattle.lemmas.proofs.Range.{all-at}
 use Rattle.theory.proofs.Links.{to-most}
@@ -36,25 +36,28 @@ all-fails p a n k h f =
     sym (false-of (allN p a n) (λ e. not-both (all-at p a n e (a + k) (omega arith) (omega arith)) f))
 
 -- a task's rule, by its place
-pub task-is : (d : Description) (runs : List ℕ) (tasks k : ℕ) (aw wa dr : List Bool) (us ag : List ℕ) (r : Bool) → runs ≡ d .runs → d .«task_count» ≡ tasks → r ≡ cond (ltb k tasks) (ltb (getD us k 0) (getD runs k 0) && (getD aw k false || eqb (getD us k 0) 0)) (not (getD aw k false) && eqb (getD us k 0) 0) → taskRule d (parts aw us wa dr ag) (1 + k) ≡ r
-task-is d runs tasks k aw wa dr us ag r p q e =
+pub task-is : (d : Description) (runs : List ℕ) (tasks k : ℕ) (aw wa dr : List Bool) (us ag fa : List ℕ) (r : Bool) → runs ≡ d .runs → d .«task_count» ≡ tasks → r ≡ cond (ltb k tasks) (ltb (getD us k 0) (getD runs k 0) && (getD aw k false || eqb (getD us k 0) 0)) (not (getD aw k false) && eqb (getD us k 0) 0) → taskRule d (parts aw us wa dr ag fa) (1 + k) ≡ r
+task-is d runs tasks k aw wa dr us ag fa r p q e =
     let s : 1 + k - 1 ≡ k = omega arith in
     let f : leb (1 + k) tasks ≡ ltb k tasks = same-test (leb (1 + k) tasks) (ltb k tasks) (λ x. lt-ltb k tasks (omega (arith, leb-true (1 + k) tasks x))) (λ x. le-leb (1 + k) tasks (omega (arith, ltb-true k tasks x))) in
     rw (e, p, q, s, f) refl
 
 -- a link's rule
-pub link-is : (d : Description) (to : List ℕ) (n l : ℕ) (aw wa dr : List Bool) (us ag : List ℕ) (y r : Bool) → EntersOf d to n → (l < n → y ≡ getD aw (linkAt d l .to - 1) false) → r ≡ cond (ltb l n) (not (getD wa l false) || y) (not (getD wa l false) && not (getD dr l false)) → linkRule d (parts aw us wa dr ag) l ≡ r
-link-is d to n l aw wa dr us ag y r p q e = rw (e, p .many) (go (ltb l n) refl)
+pub link-is : (d : Description) (to : List ℕ) (n l : ℕ) (aw wa dr : List Bool) (us ag fa : List ℕ) (y r : Bool) → EntersOf d to n → (l < n → y ≡ getD aw (linkAt d l .to - 1) false) → r ≡ cond (ltb l n) (not (getD wa l false) || y) (not (getD wa l false) && not (getD dr l false)) → linkRule d (parts aw us wa dr ag fa) l ≡ r
+link-is d to n l aw wa dr us ag fa y r p q e = rw (e, p .many) (go (ltb l n) refl)
   where
     go : (b : Bool) → ltb l n ≡ b → cond (ltb l n) (not (getD wa l false) || getD aw (linkAt d l .to - 1) false) (not (getD wa l false) && not (getD dr l false)) ≡ cond (ltb l n) (not (getD wa l false) || y) (not (getD wa l false) && not (getD dr l false))
     go true f = rw (f, q (ltb-true l n f)) refl
     go false f = rw f refl
 
 -- a source's rule
-pub source-is : (d : Description) (t : ℕ) (gaps : List ℕ) (n u : ℕ) (aw wa dr : List Bool) (us ag : List ℕ) (r : Bool) → d .«source_count» ≡ n → GapsOf d t gaps → r ≡ cond (ltb u n) (leb (getD ag u 0) (getD gaps u 0)) (eqb (getD ag u 0) 0) → sourceRule d t (parts aw us wa dr ag) u ≡ r
-source-is d t gaps n u aw wa dr us ag r p g e = go (ltb u (d .«source_count»)) refl ∙ sym (rw (← p) at e)
+abbrev ruled : ℕ → ℕ → ℕ → Bool
+ruled gap age fastest = leb age gap && cond (eqb fastest 0) (eqb age gap) (onKnob fastest)
+
+pub source-is : (d : Description) (gaps : List ℕ) (n u : ℕ) (aw wa dr : List Bool) (us ag fa : List ℕ) (r : Bool) → d .«source_count» ≡ n → GapsOf d 200 gaps → r ≡ cond (ltb u n) (ruled (getD gaps u 0) (getD ag u 0) (getD fa u 0)) (eqb (getD ag u 0) 0 && eqb (getD fa u 0) 0) → sourceRule d (parts aw us wa dr ag fa) u ≡ r
+source-is d gaps n u aw wa dr us ag fa r p g e = go (ltb u (d .«source_count»)) refl ∙ sym (rw (← p) at e)
   where
-    go : (b : Bool) → ltb u (d .«source_count») ≡ b → cond (ltb u (d .«source_count»)) (leb (getD ag u 0) (spacingOf d t (33 + u))) (eqb (getD ag u 0) 0) ≡ cond (ltb u (d .«source_count»)) (leb (getD ag u 0) (getD gaps u 0)) (eqb (getD ag u 0) 0)
+    go : (b : Bool) → ltb u (d .«source_count») ≡ b → cond (ltb u (d .«source_count»)) (ruled (longestGap d u) (getD ag u 0) (getD fa u 0)) (eqb (getD ag u 0) 0 && eqb (getD fa u 0) 0) ≡ cond (ltb u (d .«source_count»)) (ruled (getD gaps u 0) (getD ag u 0) (getD fa u 0)) (eqb (getD ag u 0) 0 && eqb (getD fa u 0) 0)
     go true f = rw (f, g .at u (ltb-true u (d .«source_count») f)) refl
     go false f = rw f refl
 

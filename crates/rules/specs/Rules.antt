@@ -28,18 +28,18 @@ pub record Enters (to : List ℕ) (n : ℕ) : Type 0 where
 -- the rules, of the parts that each speaks of
 abbrev pub TasksLawful : List ℕ → ℕ → List Bool → List ℕ → Bool → Type 0
 TasksLawful runs tasks awake used r =
-    (d : Description) (waiting dropped : List Bool) (ages : List ℕ) → runs ≡ d .runs → d .«task_count» ≡ tasks
-    → r ≡ allN (taskRule d (parts awake used waiting dropped ages)) 1 32
+    (d : Description) (waiting dropped : List Bool) (ages fastest : List ℕ) → runs ≡ d .runs → d .«task_count» ≡ tasks
+    → r ≡ allN (taskRule d (parts awake used waiting dropped ages fastest)) 1 32
 
 abbrev pub LinksLawful : List ℕ → ℕ → List Bool → List Bool → List Bool → Bool → Type 0
 LinksLawful to n awake waiting dropped r =
-    (d : Description) (used ages : List ℕ) → EntersOf d to n
-    → r ≡ allN (linkRule d (parts awake used waiting dropped ages)) 0 256
+    (d : Description) (used ages fastest : List ℕ) → EntersOf d to n
+    → r ≡ allN (linkRule d (parts awake used waiting dropped ages fastest)) 0 256
 
-abbrev pub SourcesLawful : List ℕ → ℕ → List ℕ → Bool → Type 0
-SourcesLawful gaps sources ages r =
-    (d : Description) (t : ℕ) (awake waiting dropped : List Bool) (used : List ℕ) → d .«source_count» ≡ sources → GapsOf d t gaps
-    → r ≡ allN (sourceRule d t (parts awake used waiting dropped ages)) 0 16
+abbrev pub SourcesLawful : List ℕ → ℕ → List ℕ → List ℕ → Bool → Type 0
+SourcesLawful gaps sources ages fastest r =
+    (d : Description) (awake waiting dropped : List Bool) (used : List ℕ) → d .«source_count» ≡ sources → GapsOf d 200 gaps
+    → r ≡ allN (sourceRule d (parts awake used waiting dropped ages fastest)) 0 16
 
 abbrev pub Lawful : Wiring → List ℕ → Machine → Bool → Type 0
-Lawful w gaps m r = (d : Description) (t : ℕ) → WiringOf d w → GapsOf d t gaps → r ≡ lawful d t m
+Lawful w gaps m r = (d : Description) → WiringOf d w → GapsOf d 200 gaps → r ≡ lawful d m

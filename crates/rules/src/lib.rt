@@ -2,10 +2,12 @@
 
 use model::Machine;
 use numbers::index;
+use spacings::on_knob;
 use wiring::Wiring;
 ghost use mathlib.Core.Path.{_≡_};
 ghost use mathlib.Core.Bool.{_||_, _&&_, not, cond};
 ghost use lib.Dec.{ltb, leb, eqb};
+ghost use Rattle.model.specs.Verdicts.{onKnob};
 ghost use Rattle.rules.specs.Rules.{Enters, TasksLawful, LinksLawful, SourcesLawful, Lawful};
 
 // Used is below the longest run, and 0 for a sleeping task; nothing is set for an absent one.
@@ -85,22 +87,36 @@ fn links_lawful<'a>(
     true
 }
 
-// Ages do not exceed spacings; nothing is set for an absent source.
-fn source_lawful(here: bool, gap: u32, age: u32) -> bool
-    ensures { λ r. ⌜ r ≡ cond here (leb age gap) (eqb age 0) ⌝ }
+// Ages do not exceed the spacings for 20.0; a kept tempo is 0, with the age as at the start, or on the knob; nothing is set for an absent source.
+fn source_lawful(here: bool, gap: u32, age: u32, fastest: u32) -> bool
+    ensures { λ r. ⌜ r ≡ cond here (leb age gap && cond (eqb fastest 0) (eqb age gap) (onKnob fastest)) (eqb age 0 && eqb fastest 0) ⌝ }
 {
-    if here {
-        return age <= gap;
+    if !here {
+        if age != 0 {
+            return false;
+        }
+        return fastest == 0;
     }
-    age == 0
+    if gap < age {
+        return false;
+    }
+    if fastest == 0 {
+        return age == gap;
+    }
+    on_knob(fastest)
 }
 
-fn sources_lawful(gaps: &[u32; 16], sources: usize, ages: &[u32; 16]) -> bool
-    ensures { λ r. ⌜ SourcesLawful (now (gaps .entry)) sources (now (ages .entry)) r ⌝ }
+fn sources_lawful<'a>(
+    gaps: &[u32; 16],
+    sources: usize,
+    ages: &'a [u32; 16],
+    fastest: &'a [u32; 16],
+) -> bool
+    ensures { λ r. ⌜ SourcesLawful (now (gaps .entry)) sources (now (ages .entry)) (now (fastest .entry)) r ⌝ }
 {
     let mut u: usize = 0;
     while u < 16 {
-        if !source_lawful(u < sources, gaps[u], ages[u]) {
+        if !source_lawful(u < sources, gaps[u], ages[u], fastest[u]) {
             return false;
         }
         u += 1;
@@ -108,7 +124,7 @@ fn sources_lawful(gaps: &[u32; 16], sources: usize, ages: &[u32; 16]) -> bool
     true
 }
 
-// Whether a record keeps the rules; 16 otherwise.
+// Whether a record keeps the rules, the spacings being those for 20.0; 16 otherwise.
 pub fn lawful(w: Wiring, gaps: [u32; 16], m: Machine) -> bool
     requires { ⌜ Enters (w .to) (w .links) ⌝ }
     ensures { λ r. ⌜ Lawful w gaps m r ⌝ }
@@ -122,5 +138,5 @@ pub fn lawful(w: Wiring, gaps: [u32; 16], m: Machine) -> bool
     if !links_lawful(&w.to, links, &m.awake, &m.waiting, &m.dropped) {
         return false;
     }
-    sources_lawful(&gaps, sources, &m.ages)
+    sources_lawful(&gaps, sources, &m.ages, &m.fastest)
 }

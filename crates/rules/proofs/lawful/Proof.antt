@@ -15,31 +15,31 @@ tasks-lawful-requires c κs = search needs
 
 returns : tie.Need-returns
 unfolding lawful
-returns c = λ d t r g.
-    let m = @args@ .t3 in
-    sym (and-false-left (allN (taskRule d m) 1 32) (allN (linkRule d m) 0 256 && allN (sourceRule d t m) 0 16) (sym (@tasks-lawful@ .ensures d (m .waiting) (m .dropped) (m .ages) (r .same-runs) (r .as-many)) ∙ not-true (@tasks-lawful@ .result) (@if1@ .taken)))
+returns c = λ d r g.
+    let m = c .before .before .before .before .before .before .before .args .t3 in
+    sym (and-false-left (allN (taskRule d m) 1 32) (allN (linkRule d m) 0 256 && allN (sourceRule d m) 0 16) (sym (c .before .tasks-lawful .ensures d (m .waiting) (m .dropped) (m .ages) (m .fastest) (r .same-runs) (r .as-many)) ∙ not-true (c .before .tasks-lawful .result) (c .if1 .taken)))
 
 links-lawful-requires : tie.Need-links-lawful-requires
-links-lawful-requires c κs = @pre@
+links-lawful-requires c κs = c .before .before .before .before .before .before .before .before .before .before .before .before .before .pre
 
 returns-2 : tie.Need-returns-2
 unfolding lawful
-returns-2 c = λ d t r g.
-    let m = @args@ .t3 in
-    let w = @args@ .t1 in
-    sym (and-false-right (allN (taskRule d m) 1 32) (allN (linkRule d m) 0 256 && allN (sourceRule d t m) 0 16) (and-false-left (allN (linkRule d m) 0 256) (allN (sourceRule d t m) 0 16) (sym (@links-lawful@ .ensures d (m .used) (m .ages) (enters-of d w r)) ∙ not-true (@links-lawful@ .result) (@if2@ .taken))))
+returns-2 c = λ d r g.
+    let m = c .before .before .before .before .before .before .before .before .before .before .before .before .before .before .before .args .t3 in
+    let w = c .before .before .before .before .before .before .before .before .before .before .before .before .before .before .before .args .t1 in
+    sym (and-false-right (allN (taskRule d m) 1 32) (allN (linkRule d m) 0 256 && allN (sourceRule d m) 0 16) (and-false-left (allN (linkRule d m) 0 256) (allN (sourceRule d m) 0 16) (sym (c .before .links-lawful .ensures d (m .used) (m .ages) (m .fastest) (enters-of d w r)) ∙ not-true (c .before .links-lawful .result) (c .if2 .taken))))
 
 sources-lawful-requires : tie.Need-sources-lawful-requires
 sources-lawful-requires c κs = search needs
 
 returns-3 : tie.Need-returns-3
 unfolding lawful
-returns-3 c = λ d t r g.
-    let m = @args@ .t3 in
-    let w = @args@ .t1 in
-    @sources-lawful@ .ensures d t (m .awake) (m .waiting) (m .dropped) (m .used) (r .as-wide) g
-    ∙ sym (and-true (allN (taskRule d m) 1 32) (allN (linkRule d m) 0 256 && allN (sourceRule d t m) 0 16) (sym (@tasks-lawful@ .ensures d (m .waiting) (m .dropped) (m .ages) (r .same-runs) (r .as-many)) ∙ not-false (@tasks-lawful@ .result) (@if1@ .left))
-    ∙ and-true (allN (linkRule d m) 0 256) (allN (sourceRule d t m) 0 16) (sym (@links-lawful@ .ensures d (m .used) (m .ages) (enters-of d w r)) ∙ not-false (@links-lawful@ .result) (@if2@ .left)))
+returns-3 c = λ d r g.
+    let m = c .before .before .before .before .before .before .before .before .before .before .before .before .before .before .before .before .before .before .before .before .args .t3 in
+    let w = c .before .before .before .before .before .before .before .before .before .before .before .before .before .before .before .before .before .before .before .before .args .t1 in
+    c .sources-lawful .ensures d (m .awake) (m .waiting) (m .dropped) (m .used) (r .as-wide) g
+    ∙ sym (and-true (allN (taskRule d m) 1 32) (allN (linkRule d m) 0 256 && allN (sourceRule d m) 0 16) (sym (c .before .before .before .before .before .before .before .before .before .before .before .before .before .before .tasks-lawful .ensures d (m .waiting) (m .dropped) (m .ages) (m .fastest) (r .same-runs) (r .as-many)) ∙ not-false (c .before .before .before .before .before .before .before .before .before .before .before .before .before .before .tasks-lawful .result) (c .before .before .before .before .before .before .before .before .before .before .before .before .before .if1 .left))
+    ∙ and-true (allN (linkRule d m) 0 256) (allN (sourceRule d m) 0 16) (sym (c .before .before .before .before .before .before .links-lawful .ensures d (m .used) (m .ages) (m .fastest) (enters-of d w r)) ∙ not-false (c .before .before .before .before .before .before .links-lawful .result) (c .before .before .before .before .before .if2 .left)))
 
 pub lawful-spec : {M : Type 1} → statement M
 lawful-spec =

@@ -17,13 +17,13 @@ use Rattle.rules.proofs.sources_lawful.Statement.{statement}
 use Rattle.rules.proofs.sources_lawful.Tie as tie
 
 abbrev Inv-loop : tie.InvT-loop
-Inv-loop gaps sources ages u₀ u = (u ≤ 16) × ((d : Description) (t : ℕ) (aw wa dr : List Bool) (us : List ℕ) → d .«source_count» ≡ sources → GapsOf d t gaps → allN (sourceRule d t (parts aw us wa dr ages)) 0 u ≡ true)
+Inv-loop gaps sources ages fastest u₀ u = (u ≤ 16) × ((d : Description) (aw wa dr : List Bool) (us : List ℕ) → d .«source_count» ≡ sources → GapsOf d 200 gaps → allN (sourceRule d (parts aw us wa dr ages fastest)) 0 u ≡ true)
 
 abbrev μ-loop : tie.MeasureT-loop
-μ-loop gaps sources ages u₀ u = 16 - u
+μ-loop gaps sources ages fastest u₀ u = 16 - u
 
 loop-holds : tie.Need-loop-holds Inv-loop μ-loop
-loop-holds c = (omega arith, λ d t aw wa dr us p g. all-none _ 0)
+loop-holds c = (omega arith, λ d aw wa dr us p g. all-none _ 0)
 
 mul-source-lawful : tie.Need-mul-source-lawful Inv-loop μ-loop
 mul-source-lawful c = omega arith
@@ -37,14 +37,20 @@ mul-source-lawful-2 c = omega arith
 element-copy-out-source-lawful-2 : tie.Need-element-copy-out-source-lawful-2 Inv-loop μ-loop
 element-copy-out-source-lawful-2 c = omega arith
 
+mul-source-lawful-3 : tie.Need-mul-source-lawful-3 Inv-loop μ-loop
+mul-source-lawful-3 c = omega arith
+
+element-copy-out-source-lawful-3 : tie.Need-element-copy-out-source-lawful-3 Inv-loop μ-loop
+element-copy-out-source-lawful-3 c = omega arith
+
 source-lawful-requires : tie.Need-source-lawful-requires Inv-loop μ-loop
 source-lawful-requires c κs = search needs
 
 returns : tie.Need-returns Inv-loop μ-loop
-returns c = λ d t aw wa dr us p g.
-    let S = @start@ in
-    let L = @loop@ in
-    all-fails (sourceRule d t (parts aw us wa dr (S .args .ages .now))) 0 16 (L .u) (@loop-test@ .taken) (rw (zero-add (L .u)) (source-is d t (S .args .gaps .now) (S .args .sources) (L .u) aw wa dr us (S .args .ages .now) (@source-lawful@ .result) p g (@source-lawful@ .ensures) ∙ not-true _ (@if1@ .taken)))
+returns c = λ d aw wa dr us p g.
+    let S = c .before .before .before .before .before .before .before in
+    let L = c .before .before .before .before .before .before .loop in
+    all-fails (sourceRule d (parts aw us wa dr (S .args .ages .now) (S .args .fastest .now))) 0 16 (L .u) (c .before .before .before .before .before .loop-test .taken) (rw (zero-add (L .u)) (source-is d (S .args .gaps .now) (S .args .sources) (L .u) aw wa dr us (S .args .ages .now) (S .args .fastest .now) (c .before .source-lawful .result) p g (c .before .source-lawful .ensures) ∙ not-true _ (c .if1 .taken)))
 
 add-u : tie.Need-add-u Inv-loop μ-loop
 add-u c = omega arith
@@ -54,16 +60,16 @@ loop-less c = omega arith
 
 loop-again : tie.Need-loop-again Inv-loop μ-loop
 loop-again c =
-    let S = @start@ in
-    let L = @loop@ in
-    (omega arith, λ d t aw wa dr us p g. all-next (sourceRule d t (parts aw us wa dr (S .args .ages .now))) 0 (L .u) (L .inv .1 d t aw wa dr us p g) (rw (zero-add (L .u)) (source-is d t (S .args .gaps .now) (S .args .sources) (L .u) aw wa dr us (S .args .ages .now) (@source-lawful@ .result) p g (@source-lawful@ .ensures) ∙ not-false _ (@if1@ .left))))
+    let S = c .before .before .before .before .before .before .before in
+    let L = c .before .before .before .before .before .before .loop in
+    (omega arith, λ d aw wa dr us p g. all-next (sourceRule d (parts aw us wa dr (S .args .ages .now) (S .args .fastest .now))) 0 (L .u) (L .inv .1 d aw wa dr us p g) (rw (zero-add (L .u)) (source-is d (S .args .gaps .now) (S .args .sources) (L .u) aw wa dr us (S .args .ages .now) (S .args .fastest .now) (c .before .source-lawful .result) p g (c .before .source-lawful .ensures) ∙ not-false _ (c .if1 .left))))
 
 returns-2 : tie.Need-returns-2 Inv-loop μ-loop
-returns-2 c = λ d t aw wa dr us p g.
-    let S = @start@ in
-    let L = @loop@ in
-    let e : L .u ≡ 16 = omega (arith, @loop-test@ .left, L .inv .0) in
-    sym (ap (allN (sourceRule d t (parts aw us wa dr (S .args .ages .now))) 0) (sym e) ∙ L .inv .1 d t aw wa dr us p g)
+returns-2 c = λ d aw wa dr us p g.
+    let S = c .before .before in
+    let L = c .before .loop in
+    let e : L .u ≡ 16 = omega (arith, c .loop-test .left, L .inv .0) in
+    sym (ap (allN (sourceRule d (parts aw us wa dr (S .args .ages .now) (S .args .fastest .now))) 0) (sym e) ∙ L .inv .1 d aw wa dr us p g)
 
 pub sources-lawful-spec : {M : Type 1} → statement M
 sources-lawful-spec =
@@ -76,6 +82,8 @@ sources-lawful-spec =
     element-copy-out-source-lawful
     mul-source-lawful-2
     element-copy-out-source-lawful-2
+    mul-source-lawful-3
+    element-copy-out-source-lawful-3
     source-lawful-requires
     returns
     add-u

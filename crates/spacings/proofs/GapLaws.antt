@@ -4,7 +4,7 @@ use mathlib.Core.Path.{_≡_, refl, sym, ap, _∙_}
 use mathlib.Core.Bool.{true}
 use mathlib.Core.List.{List}
 use native.Mathlib.Omega.{arith}
-use lib.ListN.{length, getD, set, replicate}
+use lib.ListN.{length, getD, set, length-set, replicate}
 use lib.Seq.{getD-set-same, getD-set-other}
 use Rattle.model.specs.declared.Source.{Source}
 use Rattle.model.specs.declared.Description.{Description}
@@ -19,7 +19,7 @@ use Rattle.theory.proofs.WellFormed.{WellFormed}
 use Rattle.theory.proofs.Spacing.{spacing-some, spacing-most}
 use Rattle.spacings.specs.declared.Sources.{Sources}
 use Rattle.spacings.specs.Sources.{spacingBy, PlainOf, SourcesOf, Scaled}
-use Rattle.spacings.specs.Gaps.{Room, Fit, GapsBy, GapsOf}
+use Rattle.spacings.specs.Gaps.{Room, Asked, Fit, GapsBy, GapsOf}
 use Rattle.spacings.proofs.SourceLaws.{plain-spacing}
 
 -- the spacings of the first n sources
@@ -59,10 +59,13 @@ gap-place d t u =
     ap (λ (k : ℕ). spacing (getD (d .sources) k noSource .source) t) (sym e)
 
 -- the sources of a description have its spacings
+pub gap-of : (d : Description) (s : Sources) (t u : ℕ) → SourcesOf d s → u < d .«source_count» → spacingBy (getD (s .ticks) u 0) (getD (s .pulses) u 0) t ≡ spacingOf d t (33 + u)
+gap-of d s t u h p = plain-spacing (h .at u (omega (arith, h .counted))) t ∙ gap-place d t u
+
 pub gaps-of : (d : Description) (s : Sources) (t : ℕ) (gaps : List ℕ) → SourcesOf d s → GapsBy s t gaps → GapsOf d t gaps
 gaps-of d s t gaps h b =
     record {
-      at = λ u p. b .at u (omega (arith, h .counted)) ∙ plain-spacing (h .at u (omega (arith, h .counted))) t ∙ gap-place d t u;
+      at = λ u p. b .at u (omega (arith, h .counted)) ∙ gap-of d s t u h p;
       fit = rw (h .counted) at (b .fit);
     }
 
@@ -79,3 +82,17 @@ source-on d u g p =
 -- a tempo on the knob
 pub knob-is : (t : ℕ) → onKnob t ≡ true → (200 ≤ t) × (t ≤ 3000)
 knob-is t e = within 200 t 3000 e
+
+-- spacings that were asked for: none yet, and one more
+pub asked-none : (ticks pulses : List ℕ) → Asked ticks pulses (replicate 16 0) (replicate 16 0)
+asked-none ticks pulses = record { many = refl; sized = refl; at = λ u h p. absurd (omega (arith, getD-same {A = ℕ} 16 u 0)) }
+
+pub asked-more : (ticks pulses tempos gaps : List ℕ) (u t g : ℕ) → u < 16 → g ≡ spacingBy (getD ticks u 0) (getD pulses u 0) t → Asked ticks pulses tempos gaps → Asked ticks pulses (set tempos u t) (set gaps u g)
+asked-more ticks pulses tempos gaps u t g h e a = record {
+  many = length-set tempos u t ∙ a .many;
+  sized = length-set gaps u g ∙ a .sized;
+  at = λ k p. at-or-not (λ i. i < 16 → 1 ≤ getD (set tempos u t) i 0 → getD (set gaps u g) i 0 ≡ spacingBy (getD ticks i 0) (getD pulses i 0) (getD (set tempos u t) i 0)) u k
+      (λ q s. rw (getD-set-same gaps u g 0 (omega (arith, a .sized)), getD-set-same tempos u t 0 (omega (arith, a .many))) e)
+      (λ ne q s. rw (getD-set-other gaps u k g 0 ne, getD-set-other tempos u k t 0 ne) (a .at k q (rw (getD-set-other tempos u k t 0 ne) at s)))
+      p;
+}

@@ -13,6 +13,12 @@ pub record Room (gaps : List ℕ) : Type 0 where
   pub sized : length gaps ≡ 16
   pub most : (u : ℕ) → getD gaps u 0 ≤ 1000000000
 
+-- tempos that were asked for, 0 for none, and the spacings at them
+pub record Asked (ticks pulses tempos gaps : List ℕ) : Type 0 where
+  pub many : length tempos ≡ 16
+  pub sized : length gaps ≡ 16
+  pub at : (u : ℕ) → u < 16 → 1 ≤ getD tempos u 0 → getD gaps u 0 ≡ spacingBy (getD ticks u 0) (getD pulses u 0) (getD tempos u 0)
+
 -- spacings of n sources from the scale
 pub record Fit (n : ℕ) (gaps : List ℕ) : Type 0 where
   pub some : (u : ℕ) → u < n → 1 ≤ getD gaps u 0

@@ -3,13 +3,14 @@ use model::Description;
 use model::Source;
 ghost use mathlib.Core.Path.{_≡_};
 ghost use mathlib.Core.Bool.{true};
-ghost use Prim.Native.Nat.{_≤_};
+ghost use Prim.Native.Nat.{_≤_, _<_};
+ghost use lib.ListN.{getD};
 ghost use Rattle.model.specs.declared.Field.the-variants.{OfSource};
 ghost use Rattle.model.specs.Field.{onScale};
 ghost use Rattle.model.specs.Verdicts.{onKnob};
 ghost use Rattle.theory.proofs.WellFormed.{WellFormed};
 ghost use Rattle.spacings.specs.Sources.{pacedTicks, ticksIn, pulsesIn, spacingBy, sourcesWith, SourcesOf, Scaled};
-ghost use Rattle.spacings.specs.Gaps.{Room, GapsBy, GapsOf};
+ghost use Rattle.spacings.specs.Gaps.{Room, Asked, GapsBy, GapsOf};
 
 // The sources of a description in plain numbers: a paced one has pulses, and its spacing is its ticks divided by tempo and pulses; of a fixed one
 // the pulses are 0, and its spacing is its ticks.
@@ -88,6 +89,28 @@ fn spacing_by(ticks: u32, pulses: u32, t: u32) -> u32
         return ticks;
     }
     ticks / (t * pulses)
+}
+
+// The spacing of source u at tempo t. The tables have for each source the tempo that was asked for last, 0 for none, and the spacing at it: a
+// spacing is worked out only where another tempo is asked for.
+pub fn gap_at<'a>(
+    ticks: &'a [u32; 16],
+    pulses: &'a [u32; 16],
+    u: usize,
+    t: u32,
+    tempos: &mut [u32; 16],
+    gaps: &mut [u32; 16],
+) -> u32
+    requires { ⌜ (u < 16) × (getD (now pulses) u 0 ≤ 960) × (200 ≤ t) × (t ≤ 3000) × Asked (now ticks) (now pulses) (now tempos) (now gaps) ⌝ }
+    ensures { λ r. ⌜ (r ≡ spacingBy (getD (now (ticks .entry)) u 0) (getD (now (pulses .entry)) u 0) t) × Asked (now (ticks .entry)) (now (pulses .entry)) (now (tempos .exit)) (now (gaps .exit)) ⌝ }
+{
+    if tempos[u] == t {
+        return gaps[u];
+    }
+    let gap = spacing_by(ticks[u], pulses[u], t);
+    tempos[u] = t;
+    gaps[u] = gap;
+    gap
 }
 
 // Fills a lent table with the spacing of each of m sources at tempo t, from their ticks and pulses.

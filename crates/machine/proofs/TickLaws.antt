@@ -1,7 +1,8 @@
 -- The tick call on a record: its tables, its arrivals as a mask, and its answer. Assumes nothing.
 use Prim.Native.Nat.{ℕ, _+_}
 use mathlib.Core.Path.{_≡_, refl, sym, _∙_}
-use mathlib.Core.Bool.{Bool, false, _&&_}
+use mathlib.Core.Bool.{Bool, true, false, _&&_}
+use mathlib.Core.Logic.{inr}
 use mathlib.Core.List.{List}
 use native.Mathlib.Omega.{arith}
 use lib.ListN.{getD, length}
@@ -11,19 +12,37 @@ use Rattle.model.specs.declared.Description.{Description}
 use Rattle.model.specs.declared.Machine.{Machine}
 use Rattle.model.specs.declared.Ticked.{Ticked}
 use Rattle.model.specs.declared.Outcome.{Outcome}
+use Rattle.model.specs.Machine.{lawful}
 use Rattle.lemmas.proofs.Tests.{and-left}
 use Rattle.lemmas.proofs.Table.{is-tab}
+use Rattle.theory.proofs.WellFormed.{WellFormed}
 use Rattle.sets.specs.Sets.{member}
 use Rattle.wiring.specs.declared.Wiring.{Wiring}
 use Rattle.wiring.specs.Rows.{WiringOf}
-use Rattle.spacings.specs.Gaps.{GapsOf}
+use Rattle.spacings.specs.declared.Sources.{Sources}
+use Rattle.spacings.specs.Sources.{SourcesOf}
 use Rattle.model.specs.Run.{heard, marksIn}
+use Rattle.steps.specs.declared.words.Words.{Words}
 use Rattle.steps.specs.Parts.{Sourced}
-use Rattle.machine.specs.Calls.{TablesOf}
+use Rattle.steps.specs.Record.{Packs}
+use Rattle.machine.specs.Calls.{TablesOf, Tracks}
 
--- the tables of a wiring
-pub tables-of : (d : Description) (t : ℕ) (w : Wiring) (gaps : List ℕ) → WiringOf d w → GapsOf d t gaps → TablesOf d t (w .rows) (w .runs) gaps (w .sources)
-tables-of d t w gaps r g = record { formed = r .formed; rowed = r .rowed; same-runs = r .same-runs; as-wide = r .as-wide; spaced = g }
+-- the tables of a wiring and of sources
+pub tables-of : (d : Description) (w : Wiring) (s : Sources) → WiringOf d w → SourcesOf d s → TablesOf d (w .rows) (w .runs) (s .ticks) (s .pulses) (w .sources)
+tables-of d w s r h = record {
+  formed = r .formed;
+  rowed = r .rowed;
+  same-runs = r .same-runs;
+  as-wide = r .as-wide;
+  same-sources = record { counted = sym (r .as-wide); at = λ u p. h .at u (omega (arith, r .as-wide, h .counted)) };
+}
+
+-- the words of a record that keeps the rules, which say nothing of its kept tempos
+pub packed-tracks : (d : Description) (m : Machine) (w : Words) (since : List ℕ) → WellFormed d → lawful d m ≡ true → Packs m w since → Tracks d w (m .used) since (m .fastest) m
+packed-tracks d m w since g l p = record {
+  holds = p .holds d g l;
+  keeps = record { same = refl; above = λ u h. inr (omega (arith, p .knob)) };
+}
 
 -- the mask of some marks
 module _ (mask : ℕ) (marks : List Bool) (h : (j : ℕ) → member mask j ≡ (ltb j 16 && getD marks (0 + j) false)) where

@@ -3,76 +3,101 @@ use Prim.Native.Nat.{ℕ, _+_, _^_, _≤_, _<_}
 use mathlib.Core.Bool.{Bool, true}
 use mathlib.Core.List.{List}
 use mathlib.Core.Path.{_≡_}
+use lib.ListN.{getD}
 use Rattle.model.specs.declared.Description.{Description}
 use Rattle.model.specs.declared.Machine.{Machine}
 use Rattle.model.specs.declared.Arrivals.{Arrivals}
 use Rattle.model.specs.declared.Ticked.{Ticked}
 use Rattle.model.specs.declared.Outcome.the-variants.{Done}
+use Rattle.model.specs.File.{judge}
 use Rattle.model.specs.Verdicts.{judgeAt}
 use Rattle.model.specs.Machine.{ageAll, lawful, tooSoon, plainTick}
+use Rattle.model.specs.History.{plainCall}
+use Rattle.model.specs.Run.{heard, marksIn, callOf}
 use Rattle.theory.proofs.WellFormed.{WellFormed}
 use Rattle.wiring.specs.declared.Wiring.{Wiring}
 use Rattle.wiring.specs.Rows.{RowsOf, WiringOf}
+use Rattle.spacings.specs.declared.Sources.{Sources}
+use Rattle.spacings.specs.Sources.{sourcesWith, SourcesOf}
+use Rattle.spacings.specs.Gaps.{Asked, GapsOf}
 use Rattle.steps.specs.declared.words.Words.{Words}
-use Rattle.spacings.specs.Gaps.{GapsOf}
-use Rattle.model.specs.Run.{marksIn}
 use Rattle.steps.specs.Parts.{Known, Sourced}
-use Rattle.steps.specs.Words.{Ages, Holds, worked}
+use Rattle.steps.specs.Words.{Ages, Holds, Keeps, worked, Raises}
 use Rattle.machine.specs.declared.call.Call.{Call}
 use Rattle.machine.specs.declared.call.Advanced.{Advanced}
 
--- the tables of an accepted description at tempo t
-pub record TablesOf (d : Description) (t : ℕ) (rows runs gaps : List ℕ) (sources : ℕ) : Type 0 where
+-- the tables of an accepted description
+pub record TablesOf (d : Description) (rows runs ticks pulses : List ℕ) (sources : ℕ) : Type 0 where
   pub formed : WellFormed d
   pub rowed : RowsOf d (d .«link_count») rows
   pub same-runs : runs ≡ d .runs
   pub as-wide : d .«source_count» ≡ sources
-  pub spaced : GapsOf d t gaps
+  pub same-sources : SourcesOf d (sourcesWith sources ticks pulses)
 
--- an arriving source may come only later
-abbrev pub TooSoon : ℕ → List ℕ → ℕ → Bool → Type 0
-TooSoon mask ready tick r =
-    (d : Description) (t : ℕ) (m : Machine) → Known d mask → Ages d t tick ready m → r ≡ tooSoon d t (marksIn mask) m
+-- the words and tables that hold a whole record
+pub record Tracks (d : Description) (w : Words) (used since fastest : List ℕ) (m : Machine) : Type 0 where
+  pub holds : Holds d w used since m
+  pub keeps : Keeps w fastest m
 
--- steps 2 to 4 are made
-pub record RunsOn (rows runs : List ℕ) (finish : Bool) (w : Words) (used : List ℕ) (r : Advanced) (used′ : List ℕ) : Type 0 where
+-- the numbers of every arriving source are such that its spacing can be worked out
+pub record Timed (mask t : ℕ) (ticks pulses since fastest tempos gaps : List ℕ) : Type 0 where
+  pub sourced : Sourced mask
+  pub low : 200 ≤ t
+  pub high : t ≤ 3000
+  pub few : (u : ℕ) → heard mask u ≡ true → getD pulses u 0 ≤ 960
+  pub kept : (u : ℕ) → heard mask u ≡ true → getD fastest u 0 ≤ 3000
+  pub early : (u : ℕ) → heard mask u ≡ true → getD since u 0 < 2 ^ 63
+  pub asked : Asked ticks pulses tempos gaps
+
+-- whether an arriving source comes too soon
+pub record TooSoon (mask t : ℕ) (ticks pulses since fastest : List ℕ) (tick : ℕ) (r : Bool) (tempos′ gaps′ : List ℕ) : Type 0 where
+  pub told : (d : Description) (sources : ℕ) (m : Machine) → WellFormed d → SourcesOf d (sourcesWith sources ticks pulses) → Known d mask
+      → Ages d tick since m → fastest ≡ m .fastest → r ≡ tooSoon d t (marksIn mask) m
+  pub asked : Asked ticks pulses tempos′ gaps′
+
+-- steps 2 to 4 are made at tempo t
+pub record RunsOn (rows runs : List ℕ) (t : ℕ) (finish : Bool) (w : Words) (used fastest : List ℕ) (r : Advanced) (used′ fastest′ : List ℕ) : Type 0 where
   pub done : r .outcome ≡ Done
-  pub ran : (d : Description) (t : ℕ) (ready : List ℕ) (m : Machine) → WellFormed d → RowsOf d (d .«link_count») rows → runs ≡ d .runs
-      → Holds d t w used ready m → Holds d t (r .words) used′ ready (ageAll d t (worked d finish m))
+  pub ran : (d : Description) (since : List ℕ) (m : Machine) → WellFormed d → RowsOf d (d .«link_count») rows → runs ≡ d .runs
+      → Holds d w used since m → Holds d (r .words) used′ since (ageAll d (worked d finish m))
+  pub raises : Raises t (w .tempo) fastest fastest′
   pub then : r .words .tick ≡ w .tick + 1
+  pub knob : r .words .tempo ≡ t
 
 -- a call may be made: its tables are those of some accepted description, and the words hold a record that keeps the rules
-pub record Going (rows runs gaps : List ℕ) (sources mask : ℕ) (w : Words) (used ready : List ℕ) : Type 0 where
+pub record Going (rows runs ticks pulses : List ℕ) (sources mask : ℕ) (w : Words) (used since fastest tempos gaps : List ℕ) : Type 0 where
   pub description : Description
-  pub tempo : ℕ
   pub machine : Machine
-  pub tables : TablesOf description tempo rows runs gaps sources
-  pub holds : Holds description tempo w used ready machine
-  pub keeps : lawful description tempo machine ≡ true
+  pub tables : TablesOf description rows runs ticks pulses sources
+  pub tracks : Tracks description w used since fastest machine
+  pub keeps : lawful description machine ≡ true
   pub sourced : Sourced mask
   pub fits : mask < 2 ^ 64
   pub early : w .tick < 2 ^ 63
+  pub asked : Asked ticks pulses tempos gaps
 
 -- the plain machine's answer to a call
-abbrev pub plainCall : Description → ℕ → Machine → ℕ → Bool → Ticked
-plainCall d t m mask finish = plainTick d t m (record { marks = marksIn mask }) finish
+abbrev pub plainAnswer : Description → Machine → Call → Ticked
+plainAnswer d m call = plainCall d m (callOf (call .mask) (call .tempo) (call .finish))
 
 -- the call ends as the plain machine's, and its words hold the record which that leaves
-pub record Advances (rows runs gaps : List ℕ) (sources : ℕ) (call : Call) (w : Words) (used ready : List ℕ) (r : Advanced) (used′ ready′ : List ℕ) : Type 0 where
-  pub ends : (d : Description) (t : ℕ) (m : Machine) → TablesOf d t rows runs gaps sources → judgeAt d t ≡ Done → lawful d t m ≡ true → Holds d t w used ready m
-      → r .outcome ≡ plainCall d t m (call .mask) (call .finish) .outcome
-  pub leaves : (d : Description) (t : ℕ) (m : Machine) → TablesOf d t rows runs gaps sources → judgeAt d t ≡ Done → lawful d t m ≡ true → Holds d t w used ready m
-      → Holds d t (r .words) used′ ready′ (plainCall d t m (call .mask) (call .finish) .machine)
+pub record Advances (rows runs ticks pulses : List ℕ) (sources : ℕ) (call : Call) (w : Words) (used since fastest : List ℕ) (r : Advanced) (used′ since′ fastest′ tempos′ gaps′ : List ℕ) : Type 0 where
+  pub ends : (d : Description) (m : Machine) → TablesOf d rows runs ticks pulses sources → judge d ≡ Done → lawful d m ≡ true → Tracks d w used since fastest m
+      → r .outcome ≡ plainAnswer d m call .outcome
+  pub leaves : (d : Description) (m : Machine) → TablesOf d rows runs ticks pulses sources → judge d ≡ Done → lawful d m ≡ true → Tracks d w used since fastest m
+      → Tracks d (r .words) used′ since′ fastest′ (plainAnswer d m call .machine)
+  pub asked : Asked ticks pulses tempos′ gaps′
   pub soon : r .words .tick ≤ w .tick + 1
 
--- a wiring and spacings of some description and tempo that are judged as done
-pub record Accepted (w : Wiring) (gaps : List ℕ) : Type 0 where
+-- a wiring, sources and spacings for 20.0 of some description that is judged as done
+pub record Accepted (w : Wiring) (s : Sources) (longest : List ℕ) : Type 0 where
   pub description : Description
-  pub tempo : ℕ
   pub wired : WiringOf description w
-  pub spaced : GapsOf description tempo gaps
-  pub judged : judgeAt description tempo ≡ Done
+  pub same-sources : SourcesOf description s
+  pub spaced : GapsOf description 200 longest
+  pub judged : judge description ≡ Done
 
--- the tick call, the description being judged
-abbrev pub TickIs : Wiring → List ℕ → Machine → Arrivals → Bool → Ticked → Type 0
-TickIs w gaps m a finish r = (d : Description) (t : ℕ) → WiringOf d w → GapsOf d t gaps → judgeAt d t ≡ Done → r ≡ plainTick d t m a finish
+-- the tick call, the description being judged at its tempo
+abbrev pub TickIs : Wiring → Sources → List ℕ → ℕ → Machine → Arrivals → Bool → Ticked → Type 0
+TickIs w s longest t m a finish r =
+    (d : Description) → WiringOf d w → SourcesOf d s → GapsOf d 200 longest → judgeAt d t ≡ Done → r ≡ plainTick d t m a finish

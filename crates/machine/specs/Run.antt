@@ -5,19 +5,20 @@ use mathlib.Core.Path.{_≡_}
 use Rattle.model.specs.declared.Description.{Description}
 use Rattle.model.specs.declared.Ticked.{Ticked}
 use Rattle.model.specs.declared.Outcome.the-variants.{Done}
-use Rattle.model.specs.File.{filledBy}
-use Rattle.model.specs.Verdicts.{judgeAt}
+use Rattle.model.specs.File.{filledBy, judge}
 use Rattle.model.specs.History.{Call}
 use Rattle.model.specs.Run.{page, ranFrom}
 use Rattle.wiring.specs.declared.Wiring.{Wiring}
 use Rattle.wiring.specs.Rows.{WiringOf}
+use Rattle.spacings.specs.declared.Sources.{Sources}
+use Rattle.spacings.specs.Sources.{SourcesOf}
 use Rattle.spacings.specs.Gaps.{GapsOf}
 
 -- the record after the last call, or 13; and the codes of the calls in the buffer
-abbrev pub RunOf : Description → ℕ → List Call → List ℕ → List ℕ → Ticked → Type 0
-RunOf d t cs buffer buffer′ r = (r ≡ ranFrom d t cs buffer) × (buffer′ ≡ filledBy (page d t cs) buffer)
+abbrev pub RunOf : Description → List Call → List ℕ → List ℕ → Ticked → Type 0
+RunOf d cs buffer buffer′ r = (r ≡ ranFrom d cs buffer) × (buffer′ ≡ filledBy (page d cs) buffer)
 
--- the same of every accepted description and tempo whose tables are given
-abbrev pub RunIs : Wiring → List ℕ → List Call → List ℕ → List ℕ → Ticked → Type 0
-RunIs w gaps cs buffer buffer′ r =
-    (d : Description) (t : ℕ) → WiringOf d w → GapsOf d t gaps → judgeAt d t ≡ Done → RunOf d t cs buffer buffer′ r
+-- the same of every accepted description whose tables are given
+abbrev pub RunIs : Wiring → Sources → List ℕ → List Call → List ℕ → List ℕ → Ticked → Type 0
+RunIs w s longest cs buffer buffer′ r =
+    (d : Description) → WiringOf d w → SourcesOf d s → GapsOf d 200 longest → judge d ≡ Done → RunOf d cs buffer buffer′ r

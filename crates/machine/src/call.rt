@@ -2,20 +2,25 @@
 
 use model::Outcome;
 use model::Refusal;
+use spacings::gap_at;
+use spacings::on_knob;
 use steps::step::arrive;
+use steps::step::long;
 use steps::step::pass;
 use steps::step::work;
 use steps::words::Words;
 ghost use mathlib.Core.Path.{_≡_};
-ghost use Prim.Native.Nat.{_≤_, _<_, _/_, _^_};
+ghost use Prim.Native.Nat.{_+_, _≤_, _<_, _/_, _^_, max};
+ghost use lib.ListN.{length};
+ghost use lib.Dec.{ltb};
 ghost use Rattle.model.specs.declared.Outcome.the-variants.{Refused};
-ghost use Rattle.steps.specs.Parts.{Sourced};
 ghost use Rattle.steps.specs.Words.{Workable};
-ghost use Rattle.machine.specs.Calls.{TooSoon, RunsOn, Going, Advances};
+ghost use Rattle.machine.specs.Calls.{Timed, TooSoon, RunsOn, Going, Advances};
 
-// What a caller brings to a tick: the arrivals, whose bit u is source 33 + u, and finish.
+// What a caller brings to a tick: the arrivals, whose bit u is source 33 + u, the tempo, and finish.
 pub struct Call {
     pub mask: u64,
+    pub tempo: u32,
     pub finish: bool,
 }
 
@@ -33,15 +38,45 @@ fn above(mask: u64, sources: usize) -> u64
     mask >> sources
 }
 
-// 14: an arriving source may come only later.
-fn too_soon(mask: u64, ready: &[u64; 16], tick: u64) -> bool
-    requires { ⌜ Sourced mask ⌝ }
-    ensures { λ r. ⌜ TooSoon mask (now (ready .entry)) tick r ⌝ }
+// The larger of two tempos.
+fn larger(f: u32, t: u32) -> u32
+    ensures { λ r. ⌜ r ≡ max f t ⌝ }
+{
+    if f < t {
+        return t;
+    }
+    f
+}
+
+// Whether a spacing has not passed since some tick.
+fn young(since: u64, gap: u32, tick: u64) -> bool
+    requires { ⌜ since < 2 ^ 63 ⌝ }
+    ensures { λ r. ⌜ r ≡ ltb tick (since + gap) ⌝ }
+{
+    tick < since + long(gap)
+}
+
+// 14: the age of an arriving source is below its spacing at the fastest tempo given since it last fired, this tick's included.
+fn too_soon<'a>(
+    mask: u64,
+    t: u32,
+    ticks: &'a [u32; 16],
+    pulses: &'a [u32; 16],
+    since: &[u64; 16],
+    fastest: &[u32; 16],
+    tick: u64,
+    tempos: &mut [u32; 16],
+    gaps: &mut [u32; 16],
+) -> bool
+    requires { ⌜ Timed mask t (now ticks) (now pulses) (now since) (now fastest) (now tempos) (now gaps) ⌝ }
+    ensures { λ r. ⌜ TooSoon mask t (now (ticks .entry)) (now (pulses .entry)) (now (since .entry)) (now (fastest .entry)) tick r (now (tempos .exit)) (now (gaps .exit)) ⌝ }
 {
     let mut rest = mask;
     while rest != 0 {
         let u = sets::first(rest);
-        if tick < ready[u] {
+        let tempo = larger(fastest[u], t);
+        let gap = gap_at(ticks, pulses, u, tempo, &mut *tempos, &mut *gaps);
+        if young(since[u], gap, tick) {
             return true;
         }
         rest = sets::rest(rest);
@@ -57,48 +92,58 @@ fn refused(why: Refusal, words: Words) -> Advanced
     Advanced { outcome, words }
 }
 
-// Steps 2 to 4, once the arrivals have fired.
+// Steps 2 to 4 at tempo t, once the arrivals have fired.
 fn run_on<'a>(
     rows: &'a [u64; 576],
     runs: &'a [u32; 32],
+    t: u32,
     finish: bool,
     w: Words,
     used: &mut [u32; 32],
+    fastest: &mut [u32; 16],
 ) -> Advanced
-    requires { ⌜ Workable w (now used) × (w .tick < 2 ^ 63) ⌝ }
-    ensures { λ r. ⌜ RunsOn (now (rows .entry)) (now (runs .entry)) finish w (now (used .entry)) r (now (used .exit)) ⌝ }
+    requires { ⌜ Workable w (now used) × (w .tick < 2 ^ 63) × (length (now fastest) ≡ 16) ⌝ }
+    ensures { λ r. ⌜ RunsOn (now (rows .entry)) (now (runs .entry)) t finish w (now (used .entry)) (now (fastest .entry)) r (now (used .exit)) (now (fastest .exit)) ⌝ }
 {
     let worked = work(rows, runs, finish, w, used);
-    let words = pass(worked);
+    let words = pass(t, worked, fastest);
     let outcome = Outcome::Done;
     Advanced { outcome, words }
 }
 
-// 15 and 14 in this order, or else a tick. The record keeps the rules, so that 16 is not looked for.
+// 11, 15 and 14 in this order, or else a tick. The record keeps the rules, so that 16 is not looked for.
 pub fn advance<'a>(
     rows: &'a [u64; 576],
     runs: &'a [u32; 32],
-    gaps: &'a [u32; 16],
+    ticks: &'a [u32; 16],
+    pulses: &'a [u32; 16],
     sources: usize,
     call: Call,
     w: Words,
     used: &mut [u32; 32],
-    ready: &mut [u64; 16],
+    since: &mut [u64; 16],
+    fastest: &mut [u32; 16],
+    tempos: &mut [u32; 16],
+    gaps: &mut [u32; 16],
 ) -> Advanced
-    requires { ⌜ Going (now rows) (now runs) (now gaps) sources (call .mask) w (now used) (now ready) ⌝ }
-    ensures { λ r. ⌜ Advances (now (rows .entry)) (now (runs .entry)) (now (gaps .entry)) sources call w (now (used .entry)) (now (ready .entry)) r (now (used .exit)) (now (ready .exit)) ⌝ }
+    requires { ⌜ Going (now rows) (now runs) (now ticks) (now pulses) sources (call .mask) w (now used) (now since) (now fastest) (now tempos) (now gaps) ⌝ }
+    ensures { λ r. ⌜ Advances (now (rows .entry)) (now (runs .entry)) (now (ticks .entry)) (now (pulses .entry)) sources call w (now (used .entry)) (now (since .entry)) (now (fastest .entry)) r (now (used .exit)) (now (since .exit)) (now (fastest .exit)) (now (tempos .exit)) (now (gaps .exit)) ⌝ }
 {
     let mask = call.mask;
+    let t = call.tempo;
     let finish = call.finish;
+    if !on_knob(t) {
+        return refused(Refusal::OffKnob, w);
+    }
     if mask == 0 {
-        return run_on(rows, runs, finish, w, used);
+        return run_on(rows, runs, t, finish, w, used, fastest);
     }
     if above(mask, sources) != 0 {
         return refused(Refusal::Stranger, w);
     }
-    if too_soon(mask, ready, w.tick) {
+    if too_soon(mask, t, ticks, pulses, since, fastest, w.tick, tempos, gaps) {
         return refused(Refusal::TooSoon, w);
     }
-    let arrived = arrive(rows, gaps, mask, w, ready);
-    run_on(rows, runs, finish, arrived, used)
+    let arrived = arrive(rows, t, mask, w, since, &mut *fastest);
+    run_on(rows, runs, t, finish, arrived, used, fastest)
 }

@@ -10,16 +10,19 @@ use model::Refusal;
 use model::Ticked;
 use refusals::blank_machine;
 use refusals::number_of;
+use spacings::Sources;
+use spacings::gaps_by;
+use spacings::sources_of;
 use steps::record::begin;
+use steps::record::since_of;
 use steps::record::unpack;
 use wiring::Wiring;
 use wiring::wiring_of;
 ghost use mathlib.Core.Path.{_≡_};
 ghost use Prim.Native.Nat.{_<_, _^_};
 ghost use Rattle.model.specs.declared.Outcome.the-variants.{Done};
-ghost use Rattle.model.specs.Verdicts.{judgeAt};
+ghost use Rattle.model.specs.File.{judge};
 ghost use Rattle.theory.proofs.WellFormed.{WellFormed};
-ghost use Rattle.spacings.specs.Gaps.{GapsOf};
 ghost use Rattle.machine.specs.Calls.{Accepted};
 ghost use Rattle.model.specs.Refusals.{ofOutcome};
 ghost use Rattle.model.specs.Run.{callsIn};
@@ -42,57 +45,74 @@ fn bits(mask: u16) -> u64
     mask as u64
 }
 
-// The calls of a wiring from the start, four bytes each. Each call's refusal, or 0, goes to its place of the buffer; one that does
-// not hold them all is refused as too short (13).
-pub fn run_wired(w: Wiring, gaps: [u32; 16], calls: &[u8], outcomes: &mut [u8]) -> Ticked
-    requires { ⌜ Accepted w gaps ⌝ }
-    ensures { λ r. ⌜ RunIs w gaps (callsIn (now (calls .entry))) (now (outcomes .entry)) (now (outcomes .exit)) r ⌝ }
+// A tempo of two bytes.
+fn tempo_of(t: u16) -> u32
+    ensures { λ r. ⌜ r ≡ t ⌝ }
 {
-    let n = calls.len() / 4;
+    t as u32
+}
+
+// The calls of a wiring from the start, six bytes each. Each call's refusal, or 0, goes to its place of the buffer; one that does
+// not hold them all is refused as too short (13).
+pub fn run_wired(
+    w: Wiring,
+    s: Sources,
+    longest: [u32; 16],
+    calls: &[u8],
+    outcomes: &mut [u8],
+) -> Ticked
+    requires { ⌜ Accepted w s longest ⌝ }
+    ensures { λ r. ⌜ RunIs w s longest (callsIn (now (calls .entry))) (now (outcomes .entry)) (now (outcomes .exit)) r ⌝ }
+{
+    let n = calls.len() / 6;
     if outcomes.len() < n {
         return refused(Refusal::ShortPage, blank_machine());
     }
     let sources = w.sources;
     let mut words = begin();
     let mut used = [0u32; 32];
-    let mut ready = [0u64; 16];
+    let mut since = since_of(&longest);
+    let mut fastest = [0u32; 16];
+    let mut tempos = [0u32; 16];
+    let mut gaps = [0u32; 16];
     let mut i: usize = 0;
     while i < n {
-        let at = 4 * i;
+        let at = 6 * i;
         let call = Call {
             mask: bits(half_at(calls, at)),
-            finish: calls[at + 2] != 0,
+            tempo: tempo_of(half_at(calls, at + 2)),
+            finish: calls[at + 4] != 0,
         };
         let done = advance(
             &w.rows,
             &w.runs,
-            &gaps,
+            &s.ticks,
+            &s.pulses,
             sources,
             call,
             words,
             &mut used,
-            &mut ready,
+            &mut since,
+            &mut fastest,
+            &mut tempos,
+            &mut gaps,
         );
         let outcome = done.outcome;
         outcomes[i] = code(outcome);
         words = done.words;
         i += 1;
     }
-    let machine = unpack(&gaps, sources, words, used, &ready);
+    let machine = unpack(&longest, sources, words, used, &since, fastest);
     let outcome = Outcome::Done;
     Ticked { outcome, machine }
 }
 
-// The same of a description that is judged as done at tempo t, its spacings at t being given.
-pub fn run_judged(
-    d: Description,
-    t: u32,
-    gaps: [u32; 16],
-    calls: &[u8],
-    outcomes: &mut [u8],
-) -> Ticked
-    requires { ⌜ WellFormed d × (judgeAt d t ≡ Done) × GapsOf d t gaps ⌝ }
-    ensures { λ r. ⌜ RunOf d t (callsIn (now (calls .entry))) (now (outcomes .entry)) (now (outcomes .exit)) r ⌝ }
+// The same of a description that is judged as done.
+pub fn run_judged(d: Description, calls: &[u8], outcomes: &mut [u8]) -> Ticked
+    requires { ⌜ WellFormed d × (judge d ≡ Done) ⌝ }
+    ensures { λ r. ⌜ RunOf d (callsIn (now (calls .entry))) (now (outcomes .entry)) (now (outcomes .exit)) r ⌝ }
 {
-    run_wired(wiring_of(d), gaps, calls, outcomes)
+    let s = sources_of(d);
+    let longest = gaps_by(&s.ticks, &s.pulses, s.count, 200);
+    run_wired(wiring_of(d), s, longest, calls, outcomes)
 }

@@ -8,6 +8,7 @@ use model::Outcome;
 use model::Refusal;
 use model::Ticked;
 use rules::lawful;
+use spacings::Sources;
 use steps::record::pack;
 use steps::record::unpack;
 use steps::record::word_in;
@@ -37,37 +38,53 @@ pub fn refused(why: Refusal, m: Machine) -> Ticked
     }
 }
 
-// The tick call: 16, 15 and 14 in this order, or else the record one tick later.
-pub fn tick_judged(w: Wiring, gaps: [u32; 16], m: Machine, a: Arrivals, finish: bool) -> Ticked
-    requires { ⌜ Accepted w gaps ⌝ }
-    ensures { λ r. ⌜ TickIs w gaps m a finish r ⌝ }
+// The tick call at a tempo on the knob: 16, 15 and 14 in this order, or else the record one tick later.
+pub fn tick_judged(
+    w: Wiring,
+    s: Sources,
+    longest: [u32; 16],
+    t: u32,
+    m: Machine,
+    a: Arrivals,
+    finish: bool,
+) -> Ticked
+    requires { ⌜ Accepted w s longest ⌝ }
+    ensures { λ r. ⌜ TickIs w s longest t m a finish r ⌝ }
 {
-    if !lawful(w, gaps, m) {
+    if !lawful(w, longest, m) {
         return refused(Refusal::ForeignState, m);
     }
     let call = Call {
         mask: mask_of(a),
+        tempo: t,
         finish,
     };
-    let packed = pack(&gaps, m);
+    let packed = pack(m);
     let words = packed.words;
-    let mut ready = packed.ready;
+    let mut since = packed.since;
     let mut used = m.used;
+    let mut fastest = m.fastest;
+    let mut tempos = [0u32; 16];
+    let mut gaps = [0u32; 16];
     let sources = w.sources;
     let done = advance(
         &w.rows,
         &w.runs,
-        &gaps,
+        &s.ticks,
+        &s.pulses,
         sources,
         call,
         words,
         &mut used,
-        &mut ready,
+        &mut since,
+        &mut fastest,
+        &mut tempos,
+        &mut gaps,
     );
     let outcome = done.outcome;
     let left = done.words;
     Ticked {
         outcome,
-        machine: unpack(&gaps, sources, left, used, &ready),
+        machine: unpack(&longest, sources, left, used, &since, fastest),
     }
 }

@@ -1,110 +1,170 @@
--- `advance` meets its contract: a quiet tick, a stranger, a source that comes too soon, or arrivals and the steps after them. Assumes nothing.
-use Prim.Native.Nat.{_≤_}
-use mathlib.Core.Path.{sym, ap, subst, _∙_}
+-- `advance` meets its contract: a tempo off the knob, a quiet tick, a stranger, a source that comes too soon, or arrivals and the steps after them.
+-- Assumes nothing.
+use Prim.Native.Nat.{ℕ, _≤_}
+use mathlib.Core.Path.{_≡_, sym, ap, subst, _∙_}
+use mathlib.Core.Bool.{true}
+use mathlib.Core.List.{List}
 use native.Mathlib.Omega.{arith}
+use lib.ListN.{length}
+use borrow.Author.Tests.{not-true, not-false}
 use Rattle.model.specs.declared.Machine.{Machine}
 use Rattle.model.specs.declared.Ticked.{Ticked}
 use Rattle.model.specs.declared.Outcome.the-variants.{Refused}
-use Rattle.model.specs.declared.Refusal.the-variants.{TooSoon, Stranger}
+use Rattle.model.specs.declared.Refusal.the-variants.{OffKnob, TooSoon, Stranger}
+use Rattle.model.specs.Verdicts.{onKnob}
 use Rattle.model.specs.Machine.{arrive, ageAll}
 use Rattle.model.specs.Run.{marksIn}
-use Rattle.steps.specs.Words.{Holds, worked}
-use Rattle.machine.proofs.CallLaws.{known, strangers-none, strangers-some, workable, silent-known, silent-soon, silent-arrive, tick-stranger, tick-soon, tick-done, answer-ends, answer-holds, answer-tick}
+use Rattle.lemmas.proofs.Tests.{within}
+use Rattle.steps.specs.Words.{Holds, worked, Raises}
+use Rattle.machine.specs.Calls.{Going, Tracks}
+use Rattle.machine.proofs.CallLaws.{known, strangers-none, strangers-some, workable, timed, judged-at, tick-off, silent-known, silent-soon, silent-arrive, silent-stored, tracked, tick-stranger, tick-soon, tick-done, answer-ends, answer-tracks, answer-tick}
 use borrow.Author.Needs.{needs}
 use Rattle.machine.proofs.call.advance.Statement.{statement}
 use Rattle.machine.proofs.call.advance.Tie as tie
 
-run-on-requires : tie.Need-run-on-requires
-run-on-requires c κs =
-    let S = @start@ in
-    let p = S .pre in
-    (workable (p .description) (p .tempo) (S .args .w) (S .args .w) (S .args .used .now) (S .args .ready .now) (S .args .ready .now) (p .machine) (p .machine) (p .tables .formed) (p .keeps) (p .holds) (p .holds), p .early)
-
-returns : tie.Need-returns
-returns c =
-    let S = @start@ in
-    let A = S .args in
-    let v = @run-on@ in
-    let used = v .last .1 .1 .1 .1 .0 in
-    record {
-      ends = λ d t m T j l H. v .ensures .done ∙ ap (λ (x : Ticked). x .outcome) (tick-done d t m (record { marks = marksIn (A .call .mask) }) (A .call .finish) j l (strangers-none d (A .call .mask) (silent-known d (A .call .mask) (T .formed) (@if1@ .taken))) (silent-soon d t (A .call .mask) (A .w .tick) (A .ready .now) m (T .formed) (@if1@ .taken) (H .ages)));
-      leaves = λ d t m T j l H. subst (λ (k : Machine). Holds d t (v .result .words) used (A .ready .now) k) (ap (λ (x : Ticked). x .machine) (tick-done d t m (record { marks = marksIn (A .call .mask) }) (A .call .finish) j l (strangers-none d (A .call .mask) (silent-known d (A .call .mask) (T .formed) (@if1@ .taken))) (silent-soon d t (A .call .mask) (A .w .tick) (A .ready .now) m (T .formed) (@if1@ .taken) (H .ages)))) (subst (λ (k : Machine). Holds d t (v .result .words) used (A .ready .now) (ageAll d t (worked d (A .call .finish) k))) (silent-arrive d (A .call .mask) m (T .formed) (@if1@ .taken)) (v .ensures .ran d t (A .ready .now) m (T .formed) (T .rowed) (T .same-runs) H));
-      soon = omega (arith, v .ensures .then);
-    }
-
-above-requires : tie.Need-above-requires
-above-requires c κs = search needs
+on-knob-requires : tie.Need-on-knob-requires
+on-knob-requires c κs = search needs
 
 refused-requires : tie.Need-refused-requires
 refused-requires c κs = search needs
 
-returns-2 : tie.Need-returns-2
-returns-2 c =
-    let S = @start@ in
-    let A = S .args in
-    let few : A .sources ≤ 16 = omega (arith, S .pre .tables .as-wide, S .pre .tables .formed .fields .few-sources) in
-    let w = A .w in
-    let r = @refused@ in
-    let soon = answer-tick (r .result) (Refused Stranger 0) w (r .ensures) in
+returns : tie.Need-returns
+returns c =
+    let A = c .before .before .before .args in
+    let r = c .refused in
+    let off : onKnob (A .call .tempo) ≡ _ = sym (c .before .before .on-knob .ensures) ∙ not-true (c .before .before .on-knob .result) (c .before .if1 .taken) in
+    let soon = answer-tick (r .result) (Refused OffKnob 0) (A .w) (r .ensures) in
     record {
-      ends = λ d t m T j l H. answer-ends (r .result) (Refused Stranger 0) w m _ (r .ensures) (tick-stranger d t m (record { marks = marksIn (A .call .mask) }) (A .call .finish) j l (strangers-some d (A .call .mask) (A .sources) (T .as-wide) few (S .pre .fits) (S .pre .sourced) (λ z. @if2@ .taken (@above@ .ensures ∙ z))));
-      leaves = λ d t m T j l H. answer-holds d t (A .used .now) (A .ready .now) (r .result) (Refused Stranger 0) w m _ (r .ensures) (tick-stranger d t m (record { marks = marksIn (A .call .mask) }) (A .call .finish) j l (strangers-some d (A .call .mask) (A .sources) (T .as-wide) few (S .pre .fits) (S .pre .sourced) (λ z. @if2@ .taken (@above@ .ensures ∙ z)))) H;
+      ends = λ d m T j l R. answer-ends (r .result) (Refused OffKnob 0) (A .w) m _ (r .ensures) (tick-off d (A .call .tempo) m (record { marks = marksIn (A .call .mask) }) (A .call .finish) j off);
+      leaves = λ d m T j l R. answer-tracks d (A .used .now) (A .since .now) (A .fastest .now) (r .result) (Refused OffKnob 0) (A .w) m _ (r .ensures) (tick-off d (A .call .tempo) m (record { marks = marksIn (A .call .mask) }) (A .call .finish) j off) R;
+      asked = c .before .before .before .pre .asked;
       soon = omega (arith, soon);
     }
 
-too-soon-requires : tie.Need-too-soon-requires
-too-soon-requires c κs = search needs
+run-on-requires : tie.Need-run-on-requires
+run-on-requires c κs =
+    let A = c .before .before .before .before .before .args in
+    let p = c .before .before .before .before .before .pre in
+    let H = p .tracks .holds in
+    (workable (p .description) (A .w) (A .w) (A .used .now) (A .since .now) (A .since .now) (p .machine) (p .machine) (p .tables .formed) (p .keeps) H H, p .early, ap length (p .tracks .keeps .same) ∙ H .marks .sized .fastests)
+
+returns-2 : tie.Need-returns-2
+returns-2 c =
+    let A = c .before .before .before .before .before .before .args in
+    let p = c .before .before .before .before .before .before .pre in
+    let mask = A .call .mask in
+    let t = A .call .tempo in
+    let finish = A .call .finish in
+    let v = c .run-on in
+    let e : mask ≡ 0 = c .before .before .before .if2 .taken in
+    let on : onKnob t ≡ true = sym (c .before .before .before .before .before .on-knob .ensures) ∙ not-false (c .before .before .before .before .before .on-knob .result) (c .before .before .before .before .if1 .left) in
+    let used = v .last .1 .1 .1 .1 .1 .0 in
+    let fastest = v .last .1 .1 .1 .1 .1 .1 .0 in
+    let sized : length (A .fastest .now) ≡ 16 = ap length (p .tracks .keeps .same) ∙ p .tracks .holds .marks .sized .fastests in
+    record {
+      ends = λ d m T j l R. v .ensures .done ∙ ap (λ (x : Ticked). x .outcome) (tick-done d t m (record { marks = marksIn mask }) finish (judged-at d t j on) l (strangers-none d mask (silent-known d mask (T .formed) e)) (silent-soon d t mask m (T .formed) e));
+      leaves = λ d m T j l R.
+          subst (λ (k : Machine). Tracks d (v .result .words) used (A .since .now) fastest k) (ap (λ (x : Ticked). x .machine) (tick-done d t m (record { marks = marksIn mask }) finish (judged-at d t j on) l (strangers-none d mask (silent-known d mask (T .formed) e)) (silent-soon d t mask m (T .formed) e)))
+          (tracked d t mask finish (A .w) (A .used .now) (A .since .now) (A .fastest .now) (A .fastest .now) fastest m (T .formed) (within 200 t 3000 on .0) R (silent-stored mask t (A .fastest .now) sized e) (v .ensures .raises) (v .result .words) used (A .since .now) (v .ensures .knob)
+          (subst (λ (k : Machine). Holds d (v .result .words) used (A .since .now) (ageAll d (worked d finish k))) (silent-arrive d mask m (T .formed) e) (v .ensures .ran d (A .since .now) m (T .formed) (T .rowed) (T .same-runs) (R .holds))));
+      asked = p .asked;
+      soon = omega (arith, v .ensures .then);
+    }
+
+above-requires : tie.Need-above-requires
+above-requires c κs = omega (arith, c .before .before .before .pre .tables .as-wide, c .before .before .before .pre .tables .formed .fields .few-sources)
 
 refused-requires-2 : tie.Need-refused-requires-2
 refused-requires-2 c κs = search needs
 
 returns-3 : tie.Need-returns-3
 returns-3 c =
-    let S = @start@ in
-    let A = S .args in
-    let few : A .sources ≤ 16 = omega (arith, S .pre .tables .as-wide, S .pre .tables .formed .fields .few-sources) in
-    let w = A .w in
-    let r = @refused2@ in
-    let soon = answer-tick (r .result) (Refused TooSoon 0) w (r .ensures) in
+    let A = c .before .before .before .before .before .before .args in
+    let mask = A .call .mask in
+    let t = A .call .tempo in
+    let few : A .sources ≤ 16 = omega (arith, c .before .before .before .before .before .before .pre .tables .as-wide, c .before .before .before .before .before .before .pre .tables .formed .fields .few-sources) in
+    let r = c .refused2 in
+    let on : onKnob t ≡ true = sym (c .before .before .before .before .before .on-knob .ensures) ∙ not-false (c .before .before .before .before .before .on-knob .result) (c .before .before .before .before .if1 .left) in
+    let soon = answer-tick (r .result) (Refused Stranger 0) (A .w) (r .ensures) in
     record {
-      ends = λ d t m T j l H.
-          let K = known d (A .call .mask) (A .sources) (@above@ .result) (T .as-wide) few (@above@ .ensures) (@if2@ .left) in
-          answer-ends (r .result) (Refused TooSoon 0) w m _ (r .ensures) (tick-soon d t m (record { marks = marksIn (A .call .mask) }) (A .call .finish) j l (strangers-none d (A .call .mask) K) (sym (@too-soon@ .ensures d t m K (H .ages)) ∙ @if3@ .taken));
-      leaves = λ d t m T j l H.
-          let K = known d (A .call .mask) (A .sources) (@above@ .result) (T .as-wide) few (@above@ .ensures) (@if2@ .left) in
-          answer-holds d t (A .used .now) (A .ready .now) (r .result) (Refused TooSoon 0) w m _ (r .ensures) (tick-soon d t m (record { marks = marksIn (A .call .mask) }) (A .call .finish) j l (strangers-none d (A .call .mask) K) (sym (@too-soon@ .ensures d t m K (H .ages)) ∙ @if3@ .taken)) H;
+      ends = λ d m T j l R. answer-ends (r .result) (Refused Stranger 0) (A .w) m _ (r .ensures) (tick-stranger d t m (record { marks = marksIn mask }) (A .call .finish) (judged-at d t j on) l (strangers-some d mask (A .sources) (T .as-wide) few (c .before .before .before .before .before .before .pre .fits) (c .before .before .before .before .before .before .pre .sourced) (λ z. c .before .if3 .taken (c .before .before .above .ensures ∙ z))));
+      leaves = λ d m T j l R. answer-tracks d (A .used .now) (A .since .now) (A .fastest .now) (r .result) (Refused Stranger 0) (A .w) m _ (r .ensures) (tick-stranger d t m (record { marks = marksIn mask }) (A .call .finish) (judged-at d t j on) l (strangers-some d mask (A .sources) (T .as-wide) few (c .before .before .before .before .before .before .pre .fits) (c .before .before .before .before .before .before .pre .sourced) (λ z. c .before .if3 .taken (c .before .before .above .ensures ∙ z)))) R;
+      asked = c .before .before .before .before .before .before .pre .asked;
+      soon = omega (arith, soon);
+    }
+
+too-soon-requires : tie.Need-too-soon-requires
+too-soon-requires c κs =
+    let A = c .before .before .before .before .before .before .before .before .before .args in
+    let p = c .before .before .before .before .before .before .before .before .before .pre in
+    let mask = A .call .mask in
+    let few : A .sources ≤ 16 = omega (arith, p .tables .as-wide, p .tables .formed .fields .few-sources) in
+    let on : onKnob (A .call .tempo) ≡ true = sym (c .before .before .before .before .before .before .before .before .on-knob .ensures) ∙ not-false (c .before .before .before .before .before .before .before .before .on-knob .result) (c .before .before .before .before .before .before .before .if1 .left) in
+    timed (p .description) (A .call .tempo) mask (A .sources) (A .w) (A .rows .now) (A .runs .now) (A .ticks .now) (A .pulses .now) (A .used .now) (A .since .now) (A .fastest .now) (A .tempos .now) (A .gaps .now) (p .machine) (p .tables) (p .tracks) (p .keeps) (p .early) (p .asked) (p .sourced) (known (p .description) mask (A .sources) (c .before .before .before .before .before .above .result) (p .tables .as-wide) few (c .before .before .before .before .before .above .ensures) (c .before .before .before .before .if3 .left)) on
+
+refused-requires-3 : tie.Need-refused-requires-3
+refused-requires-3 c κs = search needs
+
+returns-4 : tie.Need-returns-4
+returns-4 c =
+    let A = c .before .before .before .before .before .before .before .before .before .before .before .before .args in
+    let mask = A .call .mask in
+    let t = A .call .tempo in
+    let few : A .sources ≤ 16 = omega (arith, c .before .before .before .before .before .before .before .before .before .before .before .before .pre .tables .as-wide, c .before .before .before .before .before .before .before .before .before .before .before .before .pre .tables .formed .fields .few-sources) in
+    let r = c .refused3 in
+    let on : onKnob t ≡ true = sym (c .before .before .before .before .before .before .before .before .before .before .before .on-knob .ensures) ∙ not-false (c .before .before .before .before .before .before .before .before .before .before .before .on-knob .result) (c .before .before .before .before .before .before .before .before .before .before .if1 .left) in
+    let soon = answer-tick (r .result) (Refused TooSoon 0) (A .w) (r .ensures) in
+    record {
+      ends = λ d m T j l R.
+          let K = known d mask (A .sources) (c .before .before .before .before .before .before .before .before .above .result) (T .as-wide) few (c .before .before .before .before .before .before .before .before .above .ensures) (c .before .before .before .before .before .before .before .if3 .left) in
+          answer-ends (r .result) (Refused TooSoon 0) (A .w) m _ (r .ensures) (tick-soon d t m (record { marks = marksIn mask }) (A .call .finish) (judged-at d t j on) l (strangers-none d mask K) (sym (c .before .before .too-soon .ensures .told d (A .sources) m (T .formed) (T .same-sources) K (R .holds .ages) (R .keeps .same)) ∙ c .before .if4 .taken));
+      leaves = λ d m T j l R.
+          let K = known d mask (A .sources) (c .before .before .before .before .before .before .before .before .above .result) (T .as-wide) few (c .before .before .before .before .before .before .before .before .above .ensures) (c .before .before .before .before .before .before .before .if3 .left) in
+          answer-tracks d (A .used .now) (A .since .now) (A .fastest .now) (r .result) (Refused TooSoon 0) (A .w) m _ (r .ensures) (tick-soon d t m (record { marks = marksIn mask }) (A .call .finish) (judged-at d t j on) l (strangers-none d mask K) (sym (c .before .before .too-soon .ensures .told d (A .sources) m (T .formed) (T .same-sources) K (R .holds .ages) (R .keeps .same)) ∙ c .before .if4 .taken)) R;
+      asked = c .before .before .too-soon .ensures .asked;
       soon = omega (arith, soon);
     }
 
 arrive-requires : tie.Need-arrive-requires
-arrive-requires c κs = search needs
+arrive-requires c κs =
+    let p = c .before .before .before .before .before .before .before .before .before .before .before .before .before .pre in
+    (p .sourced, p .tracks .holds .ages .many, ap length (p .tracks .keeps .same) ∙ p .tracks .holds .marks .sized .fastests)
 
 run-on-requires-2 : tie.Need-run-on-requires-2
 run-on-requires-2 c κs =
-    let S = @start@ in
-    let A = S .args in
-    let few : A .sources ≤ 16 = omega (arith, S .pre .tables .as-wide, S .pre .tables .formed .fields .few-sources) in
-    let d = S .pre .description in
-    let t = S .pre .tempo in
-    let T = S .pre .tables in
-    (workable d t (A .w) (@arrive@ .result) (A .used .now) (A .ready .now) (@arrive@ .last .1 .1 .1 .1 .0) (S .pre .machine) (arrive d (marksIn (A .call .mask)) (S .pre .machine)) (T .formed) (S .pre .keeps) (S .pre .holds) (@arrive@ .ensures .arrived d t (A .used .now) (S .pre .machine) (T .formed) (T .rowed) (T .spaced) (known d (A .call .mask) (A .sources) (@above@ .result) (T .as-wide) few (@above@ .ensures) (@if2@ .left)) (S .pre .holds)), omega (arith, S .pre .early, @arrive@ .ensures .then))
+    let A = c .before .before .before .before .before .before .before .before .before .before .before .before .before .before .before .before .args in
+    let p = c .before .before .before .before .before .before .before .before .before .before .before .before .before .before .before .before .pre in
+    let mask = A .call .mask in
+    let few : A .sources ≤ 16 = omega (arith, p .tables .as-wide, p .tables .formed .fields .few-sources) in
+    let d = p .description in
+    let T = p .tables in
+    let a = c .before .before .arrive in
+    (workable d (A .w) (a .result) (A .used .now) (A .since .now) (a .last .1 .1 .1 .1 .0) (p .machine) (arrive d (marksIn mask) (p .machine)) (T .formed) (p .keeps) (p .tracks .holds) (a .ensures .arrived d (A .used .now) (p .machine) (T .formed) (T .rowed) (known d mask (A .sources) (c .before .before .before .before .before .before .before .before .before .before .before .before .above .result) (T .as-wide) few (c .before .before .before .before .before .before .before .before .before .before .before .before .above .ensures) (c .before .before .before .before .before .before .before .before .before .before .before .if3 .left)) (p .tracks .holds)), omega (arith, p .early, a .ensures .then), a .ensures .kept .many)
 
-returns-4 : tie.Need-returns-4
-returns-4 c =
-    let S = @start@ in
-    let A = S .args in
-    let few : A .sources ≤ 16 = omega (arith, S .pre .tables .as-wide, S .pre .tables .formed .fields .few-sources) in
-    let a = @arrive@ in
-    let v = @run-on2@ in
-    let ready = a .last .1 .1 .1 .1 .0 in
-    let used = v .last .1 .1 .1 .1 .0 in
+returns-5 : tie.Need-returns-5
+returns-5 c =
+    let A = c .before .before .before .before .before .before .before .before .before .before .before .before .before .before .before .before .before .args in
+    let mask = A .call .mask in
+    let t = A .call .tempo in
+    let finish = A .call .finish in
+    let few : A .sources ≤ 16 = omega (arith, c .before .before .before .before .before .before .before .before .before .before .before .before .before .before .before .before .before .pre .tables .as-wide, c .before .before .before .before .before .before .before .before .before .before .before .before .before .before .before .before .before .pre .tables .formed .fields .few-sources) in
+    let a = c .before .before .before .arrive in
+    let v = c .run-on2 in
+    let on : onKnob t ≡ true = sym (c .before .before .before .before .before .before .before .before .before .before .before .before .before .before .before .before .on-knob .ensures) ∙ not-false (c .before .before .before .before .before .before .before .before .before .before .before .before .before .before .before .before .on-knob .result) (c .before .before .before .before .before .before .before .before .before .before .before .before .before .before .before .if1 .left) in
+    let since = a .last .1 .1 .1 .1 .0 in
+    let fastest = a .last .1 .1 .1 .1 .1 .0 in
+    let used′ = v .last .1 .1 .1 .1 .1 .0 in
+    let fastest′ = v .last .1 .1 .1 .1 .1 .1 .0 in
     record {
-      ends = λ d t m T j l H.
-          let K = known d (A .call .mask) (A .sources) (@above@ .result) (T .as-wide) few (@above@ .ensures) (@if2@ .left) in
-          v .ensures .done ∙ ap (λ (x : Ticked). x .outcome) (tick-done d t m (record { marks = marksIn (A .call .mask) }) (A .call .finish) j l (strangers-none d (A .call .mask) K) (sym (@too-soon@ .ensures d t m K (H .ages)) ∙ @if3@ .left));
-      leaves = λ d t m T j l H.
-          let K = known d (A .call .mask) (A .sources) (@above@ .result) (T .as-wide) few (@above@ .ensures) (@if2@ .left) in
-          subst (λ (k : Machine). Holds d t (v .result .words) used ready k) (ap (λ (x : Ticked). x .machine) (tick-done d t m (record { marks = marksIn (A .call .mask) }) (A .call .finish) j l (strangers-none d (A .call .mask) K) (sym (@too-soon@ .ensures d t m K (H .ages)) ∙ @if3@ .left))) (v .ensures .ran d t ready (arrive d (marksIn (A .call .mask)) m) (T .formed) (T .rowed) (T .same-runs) (a .ensures .arrived d t (A .used .now) m (T .formed) (T .rowed) (T .spaced) K H));
+      ends = λ d m T j l R.
+          let K = known d mask (A .sources) (c .before .before .before .before .before .before .before .before .before .before .before .before .before .above .result) (T .as-wide) few (c .before .before .before .before .before .before .before .before .before .before .before .before .before .above .ensures) (c .before .before .before .before .before .before .before .before .before .before .before .before .if3 .left) in
+          v .ensures .done ∙ ap (λ (x : Ticked). x .outcome) (tick-done d t m (record { marks = marksIn mask }) finish (judged-at d t j on) l (strangers-none d mask K) (sym (c .before .before .before .before .before .before .before .too-soon .ensures .told d (A .sources) m (T .formed) (T .same-sources) K (R .holds .ages) (R .keeps .same)) ∙ c .before .before .before .before .before .before .if4 .left));
+      leaves = λ d m T j l R.
+          let K = known d mask (A .sources) (c .before .before .before .before .before .before .before .before .before .before .before .before .before .above .result) (T .as-wide) few (c .before .before .before .before .before .before .before .before .before .before .before .before .before .above .ensures) (c .before .before .before .before .before .before .before .before .before .before .before .before .if3 .left) in
+          subst (λ (k : Machine). Tracks d (v .result .words) used′ since fastest′ k) (ap (λ (x : Ticked). x .machine) (tick-done d t m (record { marks = marksIn mask }) finish (judged-at d t j on) l (strangers-none d mask K) (sym (c .before .before .before .before .before .before .before .too-soon .ensures .told d (A .sources) m (T .formed) (T .same-sources) K (R .holds .ages) (R .keeps .same)) ∙ c .before .before .before .before .before .before .if4 .left)))
+          (tracked d t mask finish (A .w) (A .used .now) (A .since .now) (A .fastest .now) fastest fastest′ m (T .formed) (within 200 t 3000 on .0) R (a .ensures .kept) (subst (λ low. Raises t low fastest fastest′) (a .ensures .knob) (v .ensures .raises)) (v .result .words) used′ since (v .ensures .knob)
+          (v .ensures .ran d since (arrive d (marksIn mask) m) (T .formed) (T .rowed) (T .same-runs) (a .ensures .arrived d (A .used .now) m (T .formed) (T .rowed) K (R .holds))));
+      asked = c .before .before .before .before .before .before .before .too-soon .ensures .asked;
       soon = omega (arith, v .ensures .then, a .ensures .then);
     }
 
@@ -112,14 +172,17 @@ pub advance-spec : {M : Type 1} → statement M
 advance-spec =
     tie.close
     (tie.spec
-    run-on-requires
-    returns
-    above-requires
+    on-knob-requires
     refused-requires
+    returns
+    run-on-requires
     returns-2
-    too-soon-requires
+    above-requires
     refused-requires-2
     returns-3
+    too-soon-requires
+    refused-requires-3
+    returns-4
     arrive-requires
     run-on-requires-2
-    returns-4)
+    returns-5)

@@ -1,10 +1,13 @@
 -- `too_soon` meets its contract: no source below r comes too soon, and what is left of the mask has the others. Assumes nothing.
-use Prim.Native.Nat.{ℕ, _+_, _≤_, _<_}
-use mathlib.Core.Path.{_≡_}
+use Prim.Native.Nat.{ℕ, _+_, _≤_, _<_, max}
+use mathlib.Core.Path.{_≡_, sym, ap, subst, _∙_}
 use mathlib.Core.Bool.{true}
 use native.Mathlib.Omega.{arith}
 use lib.ListN.{getD}
+use borrow.Author.Tests.{ltb-true, ltb-false}
 use Rattle.model.specs.Run.{heard}
+use Rattle.spacings.specs.Sources.{spacingBy}
+use Rattle.spacings.specs.Gaps.{Asked}
 use Rattle.steps.proofs.MaskLaws.{Rest, rest-all, rest-under, here, least, turn, passed}
 use Rattle.machine.proofs.CallLaws.{soon-one, soon-none}
 use borrow.Author.Needs.{needs}
@@ -12,48 +15,83 @@ use Rattle.machine.proofs.call.too_soon.Statement.{statement}
 use Rattle.machine.proofs.call.too_soon.Tie as tie
 
 abbrev Inv-loop : tie.InvT-loop
-Inv-loop mask ready tick rest₀ rest = (r : ℕ) × Rest mask r rest × ((u : ℕ) → u < r → heard mask u ≡ true → getD ready u 0 ≤ tick)
+Inv-loop mask t ticks pulses since fastest tick tempos₀ gaps₀ rest₀ tempos gaps rest =
+    (r : ℕ) × Rest mask r rest × Asked ticks pulses tempos gaps × ((u : ℕ) → u < r → heard mask u ≡ true → getD since u 0 + spacingBy (getD ticks u 0) (getD pulses u 0) (max (getD fastest u 0) t) ≤ tick)
 
 abbrev μ-loop : tie.MeasureT-loop
-μ-loop mask ready tick rest₀ rest = rest
+μ-loop mask t ticks pulses since fastest tick tempos₀ gaps₀ rest₀ tempos gaps rest = rest
 
 loop-holds : tie.Need-loop-holds Inv-loop μ-loop
-loop-holds c = (0, rest-all (@args@ .mask), λ u h e. absurd (omega arith))
+loop-holds c = (0, rest-all (c .args .mask), c .pre .asked, λ u h e. absurd (omega arith))
 
 first-requires : tie.Need-first-requires Inv-loop μ-loop
 first-requires c κs = search needs
 
-mul-if1 : tie.Need-mul-if1 Inv-loop μ-loop
-mul-if1 c = omega (arith, least (@args@ .mask) (@loop@ .inv .0) (@loop@ .rest) (@first@ .result) (@pre@) (@loop@ .inv .1) (@first@ .ensures))
+-- source u of the mask, and its spacing
+own : (c : tie.After-first Inv-loop μ-loop) → c .first .result < 16
+own c = omega (arith, least (c .before .before .before .args .mask) (c .before .before .loop .inv .0) (c .before .before .loop .rest) (c .first .result) (c .before .before .before .pre .sourced) (c .before .before .loop .inv .1) (c .first .ensures))
 
-element-copy-out-if1 : tie.Need-element-copy-out-if1 Inv-loop μ-loop
-element-copy-out-if1 c = omega (arith, least (@args@ .mask) (@loop@ .inv .0) (@loop@ .rest) (@first@ .result) (@pre@) (@loop@ .inv .1) (@first@ .ensures))
+comes : (c : tie.After-first Inv-loop μ-loop) → heard (c .before .before .before .args .mask) (c .first .result) ≡ true
+comes c = here (c .before .before .before .args .mask) (c .before .before .loop .inv .0) (c .before .before .loop .rest) (c .first .result) (c .before .before .loop .inv .1) (c .first .ensures)
+
+due : (c : tie.After-gap-at Inv-loop μ-loop) → c .gap-at .result ≡ spacingBy (getD (c .before .before .before .before .before .before .before .before .args .ticks .now) (c .before .before .before .before .before .first .result) 0) (getD (c .before .before .before .before .before .before .before .before .args .pulses .now) (c .before .before .before .before .before .first .result) 0) (max (getD (c .before .before .before .before .before .before .before .before .args .fastest .now) (c .before .before .before .before .before .first .result) 0) (c .before .before .before .before .before .before .before .before .args .t))
+due c = c .gap-at .ensures .0 ∙ ap (spacingBy (getD (c .before .before .before .before .before .before .before .before .args .ticks .now) (c .before .before .before .before .before .first .result) 0) (getD (c .before .before .before .before .before .before .before .before .args .pulses .now) (c .before .before .before .before .before .first .result) 0)) (c .before .before .before .larger .ensures)
+
+mul-larger : tie.Need-mul-larger Inv-loop μ-loop
+mul-larger c = omega (arith, own (c))
+
+element-copy-out-larger : tie.Need-element-copy-out-larger Inv-loop μ-loop
+element-copy-out-larger c = omega (arith, own (c))
+
+larger-requires : tie.Need-larger-requires Inv-loop μ-loop
+larger-requires c κs = search needs
+
+gap-at-requires : tie.Need-gap-at-requires Inv-loop μ-loop
+gap-at-requires c κs =
+    let h = comes (c .before .before .before .before) in
+    (own (c .before .before .before .before), c .before .before .before .before .before .before .before .pre .few (c .before .before .before .before .first .result) h, omega (arith, c .before .before .larger .ensures, c .before .before .before .before .before .before .before .pre .low), omega (arith, c .before .before .larger .ensures, c .before .before .before .before .before .before .before .pre .high, c .before .before .before .before .before .before .before .pre .kept (c .before .before .before .before .first .result) h), c .before .before .before .before .before .before .loop .inv .2)
+
+mul-young : tie.Need-mul-young Inv-loop μ-loop
+mul-young c = omega (arith, own (c .before .before .before .before .before))
+
+element-copy-out-young : tie.Need-element-copy-out-young Inv-loop μ-loop
+element-copy-out-young c = omega (arith, own (c .before .before .before .before .before))
+
+young-requires : tie.Need-young-requires Inv-loop μ-loop
+young-requires c κs = c .before .before .before .before .before .before .before .before .before .pre .early (c .before .before .before .before .before .before .first .result) (comes (c .before .before .before .before .before .before))
 
 returns : tie.Need-returns Inv-loop μ-loop
-returns c = λ d t m k a.
-    let S = @start@ in
-    let L = @loop@ in
-    soon-one d t (S .args .mask) (@first@ .result) (S .args .tick) (S .args .ready .now) m k a (here (S .args .mask) (L .inv .0) (L .rest) (@first@ .result) (L .inv .1) (@first@ .ensures)) (@if1@ .taken)
+returns c =
+    let A = c .before .before .before .before .before .before .before .before .before .before .before .args in
+    let u = c .before .before .before .before .before .before .before .before .first .result in
+    record {
+      told = λ d sources m g s k a e. soon-one d (A .t) (A .mask) (A .tick) sources (A .ticks .now) (A .pulses .now) (A .since .now) (A .fastest .now) m g s k a e (c .before .before .before .before .before .before .before .before .before .before .before .pre .low) u (comes (c .before .before .before .before .before .before .before .before)) (subst (λ x. A .tick < getD (A .since .now) u 0 + x) (due (c .before .before .before)) (ltb-true _ _ (sym (c .before .young .ensures) ∙ c .if1 .taken)));
+      asked = c .before .before .before .gap-at .ensures .1;
+    }
 
 rest-requires : tie.Need-rest-requires Inv-loop μ-loop
 rest-requires c κs = search needs
 
 loop-less : tie.Need-loop-less Inv-loop μ-loop
-loop-less c = @rest@ .ensures .fewer
+loop-less c = c .rest .ensures .fewer
 
 loop-again : tie.Need-loop-again Inv-loop μ-loop
 loop-again c =
-    let S = @start@ in
-    let L = @loop@ in
-    let u = @first@ .result in
-    let T = turn (S .args .mask) (L .inv .0) (L .rest) u (@rest@ .result) (S .pre) (L .inv .1) (@first@ .ensures) (@rest@ .ensures) in
-    (u + 1, T .after, passed (λ u. getD (S .args .ready .now) u 0 ≤ S .args .tick) (S .args .mask) (L .inv .0) u (@rest@ .result) T (L .inv .2) (omega (arith, @if1@ .left)))
+    let A = c .before .before .before .before .before .before .before .before .before .before .before .before .args in
+    let L = c .before .before .before .before .before .before .before .before .before .before .before .loop in
+    let u = c .before .before .before .before .before .before .before .before .before .first .result in
+    let T = turn (A .mask) (L .inv .0) (L .rest) u (c .rest .result) (c .before .before .before .before .before .before .before .before .before .before .before .before .pre .sourced) (L .inv .1) (c .before .before .before .before .before .before .before .before .before .first .ensures) (c .rest .ensures) in
+    let p : getD (A .since .now) u 0 + c .before .before .before .before .gap-at .result ≤ A .tick = ltb-false _ _ (sym (c .before .before .young .ensures) ∙ c .before .if1 .left) in
+    (u + 1, T .after, c .before .before .before .before .gap-at .ensures .1, passed (λ k. getD (A .since .now) k 0 + spacingBy (getD (A .ticks .now) k 0) (getD (A .pulses .now) k 0) (max (getD (A .fastest .now) k 0) (A .t)) ≤ A .tick) (A .mask) (L .inv .0) u (c .rest .result) T (L .inv .3) (subst (λ x. getD (A .since .now) u 0 + x ≤ A .tick) (due (c .before .before .before .before)) p))
 
 returns-2 : tie.Need-returns-2 Inv-loop μ-loop
-returns-2 c = λ d t m k a.
-    let S = @start@ in
-    let L = @loop@ in
-    soon-none d t (S .args .mask) (S .args .tick) (S .args .ready .now) m k a (λ u e. L .inv .2 u (rest-under (S .args .mask) (L .inv .0) (L .rest) (L .inv .1) (@loop-test@ .left) u e) e)
+returns-2 c =
+    let A = c .before .before .args in
+    let L = c .before .loop in
+    record {
+      told = λ d sources m g s k a e. soon-none d (A .t) (A .mask) (A .tick) sources (A .ticks .now) (A .pulses .now) (A .since .now) (A .fastest .now) m g s k a e (c .before .before .pre .low) (λ u h. L .inv .3 u (rest-under (A .mask) (L .inv .0) (L .rest) (L .inv .1) (c .loop-test .left) u h) h);
+      asked = L .inv .2;
+    }
 
 pub too-soon-spec : {M : Type 1} → statement M
 too-soon-spec =
@@ -63,8 +101,13 @@ too-soon-spec =
     μ-loop
     loop-holds
     first-requires
-    mul-if1
-    element-copy-out-if1
+    mul-larger
+    element-copy-out-larger
+    larger-requires
+    gap-at-requires
+    mul-young
+    element-copy-out-young
+    young-requires
     returns
     rest-requires
     loop-less

@@ -1,25 +1,28 @@
 -- `tick_judged` meets its contract: a foreign record, or one call on its words. Assumes nothing.
-use mathlib.Core.Path.{sym, ap, _∙_}
+use mathlib.Core.Path.{refl, sym, ap, _∙_}
+use mathlib.Core.Logic.{inr}
 use native.Mathlib.Omega.{arith}
 use borrow.Author.Tests.{not-true, not-false}
 use Rattle.model.specs.Machine.{plainTick}
+use Rattle.model.specs.History.{plainCall}
+use Rattle.model.specs.Run.{callOf}
+use Rattle.theory.proofs.FileLaws.{knob-known}
+use Rattle.spacings.proofs.GapLaws.{asked-none}
 use Rattle.rules.proofs.RuleLaws.{entered}
-use Rattle.machine.specs.Calls.{plainCall}
 use Rattle.machine.proofs.CallLaws.{tick-foreign}
-use Rattle.machine.proofs.RunLaws.{on-knob}
-use Rattle.machine.proofs.TickLaws.{tables-of, ticked}
+use Rattle.machine.proofs.TickLaws.{tables-of, packed-tracks, ticked}
 use borrow.Author.Needs.{needs}
 use Rattle.machine.proofs.tick.tick_judged.Statement.{statement}
 use Rattle.machine.proofs.tick.tick_judged.Tie as tie
 
 lawful-requires : tie.Need-lawful-requires
-lawful-requires c κs = entered (@pre@ .description) (@args@ .t1) (@pre@ .wired)
+lawful-requires c κs = entered (c .pre .description) (c .args .t1) (c .pre .wired)
 
 refused-requires : tie.Need-refused-requires
 refused-requires c κs = search needs
 
 returns : tie.Need-returns
-returns c = λ d t r g e. @refused@ .ensures ∙ tick-foreign d t (@args@ .m) (@args@ .a) (@args@ .finish) e (sym (@lawful@ .ensures d t r g) ∙ not-true (@lawful@ .result) (@if1@ .taken))
+returns c = λ d r s g e. c .refused .ensures ∙ tick-foreign d (c .before .before .before .args .t) (c .before .before .before .args .m) (c .before .before .before .args .a) (c .before .before .before .args .finish) e (sym (c .before .before .lawful .ensures d r g) ∙ not-true (c .before .before .lawful .result) (c .before .if1 .taken))
 
 mask-of-requires : tie.Need-mask-of-requires
 mask-of-requires c κs = search needs
@@ -29,39 +32,37 @@ pack-requires c κs = search needs
 
 advance-requires : tie.Need-advance-requires
 advance-requires c κs =
-    let S = @start@ in
+    let S = c .before .before .before .before .before .before .before .before .before .before .before .before .before .before .before .before .before .before .before in
     let d = S .pre .description in
-    let t = S .pre .tempo in
     let r = S .pre .wired in
-    let g = S .pre .spaced in
-    let l = (sym (@lawful@ .ensures d t r g) ∙ not-false (@lawful@ .result) (@if1@ .left)) in
-    let k = on-knob d t (S .pre .judged) in
+    let l = (sym (c .before .before .before .before .before .before .before .before .before .before .before .before .before .before .before .before .before .before .lawful .ensures d r (S .pre .spaced)) ∙ not-false (c .before .before .before .before .before .before .before .before .before .before .before .before .before .before .before .before .before .before .lawful .result) (c .before .before .before .before .before .before .before .before .before .before .before .before .before .before .before .before .before .if1 .left)) in
     record {
       description = d;
-      tempo = t;
       machine = S .args .m;
-      tables = tables-of d t (S .args .t1) (S .args .t2) r g;
-      holds = @pack@ .ensures .holds d t (r .formed) (k .0) (k .1) g l;
+      tables = tables-of d (S .args .t1) (S .args .t2) r (S .pre .same-sources);
+      tracks = packed-tracks d (S .args .m) (c .before .before .before .before .before .before .before .before .before .before .before .before .before .before .before .pack .result .words) (c .before .before .before .before .before .before .before .before .before .before .before .before .before .before .before .pack .result .since) (r .formed) l (c .before .before .before .before .before .before .before .before .before .before .before .before .before .before .before .pack .ensures);
       keeps = l;
-      sourced = @mask-of@ .ensures .0;
-      fits = search needs;
-      early = omega (arith, @pack@ .ensures .first);
+      sourced = c .before .before .before .before .before .before .before .before .before .before .before .before .before .before .before .before .mask-of .ensures .0;
+      fits = c .before .before .before .before .before .before .before .before .before .before .before .before .before .before .before .before .mask-of .ok;
+      early = omega (arith, c .before .before .before .before .before .before .before .before .before .before .before .before .before .before .before .pack .ensures .first);
+      asked = asked-none _ _;
     }
 
 unpack-requires : tie.Need-unpack-requires
-unpack-requires c κs = omega (arith, @pre@ .wired .as-wide, @pre@ .wired .formed .fields .few-sources)
+unpack-requires c κs = omega (arith, c .before .before .before .before .before .before .before .before .before .before .before .before .before .before .before .before .before .before .before .before .before .before .before .pre .wired .as-wide, c .before .before .before .before .before .before .before .before .before .before .before .before .before .before .before .before .before .before .before .before .before .before .before .pre .wired .formed .fields .few-sources)
 
 returns-2 : tie.Need-returns-2
-returns-2 c = λ d t r g e.
-    let S = @start@ in
-    let l = (sym (@lawful@ .ensures d t r g) ∙ not-false (@lawful@ .result) (@if1@ .left)) in
-    let k = on-knob d t e in
-    let T = tables-of d t (S .args .t1) (S .args .t2) r g in
-    let H = @pack@ .ensures .holds d t (r .formed) (k .0) (k .1) g l in
-    let v = @advance@ in
-    let mask = @mask-of@ .result in
-    ticked (v .result .outcome) (@unpack@ .result) (plainCall d t (S .args .m) mask (S .args .finish)) (v .ensures .ends d t (S .args .m) T e l H) (@unpack@ .ensures d t (plainCall d t (S .args .m) mask (S .args .finish) .machine) (r .as-wide) g (v .ensures .leaves d t (S .args .m) T e l H))
-    ∙ ap (λ k. plainTick d t (S .args .m) (record { marks = k }) (S .args .finish)) (@mask-of@ .ensures .1)
+returns-2 c = λ d r s g e.
+    let S = c .before .before .before .before .before .before .before .before .before .before .before .before .before .before .before .before .before .before .before .before .before .before .before .before in
+    let l = (sym (c .before .before .before .before .before .before .before .before .before .before .before .before .before .before .before .before .before .before .before .before .before .before .before .lawful .ensures d r g) ∙ not-false (c .before .before .before .before .before .before .before .before .before .before .before .before .before .before .before .before .before .before .before .before .before .before .before .lawful .result) (c .before .before .before .before .before .before .before .before .before .before .before .before .before .before .before .before .before .before .before .before .before .before .if1 .left)) in
+    let j = knob-known d (S .args .t) e .0 in
+    let T = tables-of d (S .args .t1) (S .args .t2) r s in
+    let R = packed-tracks d (S .args .m) (c .before .before .before .before .before .before .before .before .before .before .before .before .before .before .before .before .before .before .before .before .pack .result .words) (c .before .before .before .before .before .before .before .before .before .before .before .before .before .before .before .before .before .before .before .before .pack .result .since) (r .formed) l (c .before .before .before .before .before .before .before .before .before .before .before .before .before .before .before .before .before .before .before .before .pack .ensures) in
+    let v = c .before .before .before .before .advance in
+    let p = plainCall d (S .args .m) (callOf (c .before .before .before .before .before .before .before .before .before .before .before .before .before .before .before .before .before .before .before .before .before .mask-of .result) (S .args .t) (S .args .finish)) in
+    let L = v .ensures .leaves d (S .args .m) T j l R in
+    ticked (v .result .outcome) (c .unpack .result) p (v .ensures .ends d (S .args .m) T j l R) (c .unpack .ensures d (p .machine) (r .as-wide) g (L .holds) (L .keeps .same))
+    ∙ ap (λ k. plainTick d (S .args .t) (S .args .m) (record { marks = k }) (S .args .finish)) (c .before .before .before .before .before .before .before .before .before .before .before .before .before .before .before .before .before .before .before .before .before .mask-of .ensures .1)
 
 pub tick-judged-spec : {M : Type 1} → statement M
 tick-judged-spec =

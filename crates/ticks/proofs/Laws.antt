@@ -35,19 +35,20 @@ module _ (d : Description) (t : ℕ) where
   unfolding judgeAt
   at-done e h = rw (e, h)
 
-  pub start-refused : (r : Refusal) (p : ℕ) → judgeAt d t ≡ Refused r p → unstarted r p ≡ started d t
-  unfolding started
-  start-refused r p e = rw e
-
-  pub start-done : (m : Machine) → judgeAt d t ≡ Done → m ≡ idle d t → _≡_ {A = Ticked} (record { outcome = Done; machine = m }) (started d t)
-  unfolding started
-  start-done m e q = rw e (ap (λ (x : Machine). let r : Ticked = record { outcome = Done; machine = x } in r) q)
-
   pub tick-refused : (m : Machine) (a : Arrivals) (f : Bool) (r : Refusal) (p : ℕ) → judgeAt d t ≡ Refused r p → untouched r p m ≡ plainTick d t m a f
   unfolding plainTick judgeTick
   tick-refused m a f r p e = rw e
 
-  pub run-refused : (cs : List Call) (b : List ℕ) (r : Refusal) (p : ℕ) (x : Ticked) → judgeAt d t ≡ Refused r p → x ≡ unstarted r p → RunMeets d t cs b b x
+module _ (d : Description) where
+  pub start-refused : (r : Refusal) (p : ℕ) → judge d ≡ Refused r p → unstarted r p ≡ started d
+  unfolding started
+  start-refused r p e = rw e
+
+  pub start-done : (m : Machine) → judge d ≡ Done → m ≡ idle d → _≡_ {A = Ticked} (record { outcome = Done; machine = m }) (started d)
+  unfolding started
+  start-done m e q = rw e (ap (λ (x : Machine). let r : Ticked = record { outcome = Done; machine = x } in r) q)
+
+  pub run-refused : (cs : List Call) (b : List ℕ) (r : Refusal) (p : ℕ) (x : Ticked) → judge d ≡ Refused r p → x ≡ unstarted r p → RunMeets d cs b b x
   unfolding ran pageRan
   run-refused cs b r p x e q = record {
     answer = q ∙ rw e;
@@ -55,10 +56,10 @@ module _ (d : Description) (t : ℕ) where
     assured = λ _ _ _ h. refused-not (sym (ap (λ (y : Ticked). y .outcome) q) ∙ h);
   }
 
-  pub run-done : (cs : List Call) (b b′ : List ℕ) (x : Ticked) → Widths d → judgeAt d t ≡ Done → RunOf d t cs b b′ x → RunMeets d t cs b b′ x
+  pub run-done : (cs : List Call) (b b′ : List ℕ) (x : Ticked) → Widths d → judge d ≡ Done → RunOf d cs b b′ x → RunMeets d cs b b′ x
   unfolding ran pageRan
   run-done cs b b′ x w e g = record {
     answer = g .0 ∙ rw e;
     filled = g .1 ∙ rw e;
-    assured = λ q f h o. run-assured d q t w f (at-known d t w e .1) h cs b b′ x g o;
+    assured = λ q f up o. run-assured d q w f cs up b b′ x g o;
   }

@@ -9,13 +9,17 @@ use model::Outcome;
 use model::Refusal;
 use model::Ticked;
 use refusals::blank_machine;
+use spacings::gaps_by;
 use spacings::gaps_of;
 use spacings::on_knob;
+use spacings::sources_of;
 use steps::record::begin;
+use steps::record::since_of;
 use steps::record::unpack;
 use wiring::wiring_of;
 ghost use mathlib.Core.Path.{_≡_};
 ghost use Rattle.model.specs.declared.Outcome.the-variants.{Done};
+ghost use Rattle.model.specs.File.{judge};
 ghost use Rattle.model.specs.Verdicts.{judgeAt};
 ghost use Rattle.model.specs.Machine.{unstarted, plainTick};
 ghost use Rattle.model.specs.Promise.{StartMeets, TickMeets};
@@ -58,18 +62,19 @@ fn refused_tick(why: Refusal, place: usize, m: Machine) -> Ticked
     }
 }
 
-// The idle record of a description at tempo t.
-pub fn start(d: Description, t: u32) -> Ticked
-    ensures { λ r. ⌜ StartMeets d t r ⌝ }
+// The idle record of a description.
+pub fn start(d: Description) -> Ticked
+    ensures { λ r. ⌜ StartMeets d r ⌝ }
 {
-    let judged = judge_at(d, t);
+    let judged = files::judge(d);
     if let Outcome::Refused(why, place) = judged {
         return refused_start(why, place);
     }
-    let gaps = gaps_of(d, t);
+    let longest = gaps_of(d, 200);
     let used = [0u32; 32];
-    let ready = [0u64; 16];
-    let m = unpack(&gaps, d.source_count, begin(), used, &ready);
+    let since = since_of(&longest);
+    let fastest = [0u32; 16];
+    let m = unpack(&longest, d.source_count, begin(), used, &since, fastest);
     Ticked {
         outcome: Outcome::Done,
         machine: m,
@@ -84,33 +89,33 @@ fn tick_value(d: Description, t: u32, m: Machine, a: Arrivals, finish: bool) -> 
     if let Outcome::Refused(why, place) = judged {
         return refused_tick(why, place, m);
     }
-    let gaps = gaps_of(d, t);
-    tick_judged(wiring_of(d), gaps, m, a, finish)
+    let s = sources_of(d);
+    let longest = gaps_by(&s.ticks, &s.pulses, s.count, 200);
+    tick_judged(wiring_of(d), s, longest, t, m, a, finish)
 }
 
-// The calls of a run, for a description that is judged as done at tempo t already.
-pub fn run_accepted(d: Description, t: u32, calls: &[u8], outcomes: &mut [u8]) -> Ticked
-    requires { ⌜ judgeAt d t ≡ Done ⌝ }
-    ensures { λ r. ⌜ RunOf d t (callsIn (now (calls .entry))) (now (outcomes .entry)) (now (outcomes .exit)) r ⌝ }
+// The calls of a run, for a description that is judged as done already.
+pub fn run_accepted(d: Description, calls: &[u8], outcomes: &mut [u8]) -> Ticked
+    requires { ⌜ judge d ≡ Done ⌝ }
+    ensures { λ r. ⌜ RunOf d (callsIn (now (calls .entry))) (now (outcomes .entry)) (now (outcomes .exit)) r ⌝ }
 {
-    let gaps = gaps_of(d, t);
-    run_judged(d, t, gaps, calls, outcomes)
+    run_judged(d, calls, outcomes)
 }
 
-// Many tick calls from the start, with the description judged once. A call has four bytes: the mask of its arrivals, high byte
-// first, whose lowest bit is source 33; finish, unless it is 0; and one that is not looked at. Its refusal's number, or 0, goes to
-// its byte of the buffer.
-pub fn run(d: Description, t: u32, calls: &[u8], outcomes: &mut [u8]) -> Ticked
-    ensures { λ r. ⌜ RunMeets d t (callsIn (now (calls .entry))) (now (outcomes .entry)) (now (outcomes .exit)) r ⌝ }
+// Many tick calls from the start, with the description judged once. A call has six bytes: the mask of its arrivals, whose lowest bit is source
+// 33, and its tempo, high byte first; finish, unless it is 0; and one that is not looked at. Its refusal's number, or 0, goes to its byte of the
+// buffer.
+pub fn run(d: Description, calls: &[u8], outcomes: &mut [u8]) -> Ticked
+    ensures { λ r. ⌜ RunMeets d (callsIn (now (calls .entry))) (now (outcomes .entry)) (now (outcomes .exit)) r ⌝ }
 {
-    let judged = judge_at(d, t);
+    let judged = files::judge(d);
     if let Outcome::Refused(why, place) = judged {
         return refused_start(why, place);
     }
-    run_accepted(d, t, calls, outcomes)
+    run_accepted(d, calls, outcomes)
 }
 
-// The caller's own record is advanced by one tick; a refusal leaves it as it was.
+// The caller's own record is advanced by one tick at tempo t; a refusal leaves it as it was, and its tempo is not given.
 pub fn tick(d: Description, t: u32, m: &mut Machine, a: Arrivals, finish: bool) -> Outcome
     ensures { λ r. ⌜ TickMeets d t (now (m .entry)) a finish r (now (m .exit)) ⌝ }
 {

@@ -7,8 +7,8 @@ use borrow.Author.Needs.{needs}
 use Rattle.ticks.proofs.run.Statement.{statement}
 use Rattle.ticks.proofs.run.Tie as tie
 
-judge-at-requires : tie.Need-judge-at-requires
-judge-at-requires c κs = search needs
+judge-requires : tie.Need-judge-requires
+judge-requires c κs = search needs
 
 enum-known-judged : tie.Need-enum-known-judged
 enum-known-judged c = search needs
@@ -17,25 +17,25 @@ refused-start-requires : tie.Need-refused-start-requires
 refused-start-requires c κs = search needs
 
 returns : tie.Need-returns
-returns c = let S = @start@ in let told = @judged@ .given in run-refused (S .args .d) (S .args .t) (callsIn (S .args .calls .now)) (S .args .outcomes .now) (told .0 .0) (told .0 .1 .0) (@refused-start@ .result) (sym (@judge-at@ .ensures) ∙ told .1) (@refused-start@ .ensures)
+returns c = let S = c .before .before .before .before .before .before .before in let told = c .before .before .judged .given in run-refused (S .args .d) (callsIn (S .args .calls .now)) (S .args .outcomes .now) (told .0 .0) (told .0 .1 .0) (c .refused-start .result) (sym (c .before .before .before .before .judge .ensures) ∙ told .1) (c .refused-start .ensures)
 
 enum-told : tie.Need-enum-told
 enum-told c = search needs
 
 run-accepted-requires : tie.Need-run-accepted-requires
-run-accepted-requires c κs = (sym (@judge-at@ .ensures) ∙ @enum-told@ .given .1)
+run-accepted-requires c κs = (sym (c .before .before .before .judge .ensures) ∙ c .before .enum-told .given .1)
 
 same-length : tie.Need-same-length
 same-length c = search needs
 
 returns-2 : tie.Need-returns-2
-returns-2 c = let S = @start@ in run-done (S .args .d) (S .args .t) (callsIn (S .args .calls .now)) (S .args .outcomes .now) _ (@run-accepted@ .result) (typed-widths (S .args .d) _ (S .good .0)) (sym (@judge-at@ .ensures) ∙ @enum-told@ .given .1) (@run-accepted@ .ensures)
+returns-2 c = let S = c .before .before .before .before .before .before .before .before .before in run-done (S .args .d) (callsIn (S .args .calls .now)) (S .args .outcomes .now) _ (c .before .before .run-accepted .result) (typed-widths (S .args .d) _ (S .good .0)) (sym (c .before .before .before .before .before .before .judge .ensures) ∙ c .before .before .before .before .enum-told .given .1) (c .before .before .run-accepted .ensures)
 
 pub run-spec : {M : Type 1} → statement M
 run-spec =
     tie.close
     (tie.spec
-    judge-at-requires
+    judge-requires
     enum-known-judged
     refused-start-requires
     returns

@@ -1,15 +1,12 @@
 -- `run_accepted` meets its contract. Assumes nothing.
 use Rattle.theory.proofs.Typed.{typed-widths}
-use Rattle.ticks.proofs.Laws.{at-known}
+use Rattle.theory.proofs.FileLaws.{judge-well-formed}
 use borrow.Author.Needs.{needs}
 use Rattle.ticks.proofs.run_accepted.Statement.{statement}
 use Rattle.ticks.proofs.run_accepted.Tie as tie
 
-gaps-of-requires : tie.Need-gaps-of-requires
-gaps-of-requires c κs = at-known (@args@ .d) (@args@ .t) (typed-widths (@args@ .d) _ (@good@ .0)) (@pre@)
-
 run-judged-requires : tie.Need-run-judged-requires
-run-judged-requires c κs = (at-known (@args@ .d) (@args@ .t) (typed-widths (@args@ .d) _ (@good@ .0)) (@pre@) .0, @pre@, @gaps-of@ .ensures)
+run-judged-requires c κs = (judge-well-formed (c .before .before .before .args .d) (typed-widths (c .before .before .before .args .d) _ (c .before .before .before .good .0)) (c .before .before .before .pre), c .before .before .before .pre)
 
 same-length : tie.Need-same-length
 same-length c = search needs
@@ -18,4 +15,4 @@ returns : tie.Need-returns
 returns c = search needs
 
 pub run-accepted-spec : {M : Type 1} → statement M
-run-accepted-spec = tie.close (tie.spec gaps-of-requires run-judged-requires same-length returns)
+run-accepted-spec = tie.close (tie.spec run-judged-requires same-length returns)

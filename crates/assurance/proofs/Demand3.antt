@@ -69,7 +69,7 @@ unfoldable pub slowCalls : ℕ → List Call → Bool
 slowCalls q [] = true
 slowCalls q (c ∷ cs) = leb (c .tempo) q && slowCalls q cs
 
-up-next : (q : ℕ) (k : Tick) (h : List Tick) → k .tempo ≤ q → UpTo q h → UpTo q (k ∷ h)
+pub up-next : (q : ℕ) (k : Tick) (h : List Tick) → k .tempo ≤ q → UpTo q h → UpTo q (k ∷ h)
 up-next q k h p a zero r = p
 up-next q k h p a (suc x) r = a x (omega arith)
 

@@ -68,7 +68,7 @@ tick-done d m c e = go (judgeTick d (c .tempo) m (c .arrivals .marks)) refl
     go Done q = (q, rw (q, plainTick) refl)
     go (Refused r p) q = absurd (not-both (rw (q, plainTick) at e) refl)
 
-tick-refused : (d : Description) (m : Machine) (c : Call) → isDone (plainCall d m c .outcome) ≡ false → plainCall d m c .machine ≡ m
+pub tick-refused : (d : Description) (m : Machine) (c : Call) → isDone (plainCall d m c .outcome) ≡ false → plainCall d m c .machine ≡ m
 unfolding plainTick
 tick-refused d m c e = go (judgeTick d (c .tempo) m (c .arrivals .marks)) refl
   where

@@ -2,13 +2,15 @@
 use Prim.Native.Nat.{ℕ, zero, suc, _+_, _*_, _/_, _≤_, _<_}
 use mathlib.Core.Path.{_≡_, refl, sym, ap, _∙_}
 use mathlib.Core.Bool.{Bool, true, false, cond, _||_}
-use mathlib.Core.List.{List, _++_}
+use mathlib.Core.List.{List, [], _∷_, _++_}
 use native.Mathlib.Omega.{arith}
-use lib.ListN.{length, take, drop}
-use lib.Seq.{take-at}
-use lib.Dec.{ltb, leb}
+use lib.ListN.{length, getD, take, drop}
+use lib.Seq.{take-at, getD-take}
+use lib.Dec.{ltb}
 use lib.IntN.{ℤ, pos, negsuc, negℤ}
-use borrow.Author.Tests.{leb-true, le-ltb, ltb-false}
+use borrow.Author.Tests.{le-ltb, ltb-false}
+use Rattle.model.specs.declared.Description.{Description}
+use Rattle.model.specs.declared.Machine.{Machine}
 use Rattle.model.specs.declared.Quote.{Quote}
 use Rattle.model.specs.declared.Quote.the-variants.{Tempo, Unquoted}
 use Rattle.model.specs.declared.Refusal.{Refusal}
@@ -17,18 +19,21 @@ use Rattle.model.specs.declared.Outcome.{Outcome}
 use Rattle.model.specs.declared.Outcome.the-variants.{Done, Refused}
 use Rattle.model.specs.Refusals.{numberOf, refusal, ofOutcome, ofQuote}
 use Rattle.model.specs.File.{readFile, filledBy}
-use Rattle.model.specs.Verdicts.{quotedFile, onKnob}
+use Rattle.model.specs.Verdicts.{quotedFile}
 use Rattle.model.specs.Machine.{idle}
-use Rattle.model.specs.History.{answers, left}
-use Rattle.model.specs.Run.{callsIn, page}
-use Rattle.lemmas.proofs.Tests.{and-left, or-false-right, not-both}
+use Rattle.model.specs.History.{Call, plainCall, answers, left, observe, isDone, ticks}
+use Rattle.model.specs.Promise.{UpTo}
+use Rattle.model.specs.Run.{callsIn, codes, page}
+use Rattle.lemmas.proofs.Tests.{or-false-right, not-both}
 use Rattle.lemmas.proofs.Outcomes.{refused-not}
 use Rattle.lemmas.proofs.Table.{length-tab}
 use Rattle.theory.proofs.NumberBytes.{Bytes as AllBytes}
 use Rattle.theory.proofs.QuotedFile.{QuotedFile, quoted-file}
+use Rattle.assurance.proofs.Replay.{callAt, tick-refused}
+use Rattle.assurance.proofs.Demand3.{up-next}
 use Rattle.assurance.proofs.PlainCalls.{plain-calls, plain-assured}
-use Rattle.machine.proofs.RunLaws.{calls-length, codes-length}
-use Rattle.library.specs.Replies.{reply, recordByte, recordBytes, runOutcome, RunReplied, RunAssured}
+use Rattle.machine.proofs.RunLaws.{calls-length, calls-at, codes-length}
+use Rattle.library.specs.Replies.{reply, recordByte, recordBytes, runOutcome, RunReplied, RunAssured, CallsUpTo}
 use Rattle.library.proofs.Laws.{numbered, reply-refused, reply-done}
 
 -- an answer of 0 or more is no refusal
@@ -52,49 +57,59 @@ pub quote-told : (x : Quote) (q : ℕ) → reply (ofQuote x) ≡ pos q → x ≡
 quote-told (Tempo t) q e = ap Tempo (ap size (reply-done t ∙ e))
 quote-told (Unquoted r p) q e = absurd (refusal-low r p q e)
 
--- a run call that answers 0 is done, and its tempo is on the knob
+-- a run call that answers 0 is done
 run-done : (o : Outcome) → reply (ofOutcome o) ≡ pos 0 → o ≡ Done
 run-done Done e = refl
 run-done (Refused r p) e = absurd (refusal-low r p 0 e)
-
-on-knob : (s : List ℕ) (t : ℕ) (calls outcomes out : List ℕ) → readFile s .outcome ≡ Done → runOutcome s t calls outcomes out ≡ Done → onKnob t ≡ true
-unfolding runOutcome
-on-knob s t calls outcomes out a e = go (onKnob t) refl
-  where
-    go : (b : Bool) → onKnob t ≡ b → onKnob t ≡ true
-    go true k = k
-    go false k = refused-not (rw (a, k) at e)
 
 short-not : (b : Bool) → cond b (Refused ShortPage 0) (let x : Outcome = Done in x) ≡ Done → b ≡ false
 short-not true e = refused-not e
 short-not false e = refl
 
-enough : (s : List ℕ) (t : ℕ) (calls outcomes out : List ℕ) → readFile s .outcome ≡ Done → runOutcome s t calls outcomes out ≡ Done → length calls / 4 ≤ length outcomes
+enough : (s calls outcomes out : List ℕ) → readFile s .outcome ≡ Done → runOutcome s calls outcomes out ≡ Done → length calls / 6 ≤ length outcomes
 unfolding runOutcome
-enough s t calls outcomes out a e =
-    let k : onKnob t ≡ true = on-knob s t calls outcomes out a e in
-    let f : (ltb (length out) 736 || ltb (length outcomes) (length calls / 4)) ≡ false = short-not _ (rw (a, k) at e) in
-    ltb-false (length outcomes) (length calls / 4) (or-false-right (ltb (length out) 736) _ f)
+enough s calls outcomes out a e =
+    let f : (ltb (length out) 768 || ltb (length outcomes) (length calls / 6)) ≡ false = short-not _ (rw a at e) in
+    ltb-false (length outcomes) (length calls / 6) (or-false-right (ltb (length out) 768) _ f)
 
--- a run call that answered 0, at a tempo up to what the quote call answered
-pub bench-assured : (s calls outcomes out outcomes′ out′ : List ℕ) (q t : ℕ) (quoted ran : ℤ) → AllBytes s
-    → quoted ≡ reply (ofQuote (quotedFile s)) → quoted ≡ pos q → t ≤ q → RunReplied s t calls outcomes out outcomes′ out′ ran → ran ≡ pos 0 → RunAssured s q t calls outcomes′ out′
-unfolding filledBy recordBytes
-bench-assured s calls outcomes out outcomes′ out′ q t quoted ran b told e high R done =
+-- the ticks of a list are its calls that are answered 0
+code-done : (o : Outcome) → isDone o ≡ true → ofOutcome o .number ≡ 0
+code-done Done e = refl
+code-done (Refused r p) e = absurd (not-both e refl)
+
+CodesUpTo : ℕ → List Call → List ℕ → Type 0
+CodesUpTo q cs rs = (i : ℕ) → i < length cs → getD rs i 0 ≡ 0 → callAt cs i .tempo ≤ q
+
+codes-ticks : (q : ℕ) (d : Description) (cs : List Call) (m : Machine) → CodesUpTo q cs (codes (answers d m cs)) → UpTo q (ticks d m cs)
+unfolding CodesUpTo ticks answers codes observe
+codes-ticks q d [] m h = λ x p. absurd (omega arith)
+codes-ticks q d (c ∷ cs) m h =
+    go (isDone (plainCall d m c .outcome)) refl (codes-ticks q d cs (plainCall d m c .machine) (λ i p e. h (suc i) (omega arith) e))
+  where
+    go : (b : Bool) → isDone (plainCall d m c .outcome) ≡ b → UpTo q (ticks d (plainCall d m c .machine) cs) → UpTo q (ticks d m (c ∷ cs))
+    go true f a = rw (f, ticks) (up-next q (observe d m c) (ticks d (plainCall d m c .machine) cs) (h 0 (omega arith) (code-done (plainCall d m c .outcome) f)) a)
+    go false f a = rw (f, ticks) (rw (tick-refused d m c f) at a)
+
+-- a run call that answered 0, no tick of it above what the quote call answered
+pub bench-assured : (s calls outcomes out outcomes′ out′ : List ℕ) (q : ℕ) (quoted ran : ℤ) → AllBytes s
+    → quoted ≡ reply (ofQuote (quotedFile s)) → quoted ≡ pos q → RunReplied s calls outcomes out outcomes′ out′ ran → ran ≡ pos 0 → CallsUpTo q calls outcomes′ → RunAssured s q calls outcomes′ out′
+unfolding filledBy recordBytes CodesUpTo
+bench-assured s calls outcomes out outcomes′ out′ q quoted ran b told e R done up =
     let d = readFile s .description in
     let cs = callsIn calls in
     let k : QuotedFile s q = quoted-file s q b (quote-told (quotedFile s) q (sym told ∙ e)) in
-    let o : runOutcome s t calls outcomes out ≡ Done = run-done (runOutcome s t calls outcomes out) (sym (R .answer) ∙ done) in
-    let low : 200 ≤ t = leb-true 200 t (and-left (leb 200 t) (leb t 3000) (on-knob s t calls outcomes out (k .accepted) o)) in
-    let n : length (page d t cs) ≡ length cs = codes-length d t cs (idle d t) in
-    let w : ltb (length outcomes) (length cs) ≡ false = le-ltb (length outcomes) (length cs) (omega (arith, calls-length calls, enough s t calls outcomes out (k .accepted) o)) in
-    let f : outcomes′ ≡ page d t cs ++ drop (length cs) outcomes = rw (o, n, w) at (R .codes) in
-    let g : out′ ≡ recordBytes (left d t (idle d t) cs) ++ drop 736 out = rw o at (R .bytes) in
+    let o : runOutcome s calls outcomes out ≡ Done = run-done (runOutcome s calls outcomes out) (sym (R .answer) ∙ done) in
+    let n : length (page d cs) ≡ length cs = codes-length d cs (idle d) in
+    let w : ltb (length outcomes) (length cs) ≡ false = le-ltb (length outcomes) (length cs) (omega (arith, calls-length calls, enough s calls outcomes out (k .accepted) o)) in
+    let f : outcomes′ ≡ page d cs ++ drop (length cs) outcomes = rw (o, n, w) at (R .codes) in
+    let g : out′ ≡ recordBytes (left d (idle d) cs) ++ drop 768 out = rw o at (R .bytes) in
+    let t : take (length cs) outcomes′ ≡ page d cs = ap (take (length cs)) f ∙ take-at (page d cs) (drop (length cs) outcomes) (length cs) n in
+    let slow : UpTo q (ticks d (idle d) cs) = codes-ticks q d cs (idle d) (λ i p z. let j : i < length calls / 6 = omega (arith, calls-length calls) in let c = calls-at calls i j in rw c (up i j (sym (getD-take (length cs) outcomes′ i 0 p) ∙ ap (λ (l : List ℕ). getD l i 0) t ∙ z))) in
     record {
-      answered = answers d t (idle d t) cs;
-      machine = left d t (idle d t) cs;
-      called = plain-calls d t cs (idle d t);
-      told = ap (take (length cs)) f ∙ take-at (page d t cs) (drop (length cs) outcomes) (length cs) n;
-      kept = ap (take 736) g ∙ take-at (recordBytes (left d t (idle d t) cs)) (drop 736 out) 736 (length-tab 736 (recordByte (left d t (idle d t) cs)));
-      assured = plain-assured d q t (k .widths) (k .quoted) low high cs;
+      answered = answers d (idle d) cs;
+      machine = left d (idle d) cs;
+      called = plain-calls d cs (idle d);
+      told = t;
+      kept = ap (take 768) g ∙ take-at (recordBytes (left d (idle d) cs)) (drop 768 out) 768 (length-tab 768 (recordByte (left d (idle d) cs)));
+      assured = plain-assured d q (k .widths) (k .quoted) cs slow;
     }

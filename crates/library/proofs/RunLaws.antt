@@ -1,4 +1,4 @@
--- A run for C and Rust by its checks: the file, the knob, the buffers, then the calls. Assumes nothing.
+-- A run for C and Rust by its checks: the file, the buffers, then the calls. Assumes nothing.
 use Prim.Native.Nat.{ℕ, _+_, _/_, _≤_, _<_}
 use mathlib.Core.Path.{_≡_, refl, sym, ap, _∙_}
 use mathlib.Core.Bool.{Bool, true, false, cond, _||_}
@@ -13,11 +13,10 @@ use Rattle.model.specs.declared.Machine.{Machine}
 use Rattle.model.specs.declared.Reading.{Reading}
 use Rattle.model.specs.declared.Ticked.{Ticked}
 use Rattle.model.specs.declared.Refusal.{Refusal}
-use Rattle.model.specs.declared.Refusal.the-variants.{OffKnob, ShortPage}
+use Rattle.model.specs.declared.Refusal.the-variants.{ShortPage}
 use Rattle.model.specs.declared.Outcome.the-variants.{Done, Refused}
 use Rattle.model.specs.Refusals.{refusal, ofOutcome}
-use Rattle.model.specs.File.{readFile, filledBy}
-use Rattle.model.specs.Verdicts.{judgeAt, onKnob}
+use Rattle.model.specs.File.{readFile, judge, filledBy}
 use Rattle.model.specs.Machine.{idle}
 use Rattle.model.specs.History.{left}
 use Rattle.theory.proofs.NumberBytes.{Bytes as AllBytes}
@@ -25,7 +24,6 @@ use Rattle.theory.proofs.FileLength.{placeIn, read-place}
 use Rattle.theory.proofs.ReadBack.{read-judged}
 use Rattle.model.specs.Run.{callsIn, page, ranFrom}
 use Rattle.machine.proofs.RunLaws.{calls-length}
-use Rattle.ticks.proofs.Laws.{at-done}
 use Rattle.library.specs.Replies.{reply, recordBytes, runOutcome, codesAfter, recordAfter}
 use Rattle.library.proofs.Laws.{reply-done}
 
@@ -38,47 +36,42 @@ module _ (s : List ℕ) (x : Reading) (whole : x ≡ readFile s) where
       let k : placeIn (readFile s .outcome) ≡ p = ap placeIn (sym outcome-is ∙ e) in
       omega (arith, read-place s)
 
-  pub read-done : AllBytes s → x .outcome ≡ Done → (t : ℕ) → onKnob t ≡ true → judgeAt (x .description) t ≡ Done
-  read-done b e t h =
+  pub read-done : AllBytes s → x .outcome ≡ Done → judge (x .description) ≡ Done
+  read-done b e =
       let a : readFile s .outcome ≡ Done = sym outcome-is ∙ e in
-      rw whole (sym (at-done (readFile s .description) t (read-judged s b a) h))
+      rw whole (read-judged s b a)
 
-  module _ (t : ℕ) (calls outcomes out : List ℕ) where
+  module _ (calls outcomes out : List ℕ) where
     -- the refusals in their order
-    pub run-unread : (r : Refusal) (p : ℕ) → x .outcome ≡ Refused r p → runOutcome s t calls outcomes out ≡ Refused r p
+    pub run-unread : (r : Refusal) (p : ℕ) → x .outcome ≡ Refused r p → runOutcome s calls outcomes out ≡ Refused r p
     unfolding runOutcome
     run-unread r p e = rw (sym outcome-is ∙ e) refl
 
-    pub run-off : x .outcome ≡ Done → onKnob t ≡ false → runOutcome s t calls outcomes out ≡ Refused OffKnob 0
-    unfolding runOutcome
-    run-off e h = rw (sym outcome-is ∙ e, h) refl
-
-    module _ (done : x .outcome ≡ Done) (on : onKnob t ≡ true) where
-      short : (a b : Bool) → ltb (length out) 736 ≡ a → ltb (length outcomes) (length calls / 4) ≡ b → runOutcome s t calls outcomes out ≡ cond (a || b) (Refused ShortPage 0) Done
+    module _ (done : x .outcome ≡ Done) where
+      short : (a b : Bool) → ltb (length out) 768 ≡ a → ltb (length outcomes) (length calls / 6) ≡ b → runOutcome s calls outcomes out ≡ cond (a || b) (Refused ShortPage 0) Done
       unfolding runOutcome
-      short a b p q =
-          rw (sym outcome-is ∙ done, on, p, q) refl
+      short a b p q = rw (sym outcome-is ∙ done, p, q) refl
 
-      pub run-short-record : length out < 736 → runOutcome s t calls outcomes out ≡ Refused ShortPage 0
-      run-short-record h = short true (ltb (length outcomes) (length calls / 4)) (lt-ltb (length out) 736 h) refl
+      pub run-short-record : length out < 768 → runOutcome s calls outcomes out ≡ Refused ShortPage 0
+      run-short-record h = short true (ltb (length outcomes) (length calls / 6)) (lt-ltb (length out) 768 h) refl
 
-      pub run-short-codes : 736 ≤ length out → length outcomes < length calls / 4 → runOutcome s t calls outcomes out ≡ Refused ShortPage 0
-      run-short-codes k h = short false true (le-ltb (length out) 736 k) (lt-ltb (length outcomes) (length calls / 4) h)
+      pub run-short-codes : 768 ≤ length out → length outcomes < length calls / 6 → runOutcome s calls outcomes out ≡ Refused ShortPage 0
+      run-short-codes k h = short false true (le-ltb (length out) 768 k) (lt-ltb (length outcomes) (length calls / 6) h)
 
-      pub run-whole : 736 ≤ length out → length calls / 4 ≤ length outcomes → runOutcome s t calls outcomes out ≡ Done
-      run-whole k h = short false false (le-ltb (length out) 736 k) (le-ltb (length outcomes) (length calls / 4) h)
+      pub run-whole : 768 ≤ length out → length calls / 6 ≤ length outcomes → runOutcome s calls outcomes out ≡ Done
+      run-whole k h = short false false (le-ltb (length out) 768 k) (le-ltb (length outcomes) (length calls / 6) h)
 
     -- what is answered and left
-    pub run-refused : (d : Description) (r : Refusal) (p : ℕ) → runOutcome s t calls outcomes out ≡ Refused r p → (reply (refusal r p) ≡ reply (ofOutcome (runOutcome s t calls outcomes out))) × (outcomes ≡ codesAfter (runOutcome s t calls outcomes out) d t calls outcomes) × (out ≡ recordAfter (runOutcome s t calls outcomes out) d t calls out)
+    pub run-refused : (d : Description) (r : Refusal) (p : ℕ) → runOutcome s calls outcomes out ≡ Refused r p → (reply (refusal r p) ≡ reply (ofOutcome (runOutcome s calls outcomes out))) × (outcomes ≡ codesAfter (runOutcome s calls outcomes out) d calls outcomes) × (out ≡ recordAfter (runOutcome s calls outcomes out) d calls out)
     run-refused d r p e = (rw e refl, rw e refl, rw e refl)
 
-    pub run-machine : (y : Ticked) → length calls / 4 ≤ length outcomes → y ≡ ranFrom (x .description) t (callsIn calls) outcomes → y .machine ≡ left (x .description) t (idle (x .description) t) (callsIn calls)
+    pub run-machine : (y : Ticked) → length calls / 6 ≤ length outcomes → y ≡ ranFrom (x .description) (callsIn calls) outcomes → y .machine ≡ left (x .description) (idle (x .description)) (callsIn calls)
     run-machine y h e =
         ap (λ (k : Ticked). k .machine) e
         ∙ rw (le-ltb (length outcomes) (length (callsIn calls)) (omega (arith, calls-length calls))) refl
 
-    pub run-does : (m : Machine) (codes′ out′ : List ℕ) → runOutcome s t calls outcomes out ≡ Done → m ≡ left (x .description) t (idle (x .description) t) (callsIn calls) → codes′ ≡ filledBy (page (x .description) t (callsIn calls)) outcomes → out′ ≡ recordBytes m ++ drop 736 out → (pos 0 ≡ reply (ofOutcome (runOutcome s t calls outcomes out))) × (codes′ ≡ codesAfter (runOutcome s t calls outcomes out) (readFile s .description) t calls outcomes) × (out′ ≡ recordAfter (runOutcome s t calls outcomes out) (readFile s .description) t calls out)
+    pub run-does : (m : Machine) (codes′ out′ : List ℕ) → runOutcome s calls outcomes out ≡ Done → m ≡ left (x .description) (idle (x .description)) (callsIn calls) → codes′ ≡ filledBy (page (x .description) (callsIn calls)) outcomes → out′ ≡ recordBytes m ++ drop 768 out → (pos 0 ≡ reply (ofOutcome (runOutcome s calls outcomes out))) × (codes′ ≡ codesAfter (runOutcome s calls outcomes out) (readFile s .description) calls outcomes) × (out′ ≡ recordAfter (runOutcome s calls outcomes out) (readFile s .description) calls out)
     run-does m codes′ out′ e f g h =
-        let filled : codes′ ≡ filledBy (page (readFile s .description) t (callsIn calls)) outcomes = g ∙ ap (λ (r : Reading). filledBy (page (r .description) t (callsIn calls)) outcomes) whole in
-        let stored : out′ ≡ recordBytes (left (readFile s .description) t (idle (readFile s .description) t) (callsIn calls)) ++ drop 736 out = h ∙ ap (λ (k : Machine). recordBytes k ++ drop 736 out) (f ∙ ap (λ (r : Reading). left (r .description) t (idle (r .description) t) (callsIn calls)) whole) in
+        let filled : codes′ ≡ filledBy (page (readFile s .description) (callsIn calls)) outcomes = g ∙ ap (λ (r : Reading). filledBy (page (r .description) (callsIn calls)) outcomes) whole in
+        let stored : out′ ≡ recordBytes (left (readFile s .description) (idle (readFile s .description)) (callsIn calls)) ++ drop 768 out = h ∙ ap (λ (k : Machine). recordBytes k ++ drop 768 out) (f ∙ ap (λ (r : Reading). left (r .description) (idle (r .description)) (callsIn calls)) whole) in
         (rw e (reply-done 0), rw e filled, rw e stored)

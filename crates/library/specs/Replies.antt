@@ -9,13 +9,13 @@ use lib.IntN.{ℤ, pos, negℤ}
 use Rattle.model.specs.declared.Description.{Description}
 use Rattle.model.specs.declared.Machine.{Machine}
 use Rattle.model.specs.declared.Ticked.{Ticked}
-use Rattle.model.specs.declared.Refusal.the-variants.{ShortPage, OffKnob}
+use Rattle.model.specs.declared.Refusal.the-variants.{ShortPage}
 use Rattle.model.specs.declared.Outcome.{Outcome}
 use Rattle.model.specs.declared.Outcome.the-variants.{Done, Refused}
 use Rattle.model.specs.Basics.{tab}
 use Rattle.model.specs.Refusals.{Numbered, ofOutcome, onDone}
+use Rattle.model.specs.Field.{numberIn}
 use Rattle.model.specs.File.{readFile, filledBy}
-use Rattle.model.specs.Verdicts.{onKnob}
 use Rattle.model.specs.Machine.{idle}
 use Rattle.model.specs.History.{left}
 use Rattle.model.specs.Promise.{Calls, Assured}
@@ -25,7 +25,8 @@ use Rattle.model.specs.Run.{callsIn, codes, page}
 unfoldable pub reply : Numbered → ℤ
 reply n = cond (eqb (n .number) 0) (pos (n .value)) (negℤ (pos (10000 * n .number + n .value)))
 
--- a machine's record in 736 bytes: 32 awake, 32 times 4 used, 256 waiting, 256 dropped, 16 times 4 ages, numbers high byte first
+-- a machine's record in 768 bytes: 32 awake, 32 times 4 used, 256 waiting, 256 dropped, 16 times 4 ages, 16 times 2 fastest tempos, numbers high
+-- byte first
 abbrev pub bit : Bool → ℕ
 bit b = cond b 1 0
 
@@ -39,44 +40,46 @@ recordByte m i =
     (cond (ltb i 160) (byteIn (getD (m .used) ((i - 32) / 4) 0) ((i - 32) % 4))
     (cond (ltb i 416) (bit (getD (m .waiting) (i - 160) false))
     (cond (ltb i 672) (bit (getD (m .dropped) (i - 416) false))
-    (byteIn (getD (m .ages) ((i - 672) / 4) 0) ((i - 672) % 4)))))
+    (cond (ltb i 736) (byteIn (getD (m .ages) ((i - 672) / 4) 0) ((i - 672) % 4))
+    (byteIn (getD (m .fastest) ((i - 736) / 2) 0) ((i - 736) % 2 + 2))))))
 
 unfoldable pub recordBytes : Machine → List ℕ
-recordBytes m = tab 736 (recordByte m)
+recordBytes m = tab 768 (recordByte m)
 
 -- n bytes are put from a place on: a buffer that has a text's bytes up to there has them up to the end of the n
 pub record Puts (n : ℕ) (byte : ℕ → ℕ) (at : ℕ) (out out′ : List ℕ) : Type 0 where
   pub sized : length out′ ≡ length out
   pub bytes : (text out₀ : List ℕ) → at + n ≤ length text → at + n ≤ length out₀ → ((k : ℕ) → k < n → getD text (at + k) 0 ≡ byte k) → out ≡ take at text ++ drop at out₀ → out′ ≡ take (at + n) text ++ drop (at + n) out₀
 
--- a run: refused as its file is, then 11, then 13 where a buffer is short; the buffers change only if it is done
-unfoldable pub runOutcome : List ℕ → ℕ → List ℕ → List ℕ → List ℕ → Outcome
-runOutcome s t calls outcomes out =
+-- a run: refused as its file is, then 13 where a buffer is short; the buffers change only if it is done
+unfoldable pub runOutcome : List ℕ → List ℕ → List ℕ → List ℕ → Outcome
+runOutcome s calls outcomes out =
     onDone (readFile s .outcome)
-    (cond (onKnob t)
-    (cond (ltb (length out) 736 || ltb (length outcomes) (length calls / 4)) (Refused ShortPage 0) Done)
-    (Refused OffKnob 0))
+    (cond (ltb (length out) 768 || ltb (length outcomes) (length calls / 6)) (Refused ShortPage 0) Done)
     Refused
 
-abbrev pub codesAfter : Outcome → Description → ℕ → List ℕ → List ℕ → List ℕ
-codesAfter o d t calls outcomes = onDone o (filledBy (page d t (callsIn calls)) outcomes) (λ r place. outcomes)
+abbrev pub codesAfter : Outcome → Description → List ℕ → List ℕ → List ℕ
+codesAfter o d calls outcomes = onDone o (filledBy (page d (callsIn calls)) outcomes) (λ r place. outcomes)
 
-abbrev pub recordAfter : Outcome → Description → ℕ → List ℕ → List ℕ → List ℕ
-recordAfter o d t calls out =
-    onDone o (recordBytes (left d t (idle d t) (callsIn calls)) ++ drop 736 out) (λ r place. out)
+abbrev pub recordAfter : Outcome → Description → List ℕ → List ℕ → List ℕ
+recordAfter o d calls out = onDone o (recordBytes (left d (idle d) (callsIn calls)) ++ drop 768 out) (λ r place. out)
 
 -- what a run answers, and what it leaves in the buffers of outcomes and of the record
-pub record RunReplied (s : List ℕ) (t : ℕ) (calls outcomes out outcomes′ out′ : List ℕ) (r : ℤ) : Type 0 where
-  pub answer : r ≡ reply (ofOutcome (runOutcome s t calls outcomes out))
-  pub codes : outcomes′ ≡ codesAfter (runOutcome s t calls outcomes out) (readFile s .description) t calls outcomes
-  pub bytes : out′ ≡ recordAfter (runOutcome s t calls outcomes out) (readFile s .description) t calls out
+pub record RunReplied (s calls outcomes out outcomes′ out′ : List ℕ) (r : ℤ) : Type 0 where
+  pub answer : r ≡ reply (ofOutcome (runOutcome s calls outcomes out))
+  pub codes : outcomes′ ≡ codesAfter (runOutcome s calls outcomes out) (readFile s .description) calls outcomes
+  pub bytes : out′ ≡ recordAfter (runOutcome s calls outcomes out) (readFile s .description) calls out
 
--- demand 3 of what a caller has in hand: the codes in the buffer of outcomes and the record in the other are those of a list of tick calls
+-- the promise of what a caller has in hand: the codes in the buffer of outcomes and the record in the other are those of a list of tick calls
 -- from the start, of which all is assured up to the number that the quote call answered
-pub record RunAssured (s : List ℕ) (q t : ℕ) (calls outcomes out : List ℕ) : Type 0 where
+pub record RunAssured (s : List ℕ) (q : ℕ) (calls outcomes out : List ℕ) : Type 0 where
   pub answered : List Ticked
   pub machine : Machine
-  pub called : Calls (readFile s .description) t (idle (readFile s .description) t) (callsIn calls) answered machine
+  pub called : Calls (readFile s .description) (idle (readFile s .description)) (callsIn calls) answered machine
   pub told : take (length (callsIn calls)) outcomes ≡ codes answered
-  pub kept : take 736 out ≡ recordBytes machine
-  pub assured : Assured (readFile s .description) q t (callsIn calls) answered machine
+  pub kept : take 768 out ≡ recordBytes machine
+  pub assured : Assured (readFile s .description) q (callsIn calls) answered machine
+
+-- no call of a run that is answered 0 has a tempo above q, as a caller can see from the bytes
+abbrev pub CallsUpTo : ℕ → List ℕ → List ℕ → Type 0
+CallsUpTo q calls outcomes = (i : ℕ) → i < length calls / 6 → getD outcomes i 0 ≡ 0 → numberIn calls (6 * i + 2) 2 ≤ q

@@ -6,7 +6,6 @@ use model::Outcome;
 use model::Quote;
 use model::Refusal;
 use refusals::number_of;
-use spacings::on_knob;
 use ticks::run_accepted;
 ghost use mathlib.Core.Path.{_≡_};
 ghost use mathlib.Core.Bool.{false};
@@ -83,16 +82,29 @@ fn put_numbers(numbers: &[u32], out: &mut [u8], at: usize)
     }
 }
 
+// Two bytes for each tempo, from a place of the buffer on.
+fn put_tempos(tempos: &[u32], out: &mut [u8], at: usize)
+    requires { ⌜ (length (now tempos) ≤ 32) × (at + 2 * length (now tempos) ≤ length (now out)) ⌝ }
+    ensures { λ _. ⌜ Puts (2 * length (now (tempos .entry))) (λ k. byteIn (getD (now (tempos .entry)) (k / 2) 0) (k % 2 + 2)) at (now (out .entry)) (now (out .exit)) ⌝ }
+{
+    let mut k: usize = 0;
+    while k < 2 * tempos.len() {
+        out[at + k] = byte_of(tempos[k / 2], k % 2 + 2);
+        k += 1;
+    }
+}
+
 // A machine's record into a buffer that takes it.
 fn put_record(m: Machine, out: &mut [u8])
-    requires { ⌜ 736 ≤ length (now out) ⌝ }
-    ensures { λ _. ⌜ now (out .exit) ≡ recordBytes m ++ drop 736 (now (out .entry)) ⌝ }
+    requires { ⌜ 768 ≤ length (now out) ⌝ }
+    ensures { λ _. ⌜ now (out .exit) ≡ recordBytes m ++ drop 768 (now (out .entry)) ⌝ }
 {
     put_marks(&m.awake, &mut *out, 0);
     put_numbers(&m.used, &mut *out, 32);
     put_marks(&m.waiting, &mut *out, 160);
     put_marks(&m.dropped, &mut *out, 416);
-    put_numbers(&m.ages, out, 672);
+    put_numbers(&m.ages, &mut *out, 672);
+    put_tempos(&m.fastest, out, 736);
 }
 
 // The report of a file into a buffer: its length, or the refusal 13 and no byte changed.
@@ -123,12 +135,11 @@ pub extern "C" fn bench_quote(file: &[u8]) -> i64
 #[no_mangle]
 pub extern "C" fn bench_run(
     file: &[u8],
-    tempo: u32,
     calls: &[u8],
     outcomes: &mut [u8],
     state: &mut [u8],
 ) -> i64
-    ensures { λ r. ⌜ RunReplied (now (file .entry)) tempo (now (calls .entry)) (now (outcomes .entry)) (now (state .entry)) (now (outcomes .exit)) (now (state .exit)) r ⌝ }
+    ensures { λ r. ⌜ RunReplied (now (file .entry)) (now (calls .entry)) (now (outcomes .entry)) (now (state .entry)) (now (outcomes .exit)) (now (state .exit)) r ⌝ }
 {
     let read = files::read(file);
     let judged = read.outcome;
@@ -136,16 +147,13 @@ pub extern "C" fn bench_run(
         return refusal_code(why, place);
     }
     let d = read.description;
-    if !on_knob(tempo) {
-        return refusal_code(Refusal::OffKnob, 0);
-    }
-    if state.len() < 736 {
+    if state.len() < 768 {
         return refusal_code(Refusal::ShortPage, 0);
     }
-    if outcomes.len() < calls.len() / 4 {
+    if outcomes.len() < calls.len() / 6 {
         return refusal_code(Refusal::ShortPage, 0);
     }
-    let ran = run_accepted(d, tempo, calls, &mut *outcomes);
+    let ran = run_accepted(d, calls, &mut *outcomes);
     put_record(ran.machine, &mut *state);
     0
 }

@@ -1,5 +1,5 @@
-//! The definitions of document 01 word by word, slow, and only for tests: what the fast code of
-//! this module must equal on small files.
+//! The definitions of document 01 and C-13 word by word, slow, and only for tests: what the fast
+//! code of this module must equal on small files and in runs.
 
 use super::description::{Description, Link, TASKS};
 use super::machine::{Machine, Record};

@@ -3,12 +3,12 @@
 
 #include "bench.h"
 
-/* Each round of the run has a call for each source, which arrives if it may, and one call without arrivals. */
+/* Each round of the run has a call for each source, which arrives if it may, and one call without arrivals, all at the quote. */
 #define ROUNDS 10000
 #define CALLS (17 * ROUNDS)
 
 static uint8_t file[4096], report[BENCH_LONGEST_REPORT];
-static uint8_t calls[4 * CALLS], outcomes[CALLS], record[BENCH_RECORD];
+static uint8_t calls[BENCH_CALL * CALLS], outcomes[CALLS], record[BENCH_RECORD];
 
 static const char *meaning(int number) {
     switch (number) {
@@ -22,7 +22,6 @@ static const char *meaning(int number) {
     case BENCH_NO_TASK: return "the file has no task";
     case BENCH_LOOP: return "the links contain a cycle";
     case BENCH_TOO_HEAVY: return "one event brings more than 1,000,000,000 ticks of work";
-    case BENCH_OFF_KNOB: return "the tempo is outside 20.0 to 300.0";
     case BENCH_NO_TEMPO: return "some critical link is doubtful even at 20.0";
     case BENCH_SHORT_PAGE: return "a buffer is too short";
     default: return "no refusal of these calls";
@@ -57,10 +56,13 @@ int main(int count, char **words) {
 
     for (size_t k = 0; k < CALLS; k++) {
         size_t source = k % 17;
-        calls[4 * k] = source >= 8 && source < 16 ? (uint8_t)(1u << (source - 8)) : 0;
-        calls[4 * k + 1] = source < 8 ? (uint8_t)(1u << source) : 0;
+        uint8_t *call = calls + BENCH_CALL * k;
+        call[0] = source >= 8 && source < 16 ? (uint8_t)(1u << (source - 8)) : 0;
+        call[1] = source < 8 ? (uint8_t)(1u << source) : 0;
+        call[2] = (uint8_t)(tempo >> 8);
+        call[3] = (uint8_t)tempo;
     }
-    int64_t done = bench_run(file, length, (uint32_t)tempo, calls, sizeof calls, outcomes, sizeof outcomes, record, sizeof record);
+    int64_t done = bench_run(file, length, calls, sizeof calls, outcomes, sizeof outcomes, record, sizeof record);
     if (done < 0) return refused("run", done);
 
     int ticks = 0, soon = 0;

@@ -29,7 +29,7 @@ extern "C" {
 #endif
 
 /* Rises when a call, a number or a layout below changes. */
-#define BENCH_VERSION 1
+#define BENCH_VERSION 2
 
 /* The refusals, as the README explains them. */
 enum bench_refusal {
@@ -61,14 +61,18 @@ enum bench_refusal {
 #define BENCH_LOWEST_TEMPO 200
 #define BENCH_HIGHEST_TEMPO 3000
 
-/* A machine's record in 736 bytes, by the offsets of its parts: a byte for each mark, 0 or 1, and four for each number, high byte
- * first. Task 1, link 1 and source 33 are the first of their parts. */
-#define BENCH_RECORD 736
+/* A machine's record in 768 bytes, by the offsets of its parts: a byte for each mark, 0 or 1, four for each number and two for each
+ * tempo, high byte first. Task 1, link 1 and source 33 are the first of their parts. */
+#define BENCH_RECORD 768
 #define BENCH_RECORD_AWAKE 0     /* 32 marks: the task is awake */
 #define BENCH_RECORD_USED 32     /* 32 numbers: the ticks that its run has used */
 #define BENCH_RECORD_WAITING 160 /* 256 marks: an event waits on the link */
 #define BENCH_RECORD_DROPPED 416 /* 256 marks: an event was lost on the link */
-#define BENCH_RECORD_AGES 672    /* 16 numbers: the ticks since the source's last event, up to its spacing */
+#define BENCH_RECORD_AGES 672    /* 16 numbers: the ticks since the source's last event; at first and at most its spacing at 20.0 */
+#define BENCH_RECORD_FASTEST 736 /* 16 tempos: the fastest since the source's last event, or 0 before its first */
+
+/* The bytes of one tick call. */
+#define BENCH_CALL 6
 
 /* Fills the front of `out` with the report of the file and returns how many bytes it has; every byte behind them is as it was.
  * Any bytes whatsoever have a report, one that tells of a refusal included: the only refusal is 13 (-130000), if `out` is shorter
@@ -79,16 +83,20 @@ int64_t bench_report(const uint8_t *file, size_t file_length, uint8_t *out, size
  * Refusals: 1 to 10, and 12 (-120000) if there is no such tempo. */
 int64_t bench_quote(const uint8_t *file, size_t file_length);
 
-/* A run of tick calls on one machine from its idle start, at one tempo (in tenths). Returns 0.
- * `calls` has four bytes for each call: the mask of arriving sources, high byte first, bit 0 for source 33; a byte that is not 0
- * if the running task may end now; and one that is not looked at. A rest of fewer than four bytes is ignored.
- * `outcomes` gets a byte for each call: 0 for a tick, else the number of its refusal (14, 15), which is no tick.
+/* A run of tick calls on one machine from its idle start. Returns 0.
+ * `calls` has BENCH_CALL bytes for each call: the mask of arriving sources in two, high byte first, bit 0 for source 33; the tempo
+ * of the tick (in tenths) in two, high byte first; a byte that is not 0 if the running task may end now; and one that is not
+ * looked at. A rest of fewer bytes is ignored.
+ * A source may arrive if its age has reached its spacing at the fastest tempo since its last event, the tick of that event and this
+ * one included, and at any time before its first.
+ * `outcomes` gets a byte for each call: 0 for a tick, else the number of its refusal (11, 15, 14, looked for in this order). A
+ * refused call is no tick and changes nothing, and its tempo does not count as given.
  * `record` gets BENCH_RECORD bytes, the machine as the last call left it.
- * Refusals: 1 to 10 for the file, then 11 for the tempo, then 13 if a buffer is short; no byte of either buffer has changed then.
- * Up to the quote, whatever the calls: no critical link is ever marked dropped, and no event from a source on a critical link
- * waits longer than the delay in the report. */
-int64_t bench_run(const uint8_t *file, size_t file_length, uint32_t tempo, const uint8_t *calls, size_t calls_length,
-                  uint8_t *outcomes, size_t outcomes_length, uint8_t *record, size_t record_length);
+ * Refusals: 1 to 10 for the file, then 13 if a buffer is short; no byte of either buffer has changed then.
+ * If no tempo is above the quote, whatever the calls and however the tempo moves from one to the next: no critical link is ever
+ * marked dropped, and no event from a source on a critical link waits longer than the delay in the report. */
+int64_t bench_run(const uint8_t *file, size_t file_length, const uint8_t *calls, size_t calls_length, uint8_t *outcomes,
+                  size_t outcomes_length, uint8_t *record, size_t record_length);
 
 #ifdef __cplusplus
 }

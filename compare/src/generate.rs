@@ -13,7 +13,7 @@ pub use draft::Draft;
 pub use edges::{boxed, edges, swung_box};
 pub use files::{bench_full, bench_swung, bench_typical, dense, hostile};
 pub use random::Random;
-pub use runs::{Run, legal_calls, run};
+pub use runs::{Knob, Run, legal_calls, run};
 pub use slow::{
     exactly_one, level_1807, many_levels, one_level, small_spacings, small_spacings_of_many, ten_levels,
     worst_level, worst_of_many,

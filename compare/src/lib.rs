@@ -1,6 +1,7 @@
-//! The proved library and a plain Rust implementation of document 01, side by side.
+//! The proved library and a plain Rust implementation of document 01 and its change requests, side
+//! by side.
 //!
-//! [`plain`] is written from the document alone; [`library`] wraps the proved archive. Both answer
+//! [`plain`] is written from the documents alone; [`library`] wraps the proved archive. Both answer
 //! the same three calls, so that [`generate`]d inputs can be put to both.
 
 pub mod generate;
@@ -9,11 +10,13 @@ pub mod plain;
 pub mod rounds;
 pub mod vectors;
 
-/// Bytes of a machine record: 32 awake, 32 × 4 used, 256 waiting, 256 dropped, 16 × 4 ages.
-pub const RECORD_BYTES: usize = 736;
+/// Bytes of a machine record: 32 awake, 32 × 4 used, 256 waiting, 256 dropped, 16 × 4 ages,
+/// 16 × 2 fastest tempos.
+pub const RECORD_BYTES: usize = 768;
 
-/// Bytes of one tick call: the mask of arrivals in two, high byte first, "finish", one unused.
-pub const CALL_BYTES: usize = 4;
+/// Bytes of one tick call: the mask of arrivals in two, high byte first, the tempo likewise,
+/// "finish", one unused.
+pub const CALL_BYTES: usize = 6;
 
 /// No report is longer: 256 link lines of at most 45 bytes and the tempo line.
 pub const LONGEST_REPORT: usize = 12_288;
@@ -31,4 +34,4 @@ pub struct Side {
     pub run: RunCall,
 }
 
-pub type RunCall = fn(file: &[u8], tempo: u32, calls: &[u8], outcomes: &mut [u8], record: &mut [u8]) -> i64;
+pub type RunCall = fn(file: &[u8], calls: &[u8], outcomes: &mut [u8], record: &mut [u8]) -> i64;

@@ -23,7 +23,6 @@ mod linked {
         fn bench_run(
             file: *const u8,
             file_len: usize,
-            tempo: u32,
             calls: *const u8,
             calls_len: usize,
             outcomes: *mut u8,
@@ -45,12 +44,11 @@ mod linked {
         unsafe { bench_quote(file.as_ptr(), file.len()) }
     }
 
-    pub fn run(file: &[u8], tempo: u32, calls: &[u8], outcomes: &mut [u8], record: &mut [u8]) -> i64 {
+    pub fn run(file: &[u8], calls: &[u8], outcomes: &mut [u8], record: &mut [u8]) -> i64 {
         unsafe {
             bench_run(
                 file.as_ptr(),
                 file.len(),
-                tempo,
                 calls.as_ptr(),
                 calls.len(),
                 outcomes.as_mut_ptr(),

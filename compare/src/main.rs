@@ -2,7 +2,8 @@
 //! agree. Without the proved archive, plain Rust is compared with the recorded answers alone.
 
 use compare::generate::{self, Random, Run};
-use compare::{CALL_BYTES, LONGEST_REPORT, RECORD_BYTES, Side, library, plain, vectors};
+use compare::vectors::{self, RunVector, SteadyVector};
+use compare::{CALL_BYTES, LONGEST_REPORT, RECORD_BYTES, Side, library, plain};
 use std::fmt;
 use std::ops::Range;
 use std::process::ExitCode;
@@ -73,20 +74,31 @@ fn check_vectors(side: &Side) -> Result<(), Difference> {
         let input = || format!("report on {}", hex(vector.file));
         same(input, ("recorded", recorded), (side.name, report(side, vector.file, LONGEST_REPORT)))?;
     }
-    let runs = vectors::runs();
-    for vector in &runs {
-        let recorded = Ran { code: 0, outcomes: vector.outcomes.clone(), record: vector.record.to_vec() };
-        let run = Run { file: vector.file.to_vec(), tempo: vector.tempo, calls: vector.calls.clone() };
-        let answer = ticks(side, &run, vector.outcomes.len(), RECORD_BYTES);
-        same(|| run_words(&run), ("recorded", recorded), (side.name, answer))?;
+    let knob_runs = vectors::knob_runs();
+    for vector in &knob_runs {
+        check_run(side, vector, |record| record)?;
+    }
+    let steady_runs = vectors::steady_runs();
+    for SteadyVector { tempo, run } in &steady_runs {
+        check_run(side, run, |record| vectors::at_one_tempo(record, run.file, *tempo))?;
     }
     println!(
-        "{} and the recorded answers: {} reports and {} runs agree",
+        "{} and the recorded answers: {} reports, {} runs and {} runs at one tempo agree",
         side.name,
         reports.len(),
-        runs.len()
+        knob_runs.len(),
+        steady_runs.len()
     );
     Ok(())
+}
+
+/// One side against a recorded run. `terms` puts the record that the side left as the recorded one is.
+fn check_run(side: &Side, vector: &RunVector, terms: impl Fn(Vec<u8>) -> Vec<u8>) -> Result<(), Difference> {
+    let recorded = Ran { code: 0, outcomes: vector.outcomes.clone(), record: vector.record.clone() };
+    let run = Run { file: vector.file.to_vec(), calls: vector.calls.clone() };
+    let mut answer = ticks(side, &run, vector.outcomes.len(), RECORD_BYTES);
+    answer.record = terms(answer.record);
+    same(|| run_words(&run), ("recorded", recorded), (side.name, answer))
 }
 
 /// How many answers agreed, and of which kinds they were.
@@ -102,8 +114,8 @@ struct Tally {
     slowest: u64,
     fastest: u64,
     refused: [u64; 17],
-    ticks: u64,
-    refused_ticks: u64,
+    /// Calls of runs by their outcomes, 0 for a tick.
+    calls: [u64; 17],
     runs_with_drops: u64,
 }
 
@@ -192,9 +204,9 @@ impl Tally {
     }
 
     fn note_run(&mut self, outcomes: &[u8], record: &[u8]) {
-        let refused = outcomes.iter().filter(|&&outcome| outcome != 0).count() as u64;
-        self.ticks += outcomes.len() as u64 - refused;
-        self.refused_ticks += refused;
+        for &outcome in outcomes {
+            self.calls[usize::from(outcome)] += 1;
+        }
         self.runs_with_drops += u64::from(record[DROPPED].contains(&1));
     }
 }
@@ -217,8 +229,11 @@ impl fmt::Display for Tally {
             write!(f, " {number} × {count},")?;
         }
         writeln!(f, " 13 × {} short pages", self.reports)?;
-        write!(f, "  ticks: {}, and {} refused calls; ", self.ticks, self.refused_ticks)?;
-        write!(f, "{} runs end with a dropped event", self.runs_with_drops)
+        write!(f, "  calls of runs: {} ticks;", self.calls[0])?;
+        for (number, count) in self.calls.iter().enumerate().skip(1).filter(|(_, count)| **count > 0) {
+            write!(f, " {number} × {count},")?;
+        }
+        write!(f, " and {} runs end with a dropped event", self.runs_with_drops)
     }
 }
 
@@ -257,7 +272,7 @@ fn links(side: &Side, file: &[u8]) -> Page {
 fn ticks(side: &Side, run: &Run, outcomes: usize, record: usize) -> Ran {
     let mut outcomes = vec![UNTOUCHED; outcomes];
     let mut record = vec![UNTOUCHED; record];
-    let code = (side.run)(&run.file, run.tempo, &run.calls, &mut outcomes, &mut record);
+    let code = (side.run)(&run.file, &run.calls, &mut outcomes, &mut record);
     Ran { code, outcomes, record }
 }
 
@@ -308,7 +323,7 @@ fn same<A: Words>(input: impl Fn() -> String, one: (&str, A), other: (&str, A)) 
 }
 
 fn run_words(run: &Run) -> String {
-    format!("run of {} at {} with calls {}", hex(&run.file), run.tempo, hex(&run.calls))
+    format!("run of {} with calls {}", hex(&run.file), hex(&run.calls))
 }
 
 fn hex(bytes: &[u8]) -> String {

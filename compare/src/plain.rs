@@ -1,4 +1,5 @@
-//! Document 01 in plain Rust, written from its text: the baseline for answers and for speed.
+//! Document 01 with the change requests C-11 and C-13 in plain Rust, written from their text: the
+//! baseline for answers and for speed.
 
 pub mod description;
 pub mod list;
@@ -60,10 +61,9 @@ fn quote_of(file: &[u8]) -> i64 {
     }
 }
 
-fn run_calls(file: &[u8], tempo: u32, calls: &[u8], outcomes: &mut [u8], record: &mut [u8]) -> i64 {
-    let start = Plan::read(file).and_then(|plan| Machine::start(&plan.description, tempo));
-    let mut machine = match start {
-        Ok(machine) => machine,
+fn run_calls(file: &[u8], calls: &[u8], outcomes: &mut [u8], record: &mut [u8]) -> i64 {
+    let mut machine = match Plan::read(file) {
+        Ok(plan) => Machine::start(&plan.description),
         Err(refusal) => return refusal.code(),
     };
     let calls = calls.chunks_exact(CALL_BYTES);
@@ -72,7 +72,8 @@ fn run_calls(file: &[u8], tempo: u32, calls: &[u8], outcomes: &mut [u8], record:
     }
     for (call, outcome) in calls.zip(outcomes) {
         let arrivals = u16::from_be_bytes([call[0], call[1]]);
-        *outcome = match machine.tick(arrivals, call[2] != 0) {
+        let tempo = u16::from_be_bytes([call[2], call[3]]);
+        *outcome = match machine.tick(arrivals, tempo, call[4] != 0) {
             Ok(()) => 0,
             Err(refusal) => refusal.word as u8,
         };

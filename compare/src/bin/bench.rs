@@ -1,7 +1,7 @@
 //! `bench`: the time of each call, proved and plain Rust on the same inputs in the same run.
 //! Without the proved archive it times plain Rust alone.
 
-use compare::generate::{self, Draft};
+use compare::generate::{self, Draft, Knob};
 use compare::{LONGEST_REPORT, RECORD_BYTES, Side, library, plain};
 use std::hint::black_box;
 use std::sync::mpsc;
@@ -137,11 +137,16 @@ fn cases() -> Vec<Case> {
         report("report, dense (2^30 paths)", generate::dense().bytes()),
         report("report, hostile (10^9 bare rounds)", generate::hostile().bytes()),
         report("report, loaded by 1 exactly (3, 3, 3)", generate::exactly_one().bytes()),
-        ticks("tick, small", small),
-        ticks("tick, typical", typical),
-        ticks("tick, typical with swing", swung),
-        ticks("tick, full", full),
-        ticks("tick, a source in every second tick", busy()),
+        ticks("tick, small", &small, Knob::Steady),
+        ticks("tick, typical", &typical, Knob::Steady),
+        ticks("tick, typical with swing", &swung, Knob::Steady),
+        ticks("tick, full", &full, Knob::Steady),
+        ticks("tick, a source in every second tick", &busy(), Knob::Steady),
+        ticks("tick, small, the knob moving", &small, Knob::Free),
+        ticks("tick, typical, the knob moving", &typical, Knob::Free),
+        ticks("tick, typical with swing, the knob moving", &swung, Knob::Free),
+        ticks("tick, full, the knob moving", &full, Knob::Free),
+        ticks("tick, every second tick, the knob moving", &busy(), Knob::Free),
     ]
 }
 
@@ -164,9 +169,11 @@ fn read(name: &'static str, file: Vec<u8>) -> Case {
     Case { name, units: 1, call: Box::new(move |side| run(side, &file, &[], &mut [])) }
 }
 
-/// A long run, in which reading the file once does not count.
-fn ticks(name: &'static str, file: Vec<u8>) -> Case {
-    let calls = generate::legal_calls(&file, TEMPO, TICKS, 7);
+/// A long run, in which reading the file once does not count. A knob that moves has another tempo
+/// in every call.
+fn ticks(name: &'static str, file: &[u8], knob: Knob) -> Case {
+    let file = file.to_vec();
+    let calls = generate::legal_calls(&file, TEMPO, knob, TICKS, 7);
     let mut outcomes = vec![0; TICKS];
     let call = move |side: &Side| run(side, &file, &calls, &mut outcomes);
     Case { name, units: TICKS, call: Box::new(call) }
@@ -174,7 +181,7 @@ fn ticks(name: &'static str, file: Vec<u8>) -> Case {
 
 fn run(side: &Side, file: &[u8], calls: &[u8], outcomes: &mut [u8]) -> i64 {
     let mut record = [0; RECORD_BYTES];
-    let code = (side.run)(black_box(file), TEMPO, black_box(calls), outcomes, &mut record);
+    let code = (side.run)(black_box(file), black_box(calls), outcomes, &mut record);
     black_box((outcomes, &record));
     code
 }

@@ -1,11 +1,13 @@
-//! The definitions of document 01 word by word, slow, and only for tests: what the fast code of
-//! this module must equal on small files.
+//! The definitions of document 01 and C-13 word by word, slow, and only for tests: what the fast
+//! code of this module must equal on small files and in runs.
 
-use super::Plan;
 use super::description::{Description, Link, TASKS};
+use super::machine::{Machine, Record};
 use super::quote::quote;
 use super::verdicts::{Verdict, Verdicts};
+use super::{Plan, SIDE};
 use crate::generate::{self, Random};
+use crate::{CALL_BYTES, RECORD_BYTES};
 
 /// W(j): e(j) plus the sum of added(j, k) over tasks k > j.
 fn work(file: &Description, j: usize) -> u64 {
@@ -85,6 +87,52 @@ fn verdict(file: &Description, link: Link, tempo: u32) -> Verdict {
     }
 }
 
+/// A node fires: for each link out, if waiting, mark dropped; set waiting; wake the task.
+fn fire(file: &Description, record: &mut Record, node: usize) {
+    for (place, link) in file.links.iter().enumerate().filter(|(_, link)| usize::from(link.from) == node) {
+        record.dropped[place] |= record.waiting[place];
+        record.waiting[place] = true;
+        record.awake[link.to_index()] = true;
+    }
+}
+
+/// One call on a record that obeys the rules: 0 for a tick, or the number of its refusal.
+fn tick(file: &Description, record: &mut Record, arrivals: u16, tempo: u16, finish: bool) -> u8 {
+    let arriving: Vec<usize> = (0..16).filter(|u| arrivals >> u & 1 == 1).collect();
+    if !(200..=3_000).contains(&tempo) {
+        return 11;
+    }
+    if arriving.iter().any(|&u| u >= file.sources.len()) {
+        return 15;
+    }
+    // At its spacing at the fastest tempo given since it last fired, its present tick included.
+    let due = |u: usize| record.ages[u] >= file.sources[u].spacing(record.fastest[u].max(tempo).into());
+    if !arriving.iter().all(|&u| due(u)) {
+        return 14;
+    }
+    for &u in &arriving {
+        fire(file, record, 33 + u);
+        (record.ages[u], record.fastest[u]) = (0, tempo);
+    }
+    if let Some(j) = (1..=file.runs.len()).rev().find(|j| record.awake[j - 1]) {
+        record.used[j - 1] += 1;
+        if record.used[j - 1] == file.runs[j - 1] || finish {
+            (record.awake[j - 1], record.used[j - 1]) = (false, 0);
+            for (place, _) in file.links.iter().enumerate().filter(|(_, link)| usize::from(link.to) == j) {
+                record.waiting[place] = false;
+            }
+            fire(file, record, j);
+        }
+    }
+    for (u, source) in file.sources.iter().enumerate() {
+        record.ages[u] = (record.ages[u] + 1).min(source.spacing(200));
+        if record.fastest[u] != 0 {
+            record.fastest[u] = record.fastest[u].max(tempo);
+        }
+    }
+    0
+}
+
 /// Accepted files with at most so many tasks.
 fn small_plans(seed: u64, tasks: usize, count: usize) -> impl Iterator<Item = Plan> {
     let mut random = Random::new(seed);
@@ -134,5 +182,25 @@ fn quotes_are_the_largest_good_tempos() {
             !plan.description.links.iter().any(|&link| doubtful(verdicts.on(link)))
         };
         assert_eq!(quote(&plan).ok(), (200..=3_000).rev().find(good));
+    }
+}
+
+#[test]
+fn runs_are_the_defined_ones() {
+    let mut random = Random::new(4);
+    for _ in 0..1_500 {
+        let run = generate::run(&mut random);
+        let Ok(Plan { description: file, .. }) = Plan::read(&run.file) else { continue };
+        let mut defined = Machine::start(&file).record();
+        let number = |bytes: &[u8]| u16::from_be_bytes([bytes[0], bytes[1]]);
+        let calls = run.calls.chunks_exact(CALL_BYTES);
+        let expected: Vec<u8> = calls
+            .map(|call| tick(&file, &mut defined, number(call), number(&call[2..]), call[4] != 0))
+            .collect();
+        let mut outcomes = vec![0; expected.len()];
+        let (mut left, mut record) = ([0; RECORD_BYTES], [0; RECORD_BYTES]);
+        assert_eq!((SIDE.run)(&run.file, &run.calls, &mut outcomes, &mut left), 0);
+        defined.write(&mut record);
+        assert_eq!((outcomes, left), (expected, record), "{:02x?}", run.file);
     }
 }

@@ -1,7 +1,7 @@
 //! The figures P1 to P10 of document 01, document 000's printed example, and the record's rules.
 
 use super::description::Source::{self, Fixed, Paced, Swung};
-use super::machine::{Machine, Record};
+use super::machine::{Machine, Record, check_tempo};
 use super::refusal::{Refusal, Word};
 use super::verdicts::{Verdict, Verdicts};
 use super::{Plan, quote::quote, report::report};
@@ -58,10 +58,10 @@ fn p4_twin() {
 
 #[test]
 fn p5_twin_drops() {
-    let mut machine = Machine::start(&twin(7).description, 200).unwrap();
+    let mut machine = Machine::start(&twin(7).description);
     for tick in 0..22 {
         assert!(!machine.record().dropped[2], "dropped before tick {tick}");
-        machine.tick((tick % 7 == 0).into(), false).unwrap();
+        machine.tick((tick % 7 == 0).into(), 200, false).unwrap();
     }
     assert!(machine.record().dropped[2]);
 }
@@ -101,13 +101,43 @@ fn swing() {
 fn p9_too_soon() {
     let plan = plan(&[1], &[Fixed(5)], &[[33, 1, 1]]);
     for (second, outcome) in [(4, Err(Refusal::of(Word::TooSoon))), (5, Ok(()))] {
-        let mut machine = Machine::start(&plan.description, 200).unwrap();
-        machine.tick(1, false).unwrap();
-        (1..second).for_each(|_| machine.tick(0, false).unwrap());
+        let mut machine = Machine::start(&plan.description);
+        machine.tick(1, 200, false).unwrap();
+        (1..second).for_each(|_| machine.tick(0, 200, false).unwrap());
         let before = machine.record();
-        assert_eq!(machine.tick(1, false), outcome);
+        assert_eq!(machine.tick(1, 200, false), outcome);
         assert_eq!(machine.record() == before, outcome.is_err());
     }
+}
+
+/// C-13. A source of 480 pulses has the spacings 6,250 at 20.0, 1,041 at 120.0, 961 at 130.0 and
+/// 892 at 140.0.
+#[test]
+fn the_fastest_tempo_since_the_last_firing_counts() {
+    let plan = plan(&[1], &[Paced(480)], &[[33, 1, 1]]);
+    let mut machine = Machine::start(&plan.description);
+    let too_soon = Err(Refusal::of(Word::TooSoon));
+    let kept = |machine: &Machine| (machine.record().ages[0], machine.record().fastest[0]);
+    machine.tick(0, 3_000, false).unwrap();
+    assert_eq!(kept(&machine), (6_250, 0));
+    machine.tick(1, 1_200, false).unwrap();
+    assert_eq!(kept(&machine), (1, 1_200));
+    machine.tick(0, 1_300, false).unwrap();
+    // What a refused call gives is not kept.
+    assert_eq!(machine.tick(1, 1_400, false), too_soon);
+    assert_eq!(machine.tick(2, 3_000, false), Err(Refusal::of(Word::Stranger)));
+    (2..960).for_each(|_| machine.tick(0, 1_200, false).unwrap());
+    assert_eq!(kept(&machine), (960, 1_300));
+    assert_eq!(machine.tick(1, 1_200, false), too_soon);
+    // The tempo of the present tick counts, and that of the firing from then on.
+    machine.clone().tick(1, 1_400, false).unwrap();
+    machine.tick(0, 1_200, false).unwrap();
+    machine.tick(1, 1_200, false).unwrap();
+    assert_eq!(kept(&machine), (1, 1_200));
+    (1..1_040).for_each(|_| machine.tick(0, 200, false).unwrap());
+    assert_eq!(machine.tick(1, 1_200, false), too_soon);
+    (1_040..9_999).for_each(|_| machine.tick(0, 200, false).unwrap());
+    assert_eq!(kept(&machine), (6_250, 1_200));
 }
 
 #[test]
@@ -128,32 +158,46 @@ fn printed_example() {
     }
 }
 
+/// The tick call on a lent record.
+fn tick(plan: &Plan, record: &mut Record, arrivals: u16, tempo: u16, finish: bool) -> Result<(), Refusal> {
+    check_tempo(tempo)?;
+    let mut machine = Machine::resume(&plan.description, record)?;
+    machine.tick(arrivals, tempo, finish)?;
+    *record = machine.record();
+    Ok(())
+}
+
 #[test]
 fn orders_of_refusals_in_calls() {
     let plan = plan(&[3], &[Fixed(5)], &[[33, 1, 1]]);
-    let start = Machine::start(&plan.description, 200).unwrap().record();
-    let refusal = |tempo, record: &Record| {
-        Machine::resume(&plan.description, tempo, record).err().map(|refusal| refusal.word)
+    let start = Machine::start(&plan.description).record();
+    let refusal = |record: &Record, arrivals, tempo| {
+        let mut left = record.clone();
+        let outcome = tick(&plan, &mut left, arrivals, tempo, false);
+        assert_eq!(&left == record, outcome.is_err());
+        outcome.err().map(|refusal| refusal.word)
     };
-    assert_eq!(refusal(200, &start), None);
     let foreign = Record { ages: [6; 16], ..start.clone() };
-    assert_eq!(refusal(199, &foreign), Some(Word::OffTheKnob));
-    assert_eq!(refusal(3_001, &start), Some(Word::OffTheKnob));
-    assert_eq!(refusal(200, &foreign), Some(Word::ForeignState));
-    let mut machine = Machine::start(&plan.description, 200).unwrap();
-    machine.tick(1, false).unwrap();
-    assert_eq!(machine.tick(3, false), Err(Refusal::of(Word::Stranger)));
-    assert_eq!(machine.tick(1, false), Err(Refusal::of(Word::TooSoon)));
+    let mut fired = start.clone();
+    (fired.ages[0], fired.fastest[0]) = (4, 200);
+    for tempo in [0, 199, 3_001, 65_535] {
+        assert_eq!(refusal(&foreign, 3, tempo), Some(Word::OffTheKnob));
+    }
+    assert_eq!(refusal(&foreign, 3, 200), Some(Word::ForeignState));
+    assert_eq!(refusal(&fired, 3, 200), Some(Word::Stranger));
+    assert_eq!(refusal(&fired, 1, 200), Some(Word::TooSoon));
+    assert_eq!(refusal(&fired, 0, 200), None);
+    assert_eq!(refusal(&start, 1, 3_000), None);
 }
 
 #[test]
 fn rules_of_the_record() {
-    let plan = plan(&[3, 1], &[Fixed(5)], &[[33, 1, 1]]);
-    let start = Machine::start(&plan.description, 200).unwrap().record();
+    let plan = plan(&[3, 1], &[Fixed(5), Paced(480)], &[[33, 1, 1]]);
+    let start = Machine::start(&plan.description).record();
     let foreign = |edit: fn(&mut Record)| {
         let mut record = start.clone();
         edit(&mut record);
-        Machine::resume(&plan.description, 200, &record).is_err()
+        Machine::resume(&plan.description, &record).is_err()
     };
     assert!(foreign(|record| record.used[0] = 1));
     assert!(foreign(|record| (record.awake[0], record.used[0]) = (true, 3)));
@@ -163,22 +207,37 @@ fn rules_of_the_record() {
     assert!(!foreign(|record| record.dropped[0] = true));
     assert!(foreign(|record| record.dropped[1] = true));
     assert!(foreign(|record| record.awake[2] = true));
-    assert!(foreign(|record| record.ages[0] = 6));
-    assert!(!foreign(|record| record.ages[0] = 0));
-    assert!(foreign(|record| record.ages[1] = 1));
+    for (age, fastest, allowed) in [
+        (6_250, 0, true),
+        (6_249, 0, false),
+        (0, 0, false),
+        (0, 199, false),
+        (0, 200, true),
+        (6_250, 3_000, true),
+        (6_250, 3_001, false),
+        (6_251, 3_000, false),
+    ] {
+        let mut record = start.clone();
+        (record.ages[1], record.fastest[1]) = (age, fastest);
+        assert_eq!(Machine::resume(&plan.description, &record).is_ok(), allowed, "{age} and {fastest}");
+    }
+    assert!(foreign(|record| record.ages[0] = 4));
+    assert!(foreign(|record| record.ages[2] = 1));
+    assert!(foreign(|record| record.fastest[2] = 200));
 }
 
 /// A machine that goes on from its record at any tick is the machine that went on without a break.
 #[test]
 fn resuming_changes_nothing() {
-    let plan = twin(7);
-    let mut machine = Machine::start(&plan.description, 200).unwrap();
-    let mut resumed = Machine::start(&plan.description, 200).unwrap();
-    for tick in 0..40 {
-        resumed = Machine::resume(&plan.description, 200, &resumed.record()).unwrap();
-        let arrivals = (tick % 3 == 0).into();
-        assert_eq!(machine.tick(arrivals, tick % 11 == 0), resumed.tick(arrivals, tick % 11 == 0));
-        assert_eq!(machine.record(), resumed.record());
+    let plan = plan(&[2; 3], &[Paced(960), Fixed(7)], &[[1, 3, 1], [2, 3, 1], [33, 1, 1], [34, 2, 1]]);
+    let mut machine = Machine::start(&plan.description);
+    let mut record = machine.record();
+    for now in 0..2_000u32 {
+        let arrivals = u16::from(now % 50 == 0) | u16::from(now % 3 == 0) << 1;
+        let (tempo, finish) = (150 + (now * 37 % 2_900) as u16, now % 11 == 0);
+        let outcome = tick(&plan, &mut record, arrivals, tempo, finish);
+        assert_eq!(machine.tick(arrivals, tempo, finish), outcome);
+        assert_eq!(machine.record(), record);
     }
 }
 

@@ -1,6 +1,7 @@
-//! The tick machine ("The tick machine", refusals 11, 16, 15, 14).
+//! The tick machine ("The tick machine" and C-13, refusals 11, 16, 15, 14).
 
-use super::description::{Description, LINKS, SOURCES, Spacings, TASKS};
+use super::description::{Description, LINKS, SOURCES, Source, Spacings, TASKS};
+use super::list::List;
 use super::loads::{NODES, members};
 use super::refusal::{Refusal, Word};
 use super::{FASTEST, SLOWEST};
@@ -14,17 +15,20 @@ pub struct Record {
     pub waiting: [bool; LINKS],
     pub dropped: [bool; LINKS],
     pub ages: [u32; SOURCES],
+    /// The fastest tempo given since the source last fired; 0 before its first firing.
+    pub fastest: [u16; SOURCES],
 }
 
 impl Record {
-    /// The record as bytes, in the order of its fields, numbers high byte first.
+    /// The record as bytes, in the order of its fields, numbers high byte first; a tempo has two.
     pub fn write(&self, bytes: &mut [u8]) {
         assert_eq!(bytes.len(), RECORD_BYTES);
         let used = self.used.iter().flat_map(|ticks| ticks.to_be_bytes());
         let ages = self.ages.iter().flat_map(|age| age.to_be_bytes());
         let marks = self.waiting.iter().chain(&self.dropped).map(|&mark| mark.into());
         let awake = self.awake.iter().map(|&awake| awake.into());
-        for (byte, value) in bytes.iter_mut().zip(awake.chain(used).chain(marks).chain(ages)) {
+        let fastest = self.fastest.iter().flat_map(|tempo| tempo.to_be_bytes());
+        for (byte, value) in bytes.iter_mut().zip(awake.chain(used).chain(marks).chain(ages).chain(fastest)) {
             *byte = value;
         }
     }
@@ -51,12 +55,20 @@ impl LinkSet {
     }
 }
 
-/// A machine for one description at one tempo, which are judged once for all its ticks.
+/// A source's spacing at a tempo.
+#[derive(Clone, Copy, Default)]
+struct Pace {
+    tempo: u16,
+    spacing: u32,
+}
+
+/// A machine for one description, which is judged once for all its ticks.
+#[derive(Clone)]
 pub struct Machine {
     runs: [u32; TASKS],
-    spacings: Spacings,
-    /// The sources that exist.
-    sources: u16,
+    sources: List<Source, SOURCES>,
+    /// The spacings at the slowest tempo, which no age exceeds.
+    widest: Spacings,
     /// The tasks that each node wakes, the links that it fires, and the links into each task.
     wakes: [u32; NODES],
     out_of: [LinkSet; NODES],
@@ -66,22 +78,26 @@ pub struct Machine {
     used: [u32; TASKS],
     waiting: LinkSet,
     dropped: LinkSet,
-    /// Ticks made, and for each source the number of the first tick in which it may fire. An age
-    /// is read off these, so that a tick need not raise every one.
-    now: u64,
-    may_fire: [u64; SOURCES],
+    /// Ticks made, and for each source the number of the tick in which it last fired. An age is
+    /// read off these, so that a tick need not raise every one.
+    now: i64,
+    fired: [i64; SOURCES],
+    /// For each source the fastest tempo since it fired, up to the last arrival of any, and the
+    /// fastest tempo since that arrival, which a tick without arrivals raises alone.
+    fastest: [u16; SOURCES],
+    since_arrival: u16,
+    /// Each source's spacing at the tempo for which an arrival last needed it.
+    paces: [Pace; SOURCES],
 }
 
 impl Machine {
-    /// The idle start, or refusal 11.
-    pub fn start(description: &Description, tempo: u32) -> Result<Machine, Refusal> {
-        if !(SLOWEST..=FASTEST).contains(&tempo) {
-            return Err(Refusal::of(Word::OffTheKnob));
-        }
+    /// The idle start.
+    pub fn start(description: &Description) -> Machine {
+        let widest = description.spacings(SLOWEST);
         let mut machine = Machine {
             runs: [0; TASKS],
-            spacings: description.spacings(tempo),
-            sources: ((1u32 << description.sources.len()) - 1) as u16,
+            sources: description.sources.clone(),
+            widest,
             wakes: [0; NODES],
             out_of: [LinkSet::default(); NODES],
             into: [LinkSet::default(); TASKS],
@@ -90,7 +106,10 @@ impl Machine {
             waiting: LinkSet::default(),
             dropped: LinkSet::default(),
             now: 0,
-            may_fire: [0; SOURCES],
+            fired: widest.map(|spacing| -i64::from(spacing)),
+            fastest: [0; SOURCES],
+            since_arrival: 0,
+            paces: [Pace::default(); SOURCES],
         };
         machine.runs[..description.runs.len()].copy_from_slice(&description.runs);
         for (place, link) in description.links.iter().enumerate() {
@@ -98,15 +117,15 @@ impl Machine {
             machine.out_of[link.from_index()].insert(place);
             machine.into[link.to_index()].insert(place);
         }
-        Ok(machine)
+        machine
     }
 
-    /// The machine that goes on from a record, or refusal 11 or 16.
-    pub fn resume(description: &Description, tempo: u32, record: &Record) -> Result<Machine, Refusal> {
-        let mut machine = Machine::start(description, tempo)?;
-        if !obeys_rules(record, description, &machine.spacings) {
+    /// The machine that goes on from a record, or refusal 16.
+    pub fn resume(description: &Description, record: &Record) -> Result<Machine, Refusal> {
+        if !obeys_rules(record, description) {
             return Err(Refusal::of(Word::ForeignState));
         }
+        let mut machine = Machine::start(description);
         machine.used = record.used;
         machine.awake = (0..TASKS).fold(0, |set, task| set | u32::from(record.awake[task]) << task);
         for link in 0..description.links.len() {
@@ -117,36 +136,67 @@ impl Machine {
                 machine.dropped.insert(link);
             }
         }
-        for source in 0..SOURCES {
-            machine.may_fire[source] = (machine.spacings[source] - record.ages[source]).into();
-        }
+        machine.fired = record.ages.map(|age| -i64::from(age));
+        machine.fastest = record.fastest;
         Ok(machine)
     }
 
-    /// Advances by one tick, or changes nothing with refusal 15 or 14.
+    /// Advances by one tick, or leaves the record as it is with refusal 11, 15 or 14.
     #[inline]
-    pub fn tick(&mut self, arrivals: u16, finish: bool) -> Result<(), Refusal> {
-        if arrivals & !self.sources != 0 {
-            return Err(Refusal::of(Word::Stranger));
-        }
-        if members(arrivals.into()).any(|source| self.may_fire[source] > self.now) {
-            return Err(Refusal::of(Word::TooSoon));
-        }
+    pub fn tick(&mut self, arrivals: u16, tempo: u16, finish: bool) -> Result<(), Refusal> {
+        check_tempo(tempo)?;
         if arrivals != 0 {
-            let mut fired = LinkSet::default();
-            let mut wakes = 0;
-            for source in members(arrivals.into()) {
-                fired.map(&self.out_of[TASKS + source], |fired, out| fired | out);
-                wakes |= self.wakes[TASKS + source];
-                self.may_fire[source] = self.now + u64::from(self.spacings[source]);
-            }
-            self.send(&fired, wakes);
+            self.arrive(arrivals, tempo)?;
+        }
+        if tempo > self.since_arrival {
+            self.since_arrival = tempo;
         }
         if self.awake != 0 {
             self.run_highest(finish);
         }
         self.now += 1;
         Ok(())
+    }
+
+    /// Lets the arriving sources fire, or leaves the record as it is with refusal 15 or 14.
+    #[inline]
+    fn arrive(&mut self, arrivals: u16, tempo: u16) -> Result<(), Refusal> {
+        if u32::from(arrivals) >> self.sources.len() != 0 {
+            return Err(Refusal::of(Word::Stranger));
+        }
+        self.fastest = self.fastest_kept();
+        self.since_arrival = 0;
+        if !members(arrivals.into()).all(|source| self.may_fire(source, tempo)) {
+            return Err(Refusal::of(Word::TooSoon));
+        }
+        let mut fired = LinkSet::default();
+        let mut wakes = 0;
+        for source in members(arrivals.into()) {
+            fired.map(&self.out_of[TASKS + source], |fired, out| fired | out);
+            wakes |= self.wakes[TASKS + source];
+            self.fired[source] = self.now;
+            self.fastest[source] = tempo;
+        }
+        self.send(&fired, wakes);
+        Ok(())
+    }
+
+    /// Whether a source's age has reached its spacing at the fastest tempo since it last fired,
+    /// this tick's included. The spacing is worked out only if that tempo is another than before.
+    #[inline]
+    fn may_fire(&mut self, source: usize, tempo: u16) -> bool {
+        let fastest = tempo.max(self.fastest[source]);
+        let pace = &mut self.paces[source];
+        if pace.tempo != fastest {
+            *pace = Pace { tempo: fastest, spacing: self.sources[source].spacing(fastest.into()) };
+        }
+        self.now - self.fired[source] >= pace.spacing.into()
+    }
+
+    /// The fastest tempo since each source last fired; 0 before its first firing.
+    fn fastest_kept(&self) -> [u16; SOURCES] {
+        let since = self.since_arrival;
+        self.fastest.map(|fastest| if fastest == 0 { 0 } else { fastest.max(since) })
     }
 
     /// Sends an event over each of a set of links, and wakes the tasks they lead to. Nodes share no link, so those that fire
@@ -183,18 +233,25 @@ impl Machine {
             waiting: std::array::from_fn(|link| self.waiting.has(link)),
             dropped: std::array::from_fn(|link| self.dropped.has(link)),
             ages: std::array::from_fn(|source| self.age(source)),
+            fastest: self.fastest_kept(),
         }
     }
 
     fn age(&self, source: usize) -> u32 {
-        let left = self.may_fire[source].saturating_sub(self.now);
-        self.spacings[source] - left as u32
+        (self.now - self.fired[source]).min(self.widest[source].into()) as u32
     }
 }
 
+/// Refusal 11, if a tempo is off the knob.
+#[inline]
+pub(super) fn check_tempo(tempo: u16) -> Result<(), Refusal> {
+    if (SLOWEST..=FASTEST).contains(&tempo.into()) { Ok(()) } else { Err(Refusal::of(Word::OffTheKnob)) }
+}
+
 /// The rules of the record: used is below the longest run; a sleeping task has used 0; a waiting
-/// link's task is awake; ages do not exceed spacings; nothing is set for absent nodes or links.
-fn obeys_rules(record: &Record, description: &Description, spacings: &Spacings) -> bool {
+/// link's task is awake; ages do not exceed the spacings at the slowest tempo; a kept tempo is one
+/// of the knob, or 0 with the age as at the start; nothing is set for absent nodes or links.
+fn obeys_rules(record: &Record, description: &Description) -> bool {
     let tasks = (0..TASKS).all(|task| match description.runs.get(task) {
         Some(&run) if record.awake[task] => record.used[task] < run,
         Some(_) => record.used[task] == 0,
@@ -204,7 +261,13 @@ fn obeys_rules(record: &Record, description: &Description, spacings: &Spacings) 
         Some(link) => !record.waiting[place] || record.awake[link.to_index()],
         None => !record.waiting[place] && !record.dropped[place],
     });
-    // The spacing of an absent source is given as 0.
-    let sources = (0..SOURCES).all(|source| record.ages[source] <= spacings[source]);
+    let sources = (0..SOURCES).all(|place| {
+        let (age, fastest) = (record.ages[place], record.fastest[place]);
+        match description.sources.get(place).map(|source| source.spacing(SLOWEST)) {
+            Some(widest) if fastest == 0 => age == widest,
+            Some(widest) => age <= widest && check_tempo(fastest).is_ok(),
+            None => age == 0 && fastest == 0,
+        }
+    });
     tasks && links && sources
 }

@@ -17,6 +17,7 @@ use Rattle.model.specs.declared.Arrivals.{Arrivals}
 use Rattle.model.specs.declared.Ticked.{Ticked}
 use Rattle.model.specs.declared.Outcome.{Outcome}
 use Rattle.model.specs.declared.Outcome.the-variants.{Done, Refused}
+use Rattle.model.specs.declared.Refusal.{Refusal}
 use Rattle.model.specs.declared.Refusal.the-variants.{OffKnob, TooSoon, Stranger, ForeignState}
 use Rattle.model.specs.Basics.{anyN, allN, upTo}
 use Rattle.model.specs.Graph.{runOf}
@@ -27,6 +28,7 @@ use Rattle.model.specs.Machine.{awakeAt, usedAt, ageAt, fastestAt, longestGap, 
 use Rattle.model.specs.Run.{heard, marksIn}
 use Rattle.lemmas.proofs.Tests.{not-both, true-of, false-of, both, and-left, and-right, and-false-left, and-false-right, within}
 use Rattle.lemmas.proofs.Range.{all-at, any-at, any-none, none-any}
+use Rattle.lemmas.proofs.Outcomes.{refused-not}
 use Rattle.theory.proofs.WellFormed.{WellFormed}
 use Rattle.theory.proofs.Spacing.{gap-anti}
 use Rattle.assurance.proofs.Stepping.{overAt, Stepped, step}
@@ -41,7 +43,7 @@ use Rattle.steps.specs.Words.{Ages, Holds, Workable, worked, Stored, Above, rai
 use Rattle.steps.proofs.MaskLaws.{none-above, mark-in, heard-under}
 use Rattle.steps.proofs.StepLaws.{arrive-none, ages-same}
 use Rattle.machine.specs.declared.call.Advanced.{Advanced}
-use Rattle.machine.specs.Calls.{TablesOf, Tracks, Timed}
+use Rattle.machine.specs.Calls.{TablesOf, Tracks, Timed, arrivalsEnd}
 
 -- a mask with nothing left above s sources
 pub known : (d : Description) (mask s a : ℕ) → d .«source_count» ≡ s → s ≤ 16 → a ≡ mask / 2 ^ s → a ≡ 0 → Known d mask
@@ -184,17 +186,36 @@ pub tick-foreign : (d : Description) (t : ℕ) (m : Machine) (a : Arrivals) (fin
 unfolding plainTick judgeTick
 tick-foreign d t m a finish e l = rw (e, l) refl
 
-pub tick-stranger : (d : Description) (t : ℕ) (m : Machine) (a : Arrivals) (finish : Bool) → judgeAt d t ≡ Done → lawful d m ≡ true → strangers d (a .marks) ≡ true → record { outcome = Refused Stranger 0; machine = m } ≡ plainTick d t m a finish
+-- it ends as its arrivals do
+pub tick-refused : (d : Description) (t mask : ℕ) (m : Machine) (finish : Bool) (r : Refusal) (place : ℕ) → judgeAt d t ≡ Done → lawful d m ≡ true → arrivalsEnd d t mask m ≡ Refused r place → record { outcome = Refused r place; machine = m } ≡ plainTick d t m (record { marks = marksIn mask }) finish
 unfolding plainTick judgeTick
-tick-stranger d t m a finish e l s = rw (e, l, s) refl
+tick-refused d t mask m finish r place e l a = rw (e, l, a) refl
 
-pub tick-soon : (d : Description) (t : ℕ) (m : Machine) (a : Arrivals) (finish : Bool) → judgeAt d t ≡ Done → lawful d m ≡ true → strangers d (a .marks) ≡ false → tooSoon d t (a .marks) m ≡ true → record { outcome = Refused TooSoon 0; machine = m } ≡ plainTick d t m a finish
+pub tick-done : (d : Description) (t mask : ℕ) (m : Machine) (finish : Bool) → judgeAt d t ≡ Done → lawful d m ≡ true → arrivalsEnd d t mask m ≡ Done → record { outcome = Done; machine = stepped d t (marksIn mask) finish m } ≡ plainTick d t m (record { marks = marksIn mask }) finish
 unfolding plainTick judgeTick
-tick-soon d t m a finish e l s n = rw (e, l, s, n) refl
+tick-done d t mask m finish e l a = rw (e, l, a) refl
 
-pub tick-done : (d : Description) (t : ℕ) (m : Machine) (a : Arrivals) (finish : Bool) → judgeAt d t ≡ Done → lawful d m ≡ true → strangers d (a .marks) ≡ false → tooSoon d t (a .marks) m ≡ false → record { outcome = Done; machine = stepped d t (a .marks) finish m } ≡ plainTick d t m a finish
-unfolding plainTick judgeTick
-tick-done d t m a finish e l s n = rw (e, l, s, n) refl
+-- the refusals of arrivals have the place 0
+pub end-place : (d : Description) (t mask : ℕ) (m : Machine) (r : Refusal) (place : ℕ) → arrivalsEnd d t mask m ≡ Refused r place → place ≡ 0
+end-place d t mask m r place e = go (strangers d (marksIn mask)) refl (tooSoon d t (marksIn mask) m) refl
+  where
+    at : Outcome → ℕ
+    at Done = 0
+    at (Refused r place) = place
+
+    go : (a : Bool) → strangers d (marksIn mask) ≡ a → (b : Bool) → tooSoon d t (marksIn mask) m ≡ b → place ≡ 0
+    go true p b q = sym (ap at (rw p at e))
+    go false p true q = sym (ap at (rw (p, q) at e))
+    go false p false q = sym (ap at (rw (p, q) at e))
+
+pub end-stranger : (d : Description) (t mask : ℕ) (m : Machine) → strangers d (marksIn mask) ≡ true → Refused Stranger 0 ≡ arrivalsEnd d t mask m
+end-stranger d t mask m s = rw s refl
+
+pub end-soon : (d : Description) (t mask : ℕ) (m : Machine) → strangers d (marksIn mask) ≡ false → tooSoon d t (marksIn mask) m ≡ true → Refused TooSoon 0 ≡ arrivalsEnd d t mask m
+end-soon d t mask m s n = rw (s, n) refl
+
+pub end-none : (d : Description) (t mask : ℕ) (m : Machine) → strangers d (marksIn mask) ≡ false → tooSoon d t (marksIn mask) m ≡ false → Done ≡ arrivalsEnd d t mask m
+end-none d t mask m s n = rw (s, n) refl
 
 -- no arrivals: the mask is known, none is too soon, nothing fires, and no tempo is stored
 pub silent-known : (d : Description) (mask : ℕ) → WellFormed d → mask ≡ 0 → Known d mask
@@ -270,13 +291,23 @@ module _ (d : Description) (t mask : ℕ) (finish : Bool) (w : Words) (used sinc
       T : Stepped d g t (marksIn mask) (highest d (arrive d (marksIn mask) m)) (overAt d (highest d (arrive d (marksIn mask) m)) finish m) m (stepped d t (marksIn mask) finish m)
       T = step d g t (marksIn mask) finish m (R .holds .marks .sized)
 
--- a call's answer and the plain machine's, whose record its words hold
+-- a refused call's answer and the plain machine's, whose record its words hold
 pub answer-ends : (r : Advanced) (o : Outcome) (w : Words) (m : Machine) (p : Ticked) → r ≡ record { outcome = o; words = w } → record { outcome = o; machine = m } ≡ p → r .outcome ≡ p .outcome
 answer-ends r o w m p e q = ap (λ (x : Advanced). x .outcome) e ∙ ap (λ (x : Ticked). x .outcome) q
 
-pub answer-tracks : (d : Description) (used since fastest : List ℕ) (r : Advanced) (o : Outcome) (w : Words) (m : Machine) (p : Ticked) → r ≡ record { outcome = o; words = w } → record { outcome = o; machine = m } ≡ p → Tracks d w used since fastest m → Tracks d (r .words) used since fastest (p .machine)
-answer-tracks d used since fastest r o w m p e q h =
-    subst (λ (k : Machine). Tracks d (r .words) used since fastest k) (ap (λ (x : Ticked). x .machine) q) (subst (λ (k : Words). Tracks d k used since fastest m) (sym (ap (λ (x : Advanced). x .words) e)) h)
+pub answer-tracks : (d : Description) (used since fastest since′ fastest′ : List ℕ) (r : Advanced) (o : Outcome) (w : Words) (m : Machine) (p : Ticked) → since′ ≡ since → fastest′ ≡ fastest → r ≡ record { outcome = o; words = w } → record { outcome = o; machine = m } ≡ p → Tracks d w used since fastest m → Tracks d (r .words) used since′ fastest′ (p .machine)
+answer-tracks d used since fastest since′ fastest′ r o w m p a b e q h =
+    rw (a, b) (subst (λ (k : Machine). Tracks d (r .words) used since fastest k) (ap (λ (x : Ticked). x .machine) q) (subst (λ (k : Words). Tracks d k used since fastest m) (sym (ap (λ (x : Advanced). x .words) e)) h))
 
 pub answer-tick : (r : Advanced) (o : Outcome) (w : Words) → r ≡ record { outcome = o; words = w } → r .words .tick ≡ w .tick
 answer-tick r o w e = ap (λ (x : Advanced). x .words .tick) e
+
+-- arrivals that are refused leave the words as they were
+pub refused-stays : (r : Advanced) (why : Refusal) (w : Words) → r ≡ record { outcome = Refused why 0; words = w } → r .outcome ≡ Done → ⊥
+refused-stays r why w e f = refused-not (sym (ap (λ (x : Advanced). x .outcome) e) ∙ f)
+
+pub answer-knob : (r : Advanced) (o : Outcome) (w : Words) → r ≡ record { outcome = o; words = w } → r .words .tempo ≡ w .tempo
+answer-knob r o w e = ap (λ (x : Advanced). x .words .tempo) e
+
+pub answer-words : (d : Description) (used since : List ℕ) (m : Machine) (r : Advanced) (o : Outcome) (w : Words) → r ≡ record { outcome = o; words = w } → Holds d w used since m → Holds d (r .words) used since m
+answer-words d used since m r o w e h = subst (λ (k : Words). Holds d k used since m) (sym (ap (λ (x : Advanced). x .words) e)) h

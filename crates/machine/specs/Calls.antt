@@ -1,6 +1,6 @@
 -- What one call ensures: of every accepted description whose tables it is given, and every record that its words hold.
 use Prim.Native.Nat.{ℕ, _+_, _^_, _≤_, _<_}
-use mathlib.Core.Bool.{Bool, true}
+use mathlib.Core.Bool.{Bool, true, cond}
 use mathlib.Core.List.{List}
 use mathlib.Core.Path.{_≡_}
 use lib.ListN.{getD}
@@ -8,10 +8,12 @@ use Rattle.model.specs.declared.Description.{Description}
 use Rattle.model.specs.declared.Machine.{Machine}
 use Rattle.model.specs.declared.Arrivals.{Arrivals}
 use Rattle.model.specs.declared.Ticked.{Ticked}
-use Rattle.model.specs.declared.Outcome.the-variants.{Done}
+use Rattle.model.specs.declared.Outcome.{Outcome}
+use Rattle.model.specs.declared.Outcome.the-variants.{Done, Refused}
+use Rattle.model.specs.declared.Refusal.the-variants.{Stranger, TooSoon}
 use Rattle.model.specs.File.{judge}
-use Rattle.model.specs.Verdicts.{judgeAt}
-use Rattle.model.specs.Machine.{ageAll, lawful, tooSoon, plainTick}
+use Rattle.model.specs.Verdicts.{onKnob, judgeAt}
+use Rattle.model.specs.Machine.{arrive, ageAll, lawful, strangers, tooSoon, plainTick}
 use Rattle.model.specs.History.{plainCall}
 use Rattle.model.specs.Run.{heard, marksIn, callOf}
 use Rattle.theory.proofs.WellFormed.{WellFormed}
@@ -22,7 +24,7 @@ use Rattle.spacings.specs.Sources.{sourcesWith, SourcesOf}
 use Rattle.spacings.specs.Gaps.{Asked, GapsOf}
 use Rattle.steps.specs.declared.words.Words.{Words}
 use Rattle.steps.specs.Parts.{Known, Sourced}
-use Rattle.steps.specs.Words.{Ages, Holds, Keeps, worked, Raises}
+use Rattle.steps.specs.Words.{Ages, Holds, Keeps, Stored, worked, Raises}
 use Rattle.machine.specs.declared.call.Call.{Call}
 use Rattle.machine.specs.declared.call.Advanced.{Advanced}
 
@@ -50,7 +52,7 @@ pub record Timed (mask t : ℕ) (ticks pulses since fastest tempos gaps : List �
   pub asked : Asked ticks pulses tempos gaps
 
 -- whether an arriving source comes too soon
-pub record TooSoon (mask t : ℕ) (ticks pulses since fastest : List ℕ) (tick : ℕ) (r : Bool) (tempos′ gaps′ : List ℕ) : Type 0 where
+pub record SoonIs (mask t : ℕ) (ticks pulses since fastest : List ℕ) (tick : ℕ) (r : Bool) (tempos′ gaps′ : List ℕ) : Type 0 where
   pub told : (d : Description) (sources : ℕ) (m : Machine) → WellFormed d → SourcesOf d (sourcesWith sources ticks pulses) → Known d mask
       → Ages d tick since m → fastest ≡ m .fastest → r ≡ tooSoon d t (marksIn mask) m
   pub asked : Asked ticks pulses tempos′ gaps′
@@ -63,6 +65,40 @@ pub record RunsOn (rows runs : List ℕ) (t : ℕ) (finish : Bool) (w : Words) (
   pub raises : Raises t (w .tempo) fastest fastest′
   pub then : r .words .tick ≡ w .tick + 1
   pub knob : r .words .tempo ≡ t
+
+-- 15 and 14 in this order, or neither
+abbrev pub arrivalsEnd : Description → ℕ → ℕ → Machine → Outcome
+arrivalsEnd d t mask m =
+    cond (strangers d (marksIn mask)) (Refused Stranger 0)
+    (cond (tooSoon d t (marksIn mask) m) (Refused TooSoon 0)
+    Done)
+
+-- arrivals may be judged: there is some record that the tables hold
+pub record Coming (rows ticks pulses : List ℕ) (sources t mask : ℕ) (w : Words) (since fastest tempos gaps : List ℕ) : Type 0 where
+  pub description : Description
+  pub machine : Machine
+  pub runs : List ℕ
+  pub used : List ℕ
+  pub tables : TablesOf description rows runs ticks pulses sources
+  pub tracks : Tracks description w used since fastest machine
+  pub keeps : lawful description machine ≡ true
+  pub on : onKnob t ≡ true
+  pub sourced : Sourced mask
+  pub fits : mask < 2 ^ 64
+  pub early : w .tick < 2 ^ 63
+  pub asked : Asked ticks pulses tempos gaps
+
+-- they are refused, and all is as it was; or the sources have fired
+pub record Comes (rows ticks pulses : List ℕ) (sources t mask : ℕ) (w : Words) (since fastest : List ℕ) (r : Advanced) (since′ fastest′ tempos′ gaps′ : List ℕ) : Type 0 where
+  pub ends : (d : Description) (runs used : List ℕ) (m : Machine) → TablesOf d rows runs ticks pulses sources → Tracks d w used since fastest m
+      → r .outcome ≡ arrivalsEnd d t mask m
+  pub stays : (r .outcome ≡ Done → ⊥) → (since′ ≡ since) × (fastest′ ≡ fastest)
+  pub fired : r .outcome ≡ Done → (d : Description) (runs used : List ℕ) (m : Machine) → TablesOf d rows runs ticks pulses sources → Tracks d w used since fastest m
+      → Holds d (r .words) used since′ (arrive d (marksIn mask) m)
+  pub kept : r .outcome ≡ Done → Stored mask 16 t fastest fastest′
+  pub asked : Asked ticks pulses tempos′ gaps′
+  pub then : r .words .tick ≡ w .tick
+  pub knob : r .words .tempo ≡ w .tempo
 
 -- a call may be made: its tables are those of some accepted description, and the words hold a record that keeps the rules
 pub record Going (rows runs ticks pulses : List ℕ) (sources mask : ℕ) (w : Words) (used since fastest tempos gaps : List ℕ) : Type 0 where

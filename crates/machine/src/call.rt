@@ -13,9 +13,9 @@ ghost use mathlib.Core.Path.{_≡_};
 ghost use Prim.Native.Nat.{_+_, _≤_, _<_, _/_, _^_, max};
 ghost use lib.ListN.{length};
 ghost use lib.Dec.{ltb};
-ghost use Rattle.model.specs.declared.Outcome.the-variants.{Refused};
+ghost use Rattle.model.specs.declared.Outcome.the-variants.{Done, Refused};
 ghost use Rattle.steps.specs.Words.{Workable};
-ghost use Rattle.machine.specs.Calls.{Timed, TooSoon, RunsOn, Going, Advances};
+ghost use Rattle.machine.specs.Calls.{Timed, SoonIs, RunsOn, Coming, Comes, Going, Advances};
 
 // What a caller brings to a tick: the arrivals, whose bit u is source 33 + u, the tempo, and finish.
 pub struct Call {
@@ -69,7 +69,7 @@ fn too_soon<'a>(
     gaps: &mut [u32; 16],
 ) -> bool
     requires { ⌜ Timed mask t (now ticks) (now pulses) (now since) (now fastest) (now tempos) (now gaps) ⌝ }
-    ensures { λ r. ⌜ TooSoon mask t (now (ticks .entry)) (now (pulses .entry)) (now (since .entry)) (now (fastest .entry)) tick r (now (tempos .exit)) (now (gaps .exit)) ⌝ }
+    ensures { λ r. ⌜ SoonIs mask t (now (ticks .entry)) (now (pulses .entry)) (now (since .entry)) (now (fastest .entry)) tick r (now (tempos .exit)) (now (gaps .exit)) ⌝ }
 {
     let mut rest = mask;
     while rest != 0 {
@@ -92,6 +92,14 @@ fn refused(why: Refusal, words: Words) -> Advanced
     Advanced { outcome, words }
 }
 
+// A call that is done leaves other words.
+fn done(words: Words) -> Advanced
+    ensures { λ r. ⌜ r ≡ record { outcome = Done; words = words } ⌝ }
+{
+    let outcome = Outcome::Done;
+    Advanced { outcome, words }
+}
+
 // Steps 2 to 4 at tempo t, once the arrivals have fired.
 fn run_on<'a>(
     rows: &'a [u64; 576],
@@ -106,9 +114,36 @@ fn run_on<'a>(
     ensures { λ r. ⌜ RunsOn (now (rows .entry)) (now (runs .entry)) t finish w (now (used .entry)) (now (fastest .entry)) r (now (used .exit)) (now (fastest .exit)) ⌝ }
 {
     let worked = work(rows, runs, finish, w, used);
-    let words = pass(t, worked, fastest);
-    let outcome = Outcome::Done;
-    Advanced { outcome, words }
+    done(pass(t, worked, fastest))
+}
+
+// 15 and 14 in this order, or else step 1 at tempo t: the arrivals fire.
+fn come<'a>(
+    rows: &'a [u64; 576],
+    ticks: &'a [u32; 16],
+    pulses: &'a [u32; 16],
+    sources: usize,
+    t: u32,
+    mask: u64,
+    w: Words,
+    since: &mut [u64; 16],
+    fastest: &mut [u32; 16],
+    tempos: &mut [u32; 16],
+    gaps: &mut [u32; 16],
+) -> Advanced
+    requires { ⌜ Coming (now rows) (now ticks) (now pulses) sources t mask w (now since) (now fastest) (now tempos) (now gaps) ⌝ }
+    ensures { λ r. ⌜ Comes (now (rows .entry)) (now (ticks .entry)) (now (pulses .entry)) sources t mask w (now (since .entry)) (now (fastest .entry)) r (now (since .exit)) (now (fastest .exit)) (now (tempos .exit)) (now (gaps .exit)) ⌝ }
+{
+    if mask == 0 {
+        return done(w);
+    }
+    if above(mask, sources) != 0 {
+        return refused(Refusal::Stranger, w);
+    }
+    if too_soon(mask, t, ticks, pulses, since, fastest, w.tick, tempos, gaps) {
+        return refused(Refusal::TooSoon, w);
+    }
+    done(arrive(rows, t, mask, w, since, fastest))
 }
 
 // 11, 15 and 14 in this order, or else a tick. The record keeps the rules, so that 16 is not looked for.
@@ -129,21 +164,27 @@ pub fn advance<'a>(
     requires { ⌜ Going (now rows) (now runs) (now ticks) (now pulses) sources (call .mask) w (now used) (now since) (now fastest) (now tempos) (now gaps) ⌝ }
     ensures { λ r. ⌜ Advances (now (rows .entry)) (now (runs .entry)) (now (ticks .entry)) (now (pulses .entry)) sources call w (now (used .entry)) (now (since .entry)) (now (fastest .entry)) r (now (used .exit)) (now (since .exit)) (now (fastest .exit)) (now (tempos .exit)) (now (gaps .exit)) ⌝ }
 {
-    let mask = call.mask;
     let t = call.tempo;
     let finish = call.finish;
     if !on_knob(t) {
         return refused(Refusal::OffKnob, w);
     }
-    if mask == 0 {
-        return run_on(rows, runs, t, finish, w, used, fastest);
+    let came = come(
+        rows,
+        ticks,
+        pulses,
+        sources,
+        t,
+        call.mask,
+        w,
+        since,
+        &mut *fastest,
+        tempos,
+        gaps,
+    );
+    let outcome = came.outcome;
+    if let Outcome::Refused(why, _) = outcome {
+        return refused(why, w);
     }
-    if above(mask, sources) != 0 {
-        return refused(Refusal::Stranger, w);
-    }
-    if too_soon(mask, t, ticks, pulses, since, fastest, w.tick, tempos, gaps) {
-        return refused(Refusal::TooSoon, w);
-    }
-    let arrived = arrive(rows, t, mask, w, since, &mut *fastest);
-    run_on(rows, runs, t, finish, arrived, used, fastest)
+    run_on(rows, runs, t, finish, came.words, used, fastest)
 }

@@ -1,23 +1,20 @@
--- `advance` meets its contract: a tempo off the knob, a quiet tick, a stranger, a source that comes too soon, or arrivals and the steps after them.
--- Assumes nothing.
-use Prim.Native.Nat.{ℕ, _≤_}
-use mathlib.Core.Path.{_≡_, sym, ap, subst, _∙_}
-use mathlib.Core.Bool.{true}
-use mathlib.Core.List.{List}
+-- `advance` meets its contract: a tempo off the knob, arrivals that are refused, or the steps after them. Assumes nothing.
+use mathlib.Core.Path.{_≡_, refl, sym, ap, subst, _∙_}
+use mathlib.Core.Bool.{true, false}
 use native.Mathlib.Omega.{arith}
-use lib.ListN.{length}
 use borrow.Author.Tests.{not-true, not-false}
 use Rattle.model.specs.declared.Machine.{Machine}
 use Rattle.model.specs.declared.Ticked.{Ticked}
-use Rattle.model.specs.declared.Outcome.the-variants.{Refused}
-use Rattle.model.specs.declared.Refusal.the-variants.{OffKnob, TooSoon, Stranger}
+use Rattle.model.specs.declared.Outcome.the-variants.{Done, Refused}
+use Rattle.model.specs.declared.Refusal.the-variants.{OffKnob}
 use Rattle.model.specs.Verdicts.{onKnob}
-use Rattle.model.specs.Machine.{arrive, ageAll}
+use Rattle.model.specs.Machine.{arrive}
 use Rattle.model.specs.Run.{marksIn}
+use Rattle.lemmas.proofs.Outcomes.{refused-not}
 use Rattle.lemmas.proofs.Tests.{within}
-use Rattle.steps.specs.Words.{Holds, worked, Raises}
-use Rattle.machine.specs.Calls.{Going, Tracks}
-use Rattle.machine.proofs.CallLaws.{known, strangers-none, strangers-some, workable, timed, judged-at, tick-off, silent-known, silent-soon, silent-arrive, silent-stored, tracked, tick-stranger, tick-soon, tick-done, answer-ends, answer-tracks, answer-tick}
+use Rattle.steps.specs.Words.{Raises}
+use Rattle.machine.specs.Calls.{Tracks}
+use Rattle.machine.proofs.CallLaws.{workable, judged-at, tick-off, tick-refused, tick-done, end-place, tracked, answer-ends, answer-tracks, answer-tick}
 use borrow.Author.Needs.{needs}
 use Rattle.machine.proofs.call.advance.Statement.{statement}
 use Rattle.machine.proofs.call.advance.Tie as tie
@@ -32,139 +29,97 @@ returns : tie.Need-returns
 returns c =
     let A = c .before .before .before .args in
     let r = c .refused in
-    let off : onKnob (A .call .tempo) ≡ _ = sym (c .before .before .on-knob .ensures) ∙ not-true (c .before .before .on-knob .result) (c .before .if1 .taken) in
-    let soon = answer-tick (r .result) (Refused OffKnob 0) (A .w) (r .ensures) in
+    let w = A .w in
+    let off : onKnob (A .call .tempo) ≡ false = sym (c .before .before .on-knob .ensures) ∙ not-true (c .before .before .on-knob .result) (c .before .if1 .taken) in
+    let soon = answer-tick (r .result) (Refused OffKnob 0) w (r .ensures) in
     record {
-      ends = λ d m T j l R. answer-ends (r .result) (Refused OffKnob 0) (A .w) m _ (r .ensures) (tick-off d (A .call .tempo) m (record { marks = marksIn (A .call .mask) }) (A .call .finish) j off);
-      leaves = λ d m T j l R. answer-tracks d (A .used .now) (A .since .now) (A .fastest .now) (r .result) (Refused OffKnob 0) (A .w) m _ (r .ensures) (tick-off d (A .call .tempo) m (record { marks = marksIn (A .call .mask) }) (A .call .finish) j off) R;
+      ends = λ d m T j l R. answer-ends (r .result) (Refused OffKnob 0) w m _ (r .ensures) (tick-off d (A .call .tempo) m (record { marks = marksIn (A .call .mask) }) (A .call .finish) j off);
+      leaves = λ d m T j l R. answer-tracks d (A .used .now) (A .since .now) (A .fastest .now) (A .since .now) (A .fastest .now) (r .result) (Refused OffKnob 0) w m _ refl refl (r .ensures) (tick-off d (A .call .tempo) m (record { marks = marksIn (A .call .mask) }) (A .call .finish) j off) R;
       asked = c .before .before .before .pre .asked;
       soon = omega (arith, soon);
     }
 
-run-on-requires : tie.Need-run-on-requires
-run-on-requires c κs =
-    let A = c .before .before .before .before .before .args in
-    let p = c .before .before .before .before .before .pre in
-    let H = p .tracks .holds in
-    (workable (p .description) (A .w) (A .w) (A .used .now) (A .since .now) (A .since .now) (p .machine) (p .machine) (p .tables .formed) (p .keeps) H H, p .early, ap length (p .tracks .keeps .same) ∙ H .marks .sized .fastests)
-
-returns-2 : tie.Need-returns-2
-returns-2 c =
+come-requires : tie.Need-come-requires
+come-requires c κs =
     let A = c .before .before .before .before .before .before .args in
     let p = c .before .before .before .before .before .before .pre in
-    let mask = A .call .mask in
-    let t = A .call .tempo in
-    let finish = A .call .finish in
-    let v = c .run-on in
-    let e : mask ≡ 0 = c .before .before .before .if2 .taken in
-    let on : onKnob t ≡ true = sym (c .before .before .before .before .before .on-knob .ensures) ∙ not-false (c .before .before .before .before .before .on-knob .result) (c .before .before .before .before .if1 .left) in
-    let used = v .last .1 .1 .1 .1 .1 .0 in
-    let fastest = v .last .1 .1 .1 .1 .1 .1 .0 in
-    let sized : length (A .fastest .now) ≡ 16 = ap length (p .tracks .keeps .same) ∙ p .tracks .holds .marks .sized .fastests in
     record {
-      ends = λ d m T j l R. v .ensures .done ∙ ap (λ (x : Ticked). x .outcome) (tick-done d t m (record { marks = marksIn mask }) finish (judged-at d t j on) l (strangers-none d mask (silent-known d mask (T .formed) e)) (silent-soon d t mask m (T .formed) e));
-      leaves = λ d m T j l R.
-          subst (λ (k : Machine). Tracks d (v .result .words) used (A .since .now) fastest k) (ap (λ (x : Ticked). x .machine) (tick-done d t m (record { marks = marksIn mask }) finish (judged-at d t j on) l (strangers-none d mask (silent-known d mask (T .formed) e)) (silent-soon d t mask m (T .formed) e)))
-          (tracked d t mask finish (A .w) (A .used .now) (A .since .now) (A .fastest .now) (A .fastest .now) fastest m (T .formed) (within 200 t 3000 on .0) R (silent-stored mask t (A .fastest .now) sized e) (v .ensures .raises) (v .result .words) used (A .since .now) (v .ensures .knob)
-          (subst (λ (k : Machine). Holds d (v .result .words) used (A .since .now) (ageAll d (worked d finish k))) (silent-arrive d mask m (T .formed) e) (v .ensures .ran d (A .since .now) m (T .formed) (T .rowed) (T .same-runs) (R .holds))));
+      description = p .description;
+      machine = p .machine;
+      runs = A .runs .now;
+      used = A .used .now;
+      tables = p .tables;
+      tracks = p .tracks;
+      keeps = p .keeps;
+      on = sym (c .before .before .before .before .before .on-knob .ensures) ∙ not-false (c .before .before .before .before .before .on-knob .result) (c .before .before .before .before .if1 .left);
+      sourced = p .sourced;
+      fits = p .fits;
+      early = p .early;
       asked = p .asked;
-      soon = omega (arith, v .ensures .then);
     }
 
-above-requires : tie.Need-above-requires
-above-requires c κs = omega (arith, c .before .before .before .pre .tables .as-wide, c .before .before .before .pre .tables .formed .fields .few-sources)
+enum-known-outcome : tie.Need-enum-known-outcome
+enum-known-outcome c = search needs
 
 refused-requires-2 : tie.Need-refused-requires-2
 refused-requires-2 c κs = search needs
 
-returns-3 : tie.Need-returns-3
-returns-3 c =
-    let A = c .before .before .before .before .before .before .args in
-    let mask = A .call .mask in
+returns-2 : tie.Need-returns-2
+returns-2 c =
+    let A = c .before .before .before .before .before .before .before .before .before .before .before .args in
+    let w = A .w in
     let t = A .call .tempo in
-    let few : A .sources ≤ 16 = omega (arith, c .before .before .before .before .before .before .pre .tables .as-wide, c .before .before .before .before .before .before .pre .tables .formed .fields .few-sources) in
+    let mask = A .call .mask in
+    let v = c .before .before .before .before .come in
     let r = c .refused2 in
-    let on : onKnob t ≡ true = sym (c .before .before .before .before .before .on-knob .ensures) ∙ not-false (c .before .before .before .before .before .on-knob .result) (c .before .before .before .before .if1 .left) in
-    let soon = answer-tick (r .result) (Refused Stranger 0) (A .w) (r .ensures) in
-    record {
-      ends = λ d m T j l R. answer-ends (r .result) (Refused Stranger 0) (A .w) m _ (r .ensures) (tick-stranger d t m (record { marks = marksIn mask }) (A .call .finish) (judged-at d t j on) l (strangers-some d mask (A .sources) (T .as-wide) few (c .before .before .before .before .before .before .pre .fits) (c .before .before .before .before .before .before .pre .sourced) (λ z. c .before .if3 .taken (c .before .before .above .ensures ∙ z))));
-      leaves = λ d m T j l R. answer-tracks d (A .used .now) (A .since .now) (A .fastest .now) (r .result) (Refused Stranger 0) (A .w) m _ (r .ensures) (tick-stranger d t m (record { marks = marksIn mask }) (A .call .finish) (judged-at d t j on) l (strangers-some d mask (A .sources) (T .as-wide) few (c .before .before .before .before .before .before .pre .fits) (c .before .before .before .before .before .before .pre .sourced) (λ z. c .before .if3 .taken (c .before .before .above .ensures ∙ z)))) R;
-      asked = c .before .before .before .before .before .before .pre .asked;
-      soon = omega (arith, soon);
-    }
-
-too-soon-requires : tie.Need-too-soon-requires
-too-soon-requires c κs =
-    let A = c .before .before .before .before .before .before .before .before .before .args in
-    let p = c .before .before .before .before .before .before .before .before .before .pre in
-    let mask = A .call .mask in
-    let few : A .sources ≤ 16 = omega (arith, p .tables .as-wide, p .tables .formed .fields .few-sources) in
-    let on : onKnob (A .call .tempo) ≡ true = sym (c .before .before .before .before .before .before .before .before .on-knob .ensures) ∙ not-false (c .before .before .before .before .before .before .before .before .on-knob .result) (c .before .before .before .before .before .before .before .if1 .left) in
-    timed (p .description) (A .call .tempo) mask (A .sources) (A .w) (A .rows .now) (A .runs .now) (A .ticks .now) (A .pulses .now) (A .used .now) (A .since .now) (A .fastest .now) (A .tempos .now) (A .gaps .now) (p .machine) (p .tables) (p .tracks) (p .keeps) (p .early) (p .asked) (p .sourced) (known (p .description) mask (A .sources) (c .before .before .before .before .before .above .result) (p .tables .as-wide) few (c .before .before .before .before .before .above .ensures) (c .before .before .before .before .if3 .left)) on
-
-refused-requires-3 : tie.Need-refused-requires-3
-refused-requires-3 c κs = search needs
-
-returns-4 : tie.Need-returns-4
-returns-4 c =
-    let A = c .before .before .before .before .before .before .before .before .before .before .before .before .args in
-    let mask = A .call .mask in
-    let t = A .call .tempo in
-    let few : A .sources ≤ 16 = omega (arith, c .before .before .before .before .before .before .before .before .before .before .before .before .pre .tables .as-wide, c .before .before .before .before .before .before .before .before .before .before .before .before .pre .tables .formed .fields .few-sources) in
-    let r = c .refused3 in
-    let on : onKnob t ≡ true = sym (c .before .before .before .before .before .before .before .before .before .before .before .on-knob .ensures) ∙ not-false (c .before .before .before .before .before .before .before .before .before .before .before .on-knob .result) (c .before .before .before .before .before .before .before .before .before .before .if1 .left) in
-    let soon = answer-tick (r .result) (Refused TooSoon 0) (A .w) (r .ensures) in
+    let told = c .before .before .outcome .given in
+    let why = told .0 .0 in
+    let on : onKnob t ≡ true = sym (c .before .before .before .before .before .before .before .before .before .before .on-knob .ensures) ∙ not-false (c .before .before .before .before .before .before .before .before .before .before .on-knob .result) (c .before .before .before .before .before .before .before .before .before .if1 .left) in
+    let same = v .ensures .stays (λ f. refused-not (sym (told .1) ∙ f)) in
+    let soon = answer-tick (r .result) (Refused why 0) w (r .ensures) in
     record {
       ends = λ d m T j l R.
-          let K = known d mask (A .sources) (c .before .before .before .before .before .before .before .before .above .result) (T .as-wide) few (c .before .before .before .before .before .before .before .before .above .ensures) (c .before .before .before .before .before .before .before .if3 .left) in
-          answer-ends (r .result) (Refused TooSoon 0) (A .w) m _ (r .ensures) (tick-soon d t m (record { marks = marksIn mask }) (A .call .finish) (judged-at d t j on) l (strangers-none d mask K) (sym (c .before .before .too-soon .ensures .told d (A .sources) m (T .formed) (T .same-sources) K (R .holds .ages) (R .keeps .same)) ∙ c .before .if4 .taken));
+          let e = sym (v .ensures .ends d (A .runs .now) (A .used .now) m T R) ∙ told .1 in
+          answer-ends (r .result) (Refused why 0) w m _ (r .ensures) (tick-refused d t mask m (A .call .finish) why 0 (judged-at d t j on) l (e ∙ ap (Refused why) (end-place d t mask m why (told .0 .1 .0) e)));
       leaves = λ d m T j l R.
-          let K = known d mask (A .sources) (c .before .before .before .before .before .before .before .before .above .result) (T .as-wide) few (c .before .before .before .before .before .before .before .before .above .ensures) (c .before .before .before .before .before .before .before .if3 .left) in
-          answer-tracks d (A .used .now) (A .since .now) (A .fastest .now) (r .result) (Refused TooSoon 0) (A .w) m _ (r .ensures) (tick-soon d t m (record { marks = marksIn mask }) (A .call .finish) (judged-at d t j on) l (strangers-none d mask K) (sym (c .before .before .too-soon .ensures .told d (A .sources) m (T .formed) (T .same-sources) K (R .holds .ages) (R .keeps .same)) ∙ c .before .if4 .taken)) R;
-      asked = c .before .before .too-soon .ensures .asked;
+          let e = sym (v .ensures .ends d (A .runs .now) (A .used .now) m T R) ∙ told .1 in
+          answer-tracks d (A .used .now) (A .since .now) (A .fastest .now) (v .last .1 .1 .1 .1 .1 .1 .1 .0) (v .last .1 .1 .1 .1 .1 .1 .1 .1 .0) (r .result) (Refused why 0) w m _ (same .0) (same .1) (r .ensures) (tick-refused d t mask m (A .call .finish) why 0 (judged-at d t j on) l (e ∙ ap (Refused why) (end-place d t mask m why (told .0 .1 .0) e))) R;
+      asked = v .ensures .asked;
       soon = omega (arith, soon);
     }
 
-arrive-requires : tie.Need-arrive-requires
-arrive-requires c κs =
-    let p = c .before .before .before .before .before .before .before .before .before .before .before .before .before .pre in
-    (p .sourced, p .tracks .holds .ages .many, ap length (p .tracks .keeps .same) ∙ p .tracks .holds .marks .sized .fastests)
+enum-told : tie.Need-enum-told
+enum-told c = search needs
 
-run-on-requires-2 : tie.Need-run-on-requires-2
-run-on-requires-2 c κs =
-    let A = c .before .before .before .before .before .before .before .before .before .before .before .before .before .before .before .before .args in
-    let p = c .before .before .before .before .before .before .before .before .before .before .before .before .before .before .before .before .pre in
-    let mask = A .call .mask in
-    let few : A .sources ≤ 16 = omega (arith, p .tables .as-wide, p .tables .formed .fields .few-sources) in
-    let d = p .description in
-    let T = p .tables in
-    let a = c .before .before .arrive in
-    (workable d (A .w) (a .result) (A .used .now) (A .since .now) (a .last .1 .1 .1 .1 .0) (p .machine) (arrive d (marksIn mask) (p .machine)) (T .formed) (p .keeps) (p .tracks .holds) (a .ensures .arrived d (A .used .now) (p .machine) (T .formed) (T .rowed) (known d mask (A .sources) (c .before .before .before .before .before .before .before .before .before .before .before .before .above .result) (T .as-wide) few (c .before .before .before .before .before .before .before .before .before .before .before .before .above .ensures) (c .before .before .before .before .before .before .before .before .before .before .before .if3 .left)) (p .tracks .holds)), omega (arith, p .early, a .ensures .then), a .ensures .kept .many)
+run-on-requires : tie.Need-run-on-requires
+run-on-requires c κs =
+    let A = c .before .before .before .before .before .before .before .before .before .before .before .args in
+    let p = c .before .before .before .before .before .before .before .before .before .before .before .pre in
+    let v = c .before .before .before .before .come in
+    let done = c .before .before .enum-told .given .1 in
+    (workable (p .description) (A .w) (v .result .words) (A .used .now) (A .since .now) (v .last .1 .1 .1 .1 .1 .1 .1 .0) (p .machine) (arrive (p .description) (marksIn (A .call .mask)) (p .machine)) (p .tables .formed) (p .keeps) (p .tracks .holds) (v .ensures .fired done (p .description) (A .runs .now) (A .used .now) (p .machine) (p .tables) (p .tracks)), omega (arith, p .early, v .ensures .then), v .ensures .kept done .many)
 
-returns-5 : tie.Need-returns-5
-returns-5 c =
-    let A = c .before .before .before .before .before .before .before .before .before .before .before .before .before .before .before .before .before .args in
-    let mask = A .call .mask in
+returns-3 : tie.Need-returns-3
+returns-3 c =
+    let A = c .before .before .before .before .before .before .before .before .before .before .before .before .args in
     let t = A .call .tempo in
+    let mask = A .call .mask in
     let finish = A .call .finish in
-    let few : A .sources ≤ 16 = omega (arith, c .before .before .before .before .before .before .before .before .before .before .before .before .before .before .before .before .before .pre .tables .as-wide, c .before .before .before .before .before .before .before .before .before .before .before .before .before .before .before .before .before .pre .tables .formed .fields .few-sources) in
-    let a = c .before .before .before .arrive in
-    let v = c .run-on2 in
-    let on : onKnob t ≡ true = sym (c .before .before .before .before .before .before .before .before .before .before .before .before .before .before .before .before .on-knob .ensures) ∙ not-false (c .before .before .before .before .before .before .before .before .before .before .before .before .before .before .before .before .on-knob .result) (c .before .before .before .before .before .before .before .before .before .before .before .before .before .before .before .if1 .left) in
-    let since = a .last .1 .1 .1 .1 .0 in
-    let fastest = a .last .1 .1 .1 .1 .1 .0 in
+    let a = c .before .before .before .before .before .come in
+    let v = c .run-on in
+    let done = c .before .before .before .enum-told .given .1 in
+    let on : onKnob t ≡ true = sym (c .before .before .before .before .before .before .before .before .before .before .before .on-knob .ensures) ∙ not-false (c .before .before .before .before .before .before .before .before .before .before .before .on-knob .result) (c .before .before .before .before .before .before .before .before .before .before .if1 .left) in
+    let since = a .last .1 .1 .1 .1 .1 .1 .1 .0 in
+    let fastest = a .last .1 .1 .1 .1 .1 .1 .1 .1 .0 in
     let used′ = v .last .1 .1 .1 .1 .1 .0 in
     let fastest′ = v .last .1 .1 .1 .1 .1 .1 .0 in
     record {
-      ends = λ d m T j l R.
-          let K = known d mask (A .sources) (c .before .before .before .before .before .before .before .before .before .before .before .before .before .above .result) (T .as-wide) few (c .before .before .before .before .before .before .before .before .before .before .before .before .before .above .ensures) (c .before .before .before .before .before .before .before .before .before .before .before .before .if3 .left) in
-          v .ensures .done ∙ ap (λ (x : Ticked). x .outcome) (tick-done d t m (record { marks = marksIn mask }) finish (judged-at d t j on) l (strangers-none d mask K) (sym (c .before .before .before .before .before .before .before .too-soon .ensures .told d (A .sources) m (T .formed) (T .same-sources) K (R .holds .ages) (R .keeps .same)) ∙ c .before .before .before .before .before .before .if4 .left));
+      ends = λ d m T j l R. v .ensures .done ∙ ap (λ (x : Ticked). x .outcome) (tick-done d t mask m finish (judged-at d t j on) l (sym (a .ensures .ends d (A .runs .now) (A .used .now) m T R) ∙ done));
       leaves = λ d m T j l R.
-          let K = known d mask (A .sources) (c .before .before .before .before .before .before .before .before .before .before .before .before .before .above .result) (T .as-wide) few (c .before .before .before .before .before .before .before .before .before .before .before .before .before .above .ensures) (c .before .before .before .before .before .before .before .before .before .before .before .before .if3 .left) in
-          subst (λ (k : Machine). Tracks d (v .result .words) used′ since fastest′ k) (ap (λ (x : Ticked). x .machine) (tick-done d t m (record { marks = marksIn mask }) finish (judged-at d t j on) l (strangers-none d mask K) (sym (c .before .before .before .before .before .before .before .too-soon .ensures .told d (A .sources) m (T .formed) (T .same-sources) K (R .holds .ages) (R .keeps .same)) ∙ c .before .before .before .before .before .before .if4 .left)))
-          (tracked d t mask finish (A .w) (A .used .now) (A .since .now) (A .fastest .now) fastest fastest′ m (T .formed) (within 200 t 3000 on .0) R (a .ensures .kept) (subst (λ low. Raises t low fastest fastest′) (a .ensures .knob) (v .ensures .raises)) (v .result .words) used′ since (v .ensures .knob)
-          (v .ensures .ran d since (arrive d (marksIn mask) m) (T .formed) (T .rowed) (T .same-runs) (a .ensures .arrived d (A .used .now) m (T .formed) (T .rowed) K (R .holds))));
-      asked = c .before .before .before .before .before .before .before .too-soon .ensures .asked;
+          subst (λ (k : Machine). Tracks d (v .result .words) used′ since fastest′ k) (ap (λ (x : Ticked). x .machine) (tick-done d t mask m finish (judged-at d t j on) l (sym (a .ensures .ends d (A .runs .now) (A .used .now) m T R) ∙ done)))
+          (tracked d t mask finish (A .w) (A .used .now) (A .since .now) (A .fastest .now) fastest fastest′ m (T .formed) (within 200 t 3000 on .0) R (a .ensures .kept done) (subst (λ low. Raises t low fastest fastest′) (a .ensures .knob) (v .ensures .raises)) (v .result .words) used′ since (v .ensures .knob)
+          (v .ensures .ran d since (arrive d (marksIn mask) m) (T .formed) (T .rowed) (T .same-runs) (a .ensures .fired done d (A .runs .now) (A .used .now) m T R)));
+      asked = a .ensures .asked;
       soon = omega (arith, v .ensures .then, a .ensures .then);
     }
 
@@ -175,14 +130,10 @@ advance-spec =
     on-knob-requires
     refused-requires
     returns
-    run-on-requires
-    returns-2
-    above-requires
+    come-requires
+    enum-known-outcome
     refused-requires-2
-    returns-3
-    too-soon-requires
-    refused-requires-3
-    returns-4
-    arrive-requires
-    run-on-requires-2
-    returns-5)
+    returns-2
+    enum-told
+    run-on-requires
+    returns-3)

@@ -27,7 +27,7 @@ use Rattle.sets.specs.Wide.{wordIn, inside}
 use Rattle.sets.proofs.SetLaws.{member-none}
 use Rattle.steps.specs.declared.words.Words.{Words}
 use Rattle.spacings.specs.Gaps.{GapsOf}
-use Rattle.steps.specs.Words.{Holds, Keeps}
+use Rattle.steps.specs.Words.{Holds, Keeps, raisedTo}
 use Rattle.steps.specs.Record.{AwakeOf, AwakeIn, LinksOf, AgesOf, SinceOf, Begins}
 use Rattle.lemmas.proofs.Bools.{and-off, and-swap, less-more}
 
@@ -141,9 +141,14 @@ begun d w gaps since g b s r = record {
     absent u p (no q) = List·getD-eq-default (idle d .ages) 0 {n = u} (omega (arith, length-tab 16 (λ u. cond (ltb u (d .«source_count»)) (longestGap d u) 0)))
 
 -- it keeps no tempo
-pub none-kept : (d : Description) (w : Words) → Keeps w (replicate 16 0) (idle d)
+pub none-kept : (d : Description) (w : Words) → Begins w → Keeps w (replicate 16 0) (idle d)
 unfolding idle
-none-kept d w = record { same = refl; above = λ u p. inl (getD-same 16 u 0) }
+none-kept d w b = record {
+  many = refl;
+  here = λ u p. getD-same 16 u 0 ∙ sym (ap (raisedTo (w .peak)) (getD-same 16 u 0));
+  above = λ u p. inl (getD-same 16 u 0);
+  high = omega (arith, b .knob .1);
+}
 
 -- words of a record that keeps the rules hold it
 module _ (d : Description) (m : Machine) (g : WellFormed d) (l : lawful d m ≡ true) (z : Sized m) where

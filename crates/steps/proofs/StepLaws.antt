@@ -21,7 +21,7 @@ use Rattle.sets.specs.Sets.{member, LastIn}
 use Rattle.sets.specs.Wide.{inside}
 use Rattle.steps.specs.declared.words.Words.{Words}
 use Rattle.model.specs.Run.{heard, marksIn}
-use Rattle.steps.specs.Words.{Marks, Ages, Holds, worked, Above, raisedTo}
+use Rattle.steps.specs.Words.{Marks, Ages, Holds, worked, Above, raisedTo, markedAt}
 use Rattle.steps.proofs.MaskLaws.{mark-in}
 use Rattle.steps.proofs.MarkLaws.{marks-used, highest-is, highest-none}
 use Rattle.lemmas.proofs.Bools.{and-off}
@@ -145,11 +145,26 @@ module _ (d : Description) (w w′ : Words) (used since : List ℕ) (m : Machine
     };
   }
 
--- kept tempos none of which is below t need not be raised
-pub not-below : (t low : ℕ) (fastest : List ℕ) → t ≤ low → Above (min low t) fastest → (u : ℕ) → u < 16 → getD fastest u 0 ≡ raisedTo t (getD fastest u 0)
-not-below t low fastest h a u p = go (getD fastest u 0) (a u p)
+-- kept tempos none of which is below the fastest given need not be raised
+pub not-below : (peak low : ℕ) (fastest : List ℕ) → peak ≤ low → Above low fastest → (u : ℕ) → u < 16 → getD fastest u 0 ≡ raisedTo peak (getD fastest u 0)
+not-below peak low fastest h a u p = go (getD fastest u 0) (a u p)
   where
-    go : (f : ℕ) → (f ≡ 0) ⊎ (min low t ≤ f) → f ≡ raisedTo t f
+    go : (f : ℕ) → (f ≡ 0) ⊎ (low ≤ f) → f ≡ raisedTo peak f
     go zero k = refl
     go (suc n) (inl e) = absurd (omega arith)
-    go (suc n) (inr e) = rw (ne-eqb (suc n) 0 (λ z. omega arith)) (let q : suc n ≡ max (suc n) t = omega arith in q)
+    go (suc n) (inr e) = rw (ne-eqb (suc n) 0 (λ z. omega arith)) (let q : suc n ≡ max (suc n) peak = omega arith in q)
+
+-- words that say of tempos something else hold the same record
+pub marked-holds : (d : Description) (t : ℕ) (w w′ : Words) (used since : List ℕ) (m : Machine) → w′ ≡ markedAt t w → Holds d w used since m → Holds d w′ used since m
+marked-holds d t w w′ used since m e h = subst (λ (k : Words). Holds d k used since m) (sym e) (record {
+  marks = record {
+    sized = h .marks .sized;
+    no-zero = h .marks .no-zero;
+    present = h .marks .present;
+    awake = h .marks .awake;
+    waiting = h .marks .waiting;
+    dropped = h .marks .dropped;
+  };
+  same-used = h .same-used;
+  ages = h .ages;
+})

@@ -9,7 +9,7 @@ use lib.ListN.{getD, length}
 use lib.Dec.{eqb}
 use Rattle.model.specs.declared.Description.{Description}
 use Rattle.model.specs.declared.Machine.{Machine}
-use Rattle.model.specs.Machine.{awakeAt, waitingAt, droppedAt, ageAt, longestGap, setAwake, fire, arrive, highest, runTask, clearInto, endRun, ageAll}
+use Rattle.model.specs.Machine.{awakeAt, waitingAt, droppedAt, ageAt, fastestAt, longestGap, setAwake, fire, arrive, highest, runTask, clearInto, endRun, ageAll}
 use Rattle.theory.proofs.WellFormed.{WellFormed}
 use Rattle.assurance.proofs.Firing.{Sized}
 use Rattle.sets.specs.declared.wide.Wide.{Wide}
@@ -46,14 +46,20 @@ pub record Holds (d : Description) (w : Words) (used since : List ℕ) (m : Mach
   pub same-used : used ≡ m .used
   pub ages : Ages d (w .tick) since m
 
+-- a kept tempo raised by a faster one
+abbrev pub raisedTo : ℕ → ℕ → ℕ
+raisedTo t f = cond (eqb f 0) 0 (max f t)
+
 -- of kept tempos none is below some tempo, but 0
 abbrev pub Above : ℕ → List ℕ → Type 0
 Above low fastest = (u : ℕ) → u < 16 → (getD fastest u 0 ≡ 0) ⊎ (low ≤ getD fastest u 0)
 
--- and its kept tempos are these
+-- and its kept tempos are these, raised to the fastest given since the last arrival
 pub record Keeps (w : Words) (fastest : List ℕ) (m : Machine) : Type 0 where
-  pub same : fastest ≡ m .fastest
-  pub above : Above (w .tempo) fastest
+  pub many : length fastest ≡ 16
+  pub here : (u : ℕ) → u < 16 → fastestAt m u ≡ raisedTo (w .peak) (getD fastest u 0)
+  pub above : Above (w .low) fastest
+  pub high : w .peak ≤ 3000
 
 -- the links of a set have fired, and their tasks are awake
 pub record Sent (w : Words) (out : Wide) (wakes : ℕ) (w′ : Words) : Type 0 where
@@ -61,13 +67,13 @@ pub record Sent (w : Words) (out : Wide) (wakes : ℕ) (w′ : Words) : Type 0 w
   pub waiting : (l : ℕ) → inside (w′ .waiting) l ≡ (inside (w .waiting) l || inside out l)
   pub dropped : (l : ℕ) → inside (w′ .dropped) l ≡ (inside (w .dropped) l || (inside (w .waiting) l && inside out l))
   pub then : w′ .tick ≡ w .tick
-  pub knob : w′ .tempo ≡ w .tempo
+  pub knob : (w′ .low ≡ w .low) × (w′ .peak ≡ w .peak)
 
 -- node x has fired
 pub record Fires (rows : List ℕ) (x : ℕ) (w w′ : Words) : Type 0 where
   pub fired : (d : Description) (m : Machine) → WellFormed d → RowsOf d (d .«link_count») rows → Marks d w m → Marks d w′ (fire d x m)
   pub then : w′ .tick ≡ w .tick
-  pub knob : w′ .tempo ≡ w .tempo
+  pub knob : (w′ .low ≡ w .low) × (w′ .peak ≡ w .peak)
 
 -- a number is stored for each source of a mask below r, and for no other
 pub record Stored (mask r v : ℕ) (l₀ l : List ℕ) : Type 0 where
@@ -75,19 +81,30 @@ pub record Stored (mask r v : ℕ) (l₀ l : List ℕ) : Type 0 where
   pub here : (u : ℕ) → u < r → heard mask u ≡ true → getD l u 0 ≡ v
   pub others : (u : ℕ) → heard mask u ≡ false → getD l u 0 ≡ getD l₀ u 0
 
--- the sources of a mask have arrived at tempo t
-pub record Arrives (rows : List ℕ) (t mask : ℕ) (w : Words) (since fastest : List ℕ) (w′ : Words) (since′ fastest′ : List ℕ) : Type 0 where
+-- kept tempos of which none is below `low` are raised to the fastest given
+pub record Folds (peak low : ℕ) (fastest fastest′ : List ℕ) : Type 0 where
+  pub many : length fastest′ ≡ 16
+  pub raised : Above low fastest → (u : ℕ) → u < 16 → getD fastest′ u 0 ≡ raisedTo peak (getD fastest u 0)
+
+-- the words after an arrival at tempo t
+abbrev pub markedAt : ℕ → Words → Words
+markedAt t w = record { awake = w .awake; waiting = w .waiting; dropped = w .dropped; tick = w .tick; low = t; peak = t }
+
+-- the sources of a mask have arrived at tempo t, kept tempos being raised to the fastest given first
+pub record Arrives (rows : List ℕ) (t peak mask : ℕ) (w : Words) (since fastest : List ℕ) (w′ : Words) (since′ fastest′ : List ℕ) : Type 0 where
   pub arrived : (d : Description) (used : List ℕ) (m : Machine) → WellFormed d → RowsOf d (d .«link_count») rows → Known d mask
       → Holds d w used since m → Holds d w′ used since′ (arrive d (marksIn mask) m)
-  pub kept : Stored mask 16 t fastest fastest′
+  pub many : length fastest′ ≡ 16
+  pub fired : (u : ℕ) → u < 16 → heard mask u ≡ true → getD fastest′ u 0 ≡ t
+  pub others : Above (w .low) fastest → (u : ℕ) → u < 16 → heard mask u ≡ false → getD fastest′ u 0 ≡ raisedTo peak (getD fastest u 0)
   pub then : w′ .tick ≡ w .tick
-  pub knob : w′ .tempo ≡ w .tempo
+  pub knob : (w′ .low ≡ t) × (w′ .peak ≡ t)
 
 -- task h sleeps, and the marks on links into it are clear
 pub record Sleeps (rows : List ℕ) (h : ℕ) (w w′ : Words) : Type 0 where
   pub slept : (d : Description) (m : Machine) → WellFormed d → RowsOf d (d .«link_count») rows → 1 ≤ h → h ≤ 32 → Marks d w m → Marks d w′ (clearInto d h (setAwake h false m))
   pub then : w′ .tick ≡ w .tick
-  pub knob : w′ .tempo ≡ w .tempo
+  pub knob : (w′ .low ≡ w .low) × (w′ .peak ≡ w .peak)
 
 -- the highest awake task of a record has run, and its run has ended if this tick ends it
 abbrev pub worked : Description → Bool → Machine → Machine
@@ -97,25 +114,16 @@ pub record Works (rows runs : List ℕ) (finish : Bool) (w : Words) (used : List
   pub worked-on : (d : Description) (since : List ℕ) (m : Machine) → WellFormed d → RowsOf d (d .«link_count») rows → runs ≡ d .runs
       → Holds d w used since m → Holds d w′ used′ since (worked d finish m)
   pub then : w′ .tick ≡ w .tick
-  pub knob : w′ .tempo ≡ w .tempo
+  pub knob : (w′ .low ≡ w .low) × (w′ .peak ≡ w .peak)
 
 -- awake tasks have places in the tables, and a tick more fits what each has used
 pub record Workable (w : Words) (used : List ℕ) : Type 0 where
   pub low : (k : ℕ) → member (w .awake) k ≡ true → (1 ≤ k) × (k ≤ 32)
   pub countable : (k : ℕ) → k < 32 → getD used k 0 + 1 < 2 ^ 32
 
--- a kept tempo after a tick at tempo t in which its source did not fire
-abbrev pub raisedTo : ℕ → ℕ → ℕ
-raisedTo t f = cond (eqb f 0) 0 (max f t)
-
--- kept tempos of which none is below `low` are raised to t
-pub record Raises (t low : ℕ) (fastest fastest′ : List ℕ) : Type 0 where
-  pub many : length fastest′ ≡ 16
-  pub raised : Above (min low t) fastest → (u : ℕ) → u < 16 → getD fastest′ u 0 ≡ raisedTo t (getD fastest u 0)
-
 -- one tick more has passed, at tempo t
-pub record Passes (t : ℕ) (w : Words) (fastest : List ℕ) (w′ : Words) (fastest′ : List ℕ) : Type 0 where
+pub record Passes (t : ℕ) (w w′ : Words) : Type 0 where
   pub passed : (d : Description) (used since : List ℕ) (m : Machine) → WellFormed d → Holds d w used since m → Holds d w′ used since (ageAll d m)
-  pub raises : Raises t (w .tempo) fastest fastest′
   pub then : w′ .tick ≡ w .tick + 1
-  pub knob : w′ .tempo ≡ t
+  pub low : w′ .low ≡ w .low
+  pub peak : w′ .peak ≡ max (w .peak) t

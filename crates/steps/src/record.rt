@@ -25,7 +25,8 @@ pub fn begin() -> Words
         waiting,
         dropped,
         tick: 4294967296,
-        tempo: 0,
+        low: 0,
+        peak: 0,
     }
 }
 
@@ -200,7 +201,8 @@ pub fn pack(m: Machine) -> Packed
         waiting,
         dropped,
         tick: 4294967296,
-        tempo: 0,
+        low: 0,
+        peak: 0,
     };
     Packed { words, since }
 }

@@ -5,11 +5,11 @@ use sets::wide;
 use sets::wide::Wide;
 ghost use mathlib.Core.Path.{_≡_};
 ghost use mathlib.Core.Bool.{_||_};
-ghost use Prim.Native.Nat.{ℕ, _+_, _<_, _^_};
+ghost use Prim.Native.Nat.{ℕ, _+_, _<_, _^_, max};
 ghost use lib.ListN.{length, getD};
 ghost use lib.Dec.{eqb};
 ghost use Rattle.steps.specs.Parts.{Sourced};
-ghost use Rattle.steps.specs.Words.{wideAt, Sent, Fires, Arrives, Sleeps, Works, Workable, raisedTo, Raises, Passes};
+ghost use Rattle.steps.specs.Words.{wideAt, Sent, Fires, markedAt, Arrives, Sleeps, Works, Workable, raisedTo, Folds, Passes};
 
 // The four words from place i on.
 fn row(rows: &[u64; 576], i: usize) -> Wide
@@ -36,7 +36,8 @@ fn send(w: Words, out: Wide, wakes: u64) -> Words
         waiting: wide::union(waiting, out),
         dropped: wide::union(dropped, missed),
         tick: w.tick,
-        tempo: w.tempo,
+        low: w.low,
+        peak: w.peak,
     }
 }
 
@@ -55,19 +56,56 @@ pub fn long(x: u32) -> u64
     x as u64
 }
 
-// Step 1 at tempo t: each arriving source fires, its age becomes 0, and it keeps t. Links out of different sources are different links, so those
-// out of all that arrive fire together.
+// What a kept tempo becomes by a faster one: the larger of the two; 0 stays 0.
+fn raised(f: u32, t: u32) -> u32
+    ensures { λ r. ⌜ r ≡ raisedTo t f ⌝ }
+{
+    if f == 0 {
+        return 0;
+    }
+    if f < t {
+        return t;
+    }
+    f
+}
+
+pub fn raise(t: u32, fastest: &mut [u32; 16])
+    requires { ⌜ length (now fastest) ≡ 16 ⌝ }
+    ensures { λ _. ⌜ (length (now (fastest .exit)) ≡ 16) × ((u : ℕ) → u < 16 → getD (now (fastest .exit)) u 0 ≡ raisedTo t (getD (now (fastest .entry)) u 0)) ⌝ }
+{
+    let mut u: usize = 0;
+    while u < 16 {
+        fastest[u] = raised(fastest[u], t);
+        u += 1;
+    }
+}
+
+// Kept tempos rise up to the fastest given, none being below low: if low is not below it, none is looked at.
+fn fold(peak: u32, low: u32, fastest: &mut [u32; 16])
+    requires { ⌜ length (now fastest) ≡ 16 ⌝ }
+    ensures { λ _. ⌜ Folds peak low (now (fastest .entry)) (now (fastest .exit)) ⌝ }
+{
+    if peak <= low {
+        return;
+    }
+    raise(peak, fastest)
+}
+
+// Step 1 at tempo t, peak being the fastest given since the last arrival: each arriving source fires, its age becomes 0, and it keeps t. Links out of
+// different sources are different links, so those out of all that arrive fire together.
 pub fn arrive(
     rows: &[u64; 576],
     t: u32,
+    peak: u32,
     mask: u64,
     w: Words,
     since: &mut [u64; 16],
     fastest: &mut [u32; 16],
 ) -> Words
     requires { ⌜ Sourced mask × (length (now since) ≡ 16) × (length (now fastest) ≡ 16) ⌝ }
-    ensures { λ r. ⌜ Arrives (now (rows .entry)) t mask w (now (since .entry)) (now (fastest .entry)) r (now (since .exit)) (now (fastest .exit)) ⌝ }
+    ensures { λ r. ⌜ Arrives (now (rows .entry)) t peak mask w (now (since .entry)) (now (fastest .entry)) r (now (since .exit)) (now (fastest .exit)) ⌝ }
 {
+    fold(peak, w.low, &mut *fastest);
     let mut out = wide::none();
     let mut wakes: u64 = 0;
     let mut rest = mask;
@@ -79,7 +117,23 @@ pub fn arrive(
         fastest[u] = t;
         rest = sets::rest(rest);
     }
-    send(w, out, wakes)
+    marked(send(w, out, wakes), t)
+}
+
+// The words after an arrival at tempo t.
+fn marked(w: Words, t: u32) -> Words
+    ensures { λ r. ⌜ r ≡ markedAt t w ⌝ }
+{
+    let waiting = w.waiting;
+    let dropped = w.dropped;
+    Words {
+        awake: w.awake,
+        waiting,
+        dropped,
+        tick: w.tick,
+        low: t,
+        peak: t,
+    }
 }
 
 // Task h sleeps, and the waiting marks on links into it clear.
@@ -95,7 +149,8 @@ fn sleep(rows: &[u64; 576], h: usize, w: Words) -> Words
         waiting: wide::without(waiting, into),
         dropped,
         tick: w.tick,
-        tempo: w.tempo,
+        low: w.low,
+        peak: w.peak,
     }
 }
 
@@ -133,47 +188,21 @@ pub fn work<'a>(
     w
 }
 
-// What a kept tempo becomes by a tick at tempo t: the larger of the two; 0 stays 0.
-fn raised(f: u32, t: u32) -> u32
-    ensures { λ r. ⌜ r ≡ raisedTo t f ⌝ }
+// The larger of two tempos.
+pub fn larger(f: u32, t: u32) -> u32
+    ensures { λ r. ⌜ r ≡ max f t ⌝ }
 {
-    if f == 0 {
-        return 0;
-    }
     if f < t {
         return t;
     }
     f
 }
 
-fn raise(t: u32, fastest: &mut [u32; 16])
-    requires { ⌜ length (now fastest) ≡ 16 ⌝ }
-    ensures { λ _. ⌜ (length (now (fastest .exit)) ≡ 16) × ((u : ℕ) → u < 16 → getD (now (fastest .exit)) u 0 ≡ raisedTo t (getD (now (fastest .entry)) u 0)) ⌝ }
-{
-    let mut u: usize = 0;
-    while u < 16 {
-        fastest[u] = raised(fastest[u], t);
-        u += 1;
-    }
-}
-
-// Kept tempos rise up to t, none being below some tempo: if that is not below t, none is looked at.
-fn keep(t: u32, low: u32, fastest: &mut [u32; 16])
-    requires { ⌜ length (now fastest) ≡ 16 ⌝ }
-    ensures { λ _. ⌜ Raises t low (now (fastest .entry)) (now (fastest .exit)) ⌝ }
-{
-    if t <= low {
-        return;
-    }
-    raise(t, fastest)
-}
-
 // Step 4 at tempo t: ages rise by one, up to the longest spacing, and kept tempos up to t.
-pub fn pass(t: u32, w: Words, fastest: &mut [u32; 16]) -> Words
-    requires { ⌜ (w .tick < 2 ^ 63) × (length (now fastest) ≡ 16) ⌝ }
-    ensures { λ r. ⌜ Passes t w (now (fastest .entry)) r (now (fastest .exit)) ⌝ }
+pub fn pass(t: u32, w: Words) -> Words
+    requires { ⌜ w .tick < 2 ^ 63 ⌝ }
+    ensures { λ r. ⌜ Passes t w r ⌝ }
 {
-    keep(t, w.tempo, fastest);
     let waiting = w.waiting;
     let dropped = w.dropped;
     Words {
@@ -181,6 +210,7 @@ pub fn pass(t: u32, w: Words, fastest: &mut [u32; 16]) -> Words
         waiting,
         dropped,
         tick: w.tick + 1,
-        tempo: t,
+        low: w.low,
+        peak: larger(w.peak, t),
     }
 }

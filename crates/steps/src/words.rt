@@ -3,11 +3,13 @@
 use sets::wide::Wide;
 
 // Bit k of awake is task k; bit l of waiting and of dropped is the link at place l. tick counts the ticks, from 2^32 on. Ages are not kept: beside
-// the words goes, for each source, the tick at which its age was 0, be it before the first. No kept tempo is below tempo, but 0.
+// the words goes, for each source, the tick at which its age was 0, be it before the first. So do kept tempos, as they were at the last arrival:
+// none is below low, but 0, and peak is the fastest tempo given since.
 pub struct Words {
     pub awake: u64,
     pub waiting: Wide,
     pub dropped: Wide,
     pub tick: u64,
-    pub tempo: u32,
+    pub low: u32,
+    pub peak: u32,
 }

@@ -29,7 +29,7 @@ returns c =
     let old : length (m .ages) ≡ 16 = search needs in
     let kept : length (m .fastest) ≡ 16 = search needs in
     let z : Sized m = record { awakes = awakes; useds = useds; waitings = waitings; droppeds = droppeds; ages = old; fastests = kept } in
-    record { holds = λ d g l. packed d m g l z (c .before .before .before .since-of .result) _ (c .awake-in .ensures) (c .before .before .before .before .before .before .before .before .links-in .ensures) (c .before .before .before .before .before .links-in2 .ensures) (c .before .before .before .since-of .ensures) refl; first = refl; knob = refl }
+    record { holds = λ d g l. packed d m g l z (c .before .before .before .since-of .result) _ (c .awake-in .ensures) (c .before .before .before .before .before .before .before .before .links-in .ensures) (c .before .before .before .before .before .links-in2 .ensures) (c .before .before .before .since-of .ensures) refl; first = refl; knob = (refl, refl) }
 
 pub pack-spec : {M : Type 1} → statement M
 pack-spec =

@@ -5,19 +5,19 @@ use borrow.Author.Needs.{needs}
 use Rattle.steps.proofs.step.pass.Statement.{statement}
 use Rattle.steps.proofs.step.pass.Tie as tie
 
-keep-requires : tie.Need-keep-requires
-keep-requires c κs = search needs
+add-t5 : tie.Need-add-t5
+add-t5 c = search needs
 
-add-t8 : tie.Need-add-t8
-add-t8 c = search needs
+larger-requires : tie.Need-larger-requires
+larger-requires c κs = search needs
 
 returns : tie.Need-returns
 returns c = record {
-  passed = λ d used since m g h. passes d (c .before .before .before .before .before .args .w) _ used since m g refl refl refl refl h;
-  raises = c .before .before .before .keep .ensures;
+  passed = λ d used since m g h. passes d (c .before .before .before .before .args .w) _ used since m g refl refl refl refl h;
   then = refl;
-  knob = refl;
+  low = refl;
+  peak = c .larger .ensures;
 }
 
 pub pass-spec : {M : Type 1} → statement M
-pass-spec = tie.close (tie.spec keep-requires add-t8 returns)
+pass-spec = tie.close (tie.spec add-t5 larger-requires returns)

@@ -24,7 +24,7 @@ returns c = record {
   waiting = c .before .union2 .ensures;
   dropped = λ l. c .union3 .ensures l ∙ ap (λ i. inside (c .before .before .before .before .before .before .args .w .dropped) l || i) (c .before .before .before .both .ensures l);
   then = refl;
-  knob = refl;
+  knob = (refl, refl);
 }
 
 pub send-spec : {M : Type 1} → statement M

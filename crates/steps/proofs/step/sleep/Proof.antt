@@ -29,7 +29,7 @@ returns c =
     record {
       slept = λ d m g r p q h. marks-slept d (S .args .rows .now) (S .args .h) (S .args .w) _ (c .before .before .one .result) (c .before .before .before .before .before .row .result) (c .before .before .before .before .before .row .ensures) (c .before .before .one .ensures) (c .before .without .ensures) (c .without2 .ensures) refl m g r p q h;
       then = refl;
-      knob = refl;
+      knob = (refl, refl);
     }
 
 pub sleep-spec : {M : Type 1} → statement M

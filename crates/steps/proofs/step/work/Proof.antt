@@ -9,7 +9,7 @@ use Rattle.steps.proofs.step.work.Statement.{statement}
 use Rattle.steps.proofs.step.work.Tie as tie
 
 returns : tie.Need-returns
-returns c = record { worked-on = λ d since m g r s h. work-none d (c .before .before .args .w) (c .before .before .args .used .now) since (c .before .before .args .finish) m (c .if1 .taken) h; then = refl; knob = refl }
+returns c = record { worked-on = λ d since m g r s h. work-none d (c .before .before .args .w) (c .before .before .args .used .now) since (c .before .before .args .finish) m (c .if1 .taken) h; then = refl; knob = (refl, refl) }
 
 last-requires : tie.Need-last-requires
 last-requires c κs = search needs
@@ -70,7 +70,7 @@ returns-2 c =
     record {
       worked-on = λ d since m g r s H. work-over d (S .args .w) (S .args .used .now) since (S .args .runs .now) (S .args .finish) m g s H h (getD (S .args .used .now) (h - 1) 0 + 1) (c .before .before .before .before .before .before .last .ensures) (low .0) (low .1) refl (c .before .sleep .result) (c .fire .result) (sym (c .before .before .before .ends .ensures) ∙ c .before .before .if2 .taken) (λ k. c .before .sleep .ensures .slept d k g r (low .0) (low .1)) (λ k. c .fire .ensures .fired d k g r) (c .fire .ensures .then ∙ c .before .sleep .ensures .then);
       then = c .fire .ensures .then ∙ c .before .sleep .ensures .then;
-      knob = c .fire .ensures .knob ∙ c .before .sleep .ensures .knob;
+      knob = (c .fire .ensures .knob .0 ∙ c .before .sleep .ensures .knob .0, c .fire .ensures .knob .1 ∙ c .before .sleep .ensures .knob .1);
     }
 
 returns-3 : tie.Need-returns-3
@@ -81,7 +81,7 @@ returns-3 c =
     record {
       worked-on = λ d since m g r s H. work-on d (S .args .w) (S .args .used .now) since (S .args .runs .now) (S .args .finish) m g s H h (getD (S .args .used .now) (h - 1) 0 + 1) (c .before .before .before .before .last .ensures) (low .0) (low .1) refl (sym (c .before .ends .ensures) ∙ c .if2 .left);
       then = refl;
-      knob = refl;
+      knob = (refl, refl);
     }
 
 pub work-spec : {M : Type 1} → statement M

@@ -1,0 +1,17 @@
+-- `fold` meets its contract: no kept tempo is below the fastest given, or all are raised. Assumes nothing.
+use Rattle.steps.proofs.StepLaws.{not-below}
+use borrow.Author.Needs.{needs}
+use Rattle.steps.proofs.step.fold.Statement.{statement}
+use Rattle.steps.proofs.step.fold.Tie as tie
+
+returns : tie.Need-returns
+returns c = record { many = c .before .pre; raised = not-below (c .before .args .peak) (c .before .args .low) (c .before .args .fastest .now) (c .if1 .taken) }
+
+raise-requires : tie.Need-raise-requires
+raise-requires c κs = search needs
+
+returns-2 : tie.Need-returns-2
+returns-2 c = record { many = c .raise .ensures .0; raised = λ a. c .raise .ensures .1 }
+
+pub fold-spec : {M : Type 1} → statement M
+fold-spec = tie.close (tie.spec returns raise-requires returns-2)

@@ -39,11 +39,11 @@ use Rattle.spacings.proofs.SourceLaws.{plain-pulses}
 use Rattle.spacings.proofs.GapLaws.{gap-of}
 use Rattle.steps.specs.declared.words.Words.{Words}
 use Rattle.steps.specs.Parts.{Known, Sourced}
-use Rattle.steps.specs.Words.{Ages, Holds, Workable, worked, Stored, Above, raisedTo, Raises}
+use Rattle.steps.specs.Words.{Ages, Holds, Keeps, Workable, worked, Above, raisedTo}
 use Rattle.steps.proofs.MaskLaws.{none-above, mark-in, heard-under}
 use Rattle.steps.proofs.StepLaws.{arrive-none, ages-same}
 use Rattle.machine.specs.declared.call.Advanced.{Advanced}
-use Rattle.machine.specs.Calls.{TablesOf, Tracks, Timed, arrivalsEnd}
+use Rattle.machine.specs.Calls.{TablesOf, Tracks, Timed, KeepsAfter, arrivalsEnd}
 
 -- a mask with nothing left above s sources
 pub known : (d : Description) (mask s a : ℕ) → d .«source_count» ≡ s → s ≤ 16 → a ≡ mask / 2 ^ s → a ≡ 0 → Known d mask
@@ -84,33 +84,79 @@ strangers-some d mask s q few w n some = rw q (true-of (anyN (λ u. getD (marksI
     silent : anyN (λ u. getD (marksIn mask) u false && leb s u) 0 16 ≡ false → (k : ℕ) → s ≤ k → k < 16 → heard mask k ≡ false
     silent e k a b = sym (mark-in mask k b) ∙ and-false-of (getD (marksIn mask) k false) (leb s k) (le-leb s k a) (none-any (λ u. getD (marksIn mask) u false && leb s u) 0 16 e k (omega arith) b)
 
+-- a kept tempo raised twice, or by nothing
+pub raised-0 : (t f : ℕ) → f ≡ 0 → raisedTo t f ≡ 0
+raised-0 t f e = rw e refl
+
+pub raised-some : (t f : ℕ) → 0 < f → raisedTo t f ≡ max f t
+raised-some t f h = rw (ne-eqb f 0 (λ z. omega arith)) refl
+
+raised-twice : (s t f : ℕ) → raisedTo t (raisedTo s f) ≡ raisedTo (max s t) f
+raised-twice s t zero = refl
+raised-twice s t (suc n) =
+    let a : raisedTo s (suc n) ≡ max (suc n) s = raised-some s (suc n) (omega arith) in
+    ap (raisedTo t) a ∙ raised-some t (max (suc n) s) (omega arith) ∙ (let q : max (max (suc n) s) t ≡ max (suc n) (max s t) = omega arith in q) ∙ sym (raised-some (max s t) (suc n) (omega arith))
+
+-- the rule of a source in a lawful record
+source-rule : (d : Description) (m : Machine) → WellFormed d → lawful d m ≡ true → (u : ℕ) → u < d .«source_count» → (leb (ageAt m u) (longestGap d u) && cond (eqb (fastestAt m u) 0) (eqb (ageAt m u) (longestGap d u)) (onKnob (fastestAt m u))) ≡ true
+unfolding lawful
+source-rule d m g e u p =
+    let r : sourceRule d m u ≡ true = all-at (sourceRule d m) 0 16 (and-right (allN (linkRule d m) 0 256) _ (and-right (allN (taskRule d m) 1 32) _ e)) u (omega arith) (omega (arith, g .fields .few-sources)) in
+    rw (lt-ltb u (d .«source_count») p) at r
+
 -- an arrival that is too soon, and none that is
-module _ (d : Description) (t mask tick sources : ℕ) (ticks pulses since fastest : List ℕ) (m : Machine) (g : WellFormed d) (s : SourcesOf d (sourcesWith sources ticks pulses)) (k : Known d mask) (a : Ages d tick since m) (e : fastest ≡ m .fastest) (low : 200 ≤ t) where
+module _ (d : Description) (t mask peak tick sources : ℕ) (ticks pulses since fastest : List ℕ) (w : Words) (m : Machine) (g : WellFormed d) (s : SourcesOf d (sourcesWith sources ticks pulses)) (k : Known d mask) (l : lawful d m ≡ true) (a : Ages d tick since m) (K : Keeps w fastest m) (q : peak ≡ max (w .peak) t) (low : 200 ≤ t) where
   abbrev due : ℕ → ℕ
-  due u = spacingBy (getD ticks u 0) (getD pulses u 0) (max (getD fastest u 0) t)
+  due u = spacingBy (getD ticks u 0) (getD pulses u 0) (max (getD fastest u 0) peak)
 
   abbrev dueIn : ℕ → ℕ
   dueIn u = spacingOf d (max (fastestAt m u) t) (33 + u)
 
-  due-is : (u : ℕ) → u < d .«source_count» → due u ≡ dueIn u
-  due-is u p =
-      gap-of d (sourcesWith sources ticks pulses) (max (getD fastest u 0) t) u s p ∙ ap (λ (l : List ℕ). spacingOf d (max (getD l u 0) t) (33 + u)) e
+  due-gap : (u : ℕ) → u < d .«source_count» → due u ≡ spacingOf d (max (getD fastest u 0) peak) (33 + u)
+  due-gap u p = gap-of d (sourcesWith sources ticks pulses) (max (getD fastest u 0) peak) u s p
 
-  due-most : (u : ℕ) → u < d .«source_count» → dueIn u ≤ longestGap d u
-  due-most u p = gap-anti d g (33 + u) (omega arith) (omega arith) 200 (max (fastestAt m u) t) (omega arith) (omega arith)
+  most : (u x : ℕ) → u < d .«source_count» → 200 ≤ x → spacingOf d x (33 + u) ≤ longestGap d u
+  most u x p h = gap-anti d g (33 + u) (omega arith) (omega arith) 200 x (omega arith) h
+
+  -- of a source that has fired the two are the same; one that has not is as old as it can be
+  fired-or-not : (u : ℕ) → u < d .«source_count» → (due u ≡ dueIn u) ⊎ (ageAt m u ≡ longestGap d u)
+  fired-or-not u p = go (getD fastest u 0) refl
+    where
+      here : fastestAt m u ≡ raisedTo (w .peak) (getD fastest u 0)
+      here = K .here u (omega (arith, g .fields .few-sources))
+
+      go : (f : ℕ) → getD fastest u 0 ≡ f → (due u ≡ dueIn u) ⊎ (ageAt m u ≡ longestGap d u)
+      go zero e =
+          let z : fastestAt m u ≡ 0 = here ∙ raised-0 (w .peak) (getD fastest u 0) e in
+          let r : cond (eqb (fastestAt m u) 0) (eqb (ageAt m u) (longestGap d u)) (onKnob (fastestAt m u)) ≡ true = and-right (leb (ageAt m u) (longestGap d u)) _ (source-rule d m g l u p) in
+          inr (eqb-true (ageAt m u) (longestGap d u) (rw z at r))
+      go (suc n) e =
+          let z : fastestAt m u ≡ max (getD fastest u 0) (w .peak) = here ∙ raised-some (w .peak) (getD fastest u 0) (omega arith) in
+          let y : max (getD fastest u 0) peak ≡ max (fastestAt m u) t = omega arith in
+          inl (due-gap u p ∙ ap (λ x. spacingOf d x (33 + u)) y)
 
   pub soon-one : (u : ℕ) → heard mask u ≡ true → tick < getD since u 0 + due u → true ≡ tooSoon d t (marksIn mask) m
   unfolding tooSoon
   soon-one u f h =
-      let z : u < d .«source_count» = heard-under mask (d .«source_count») u (k .1) f in
-      sym (any-at (λ u. getD (marksIn mask) u false && ltb (ageAt m u) (dueIn u)) 0 (d .«source_count») u (omega arith) (omega arith) (both (getD (marksIn mask) u false) (ltb (ageAt m u) (dueIn u)) (mark-in mask u (omega (arith, k .0)) ∙ f) (lt-ltb (ageAt m u) (dueIn u) (omega (arith, h, due-is u z, a .here u z, a .before u z)))))
+      sym (any-at (λ u. getD (marksIn mask) u false && ltb (ageAt m u) (dueIn u)) 0 (d .«source_count») u (omega arith) (omega (arith, z)) (both (getD (marksIn mask) u false) (ltb (ageAt m u) (dueIn u)) (mark-in mask u (omega (arith, k .0, z)) ∙ f) (lt-ltb (ageAt m u) (dueIn u) (young (fired-or-not u z)))))
+    where
+      z : u < d .«source_count»
+      z = heard-under mask (d .«source_count») u (k .1) f
+
+      young : (due u ≡ dueIn u) ⊎ (ageAt m u ≡ longestGap d u) → ageAt m u < dueIn u
+      young (inl e) = omega (arith, h, a .here u z, a .before u z)
+      young (inr e) = absurd (omega (arith, h, due-gap u z, most u (max (getD fastest u 0) peak) z (omega arith), a .here u z, a .before u z))
 
   pub soon-none : ((u : ℕ) → heard mask u ≡ true → getD since u 0 + due u ≤ tick) → false ≡ tooSoon d t (marksIn mask) m
   unfolding tooSoon
   soon-none past = sym (any-none (λ u. getD (marksIn mask) u false && ltb (ageAt m u) (dueIn u)) 0 (d .«source_count») (λ u x y. go u (omega arith) (heard mask u) refl))
     where
+      old : (u : ℕ) → u < d .«source_count» → heard mask u ≡ true → (due u ≡ dueIn u) ⊎ (ageAt m u ≡ longestGap d u) → dueIn u ≤ ageAt m u
+      old u h f (inl e) = omega (arith, past u f, most u (max (fastestAt m u) t) h (omega arith), a .here u h)
+      old u h f (inr e) = omega (arith, most u (max (fastestAt m u) t) h (omega arith))
+
       go : (u : ℕ) → u < d .«source_count» → (b : Bool) → heard mask u ≡ b → (getD (marksIn mask) u false && ltb (ageAt m u) (dueIn u)) ≡ false
-      go u h true f = and-false-right (getD (marksIn mask) u false) (ltb (ageAt m u) (dueIn u)) (le-ltb (ageAt m u) (dueIn u) (omega (arith, past u f, due-is u h, due-most u h, a .here u h)))
+      go u h true f = and-false-right (getD (marksIn mask) u false) (ltb (ageAt m u) (dueIn u)) (le-ltb (ageAt m u) (dueIn u) (old u h f (fired-or-not u h)))
       go u h false f = and-false-left (getD (marksIn mask) u false) (ltb (ageAt m u) (dueIn u)) (mark-in mask u (omega (arith, k .0)) ∙ f)
 
 -- in a lawful record a tick more fits what each task has used
@@ -143,28 +189,28 @@ workable d w w′ used since since′ m m′ g l h h′ = record {
     some (suc k) e = omega arith
 
 -- and kept tempos are on the knob
-kept-most : (d : Description) (m : Machine) → WellFormed d → lawful d m ≡ true → (u : ℕ) → u < d .«source_count» → fastestAt m u ≤ 3000
-unfolding lawful
-kept-most d m g e u p = go (eqb (fastestAt m u) 0) refl
+kept-most : (d : Description) (w : Words) (fastest : List ℕ) (m : Machine) → WellFormed d → lawful d m ≡ true → Keeps w fastest m → (u : ℕ) → u < d .«source_count» → getD fastest u 0 ≤ 3000
+kept-most d w fastest m g e K u p = go (getD fastest u 0) refl
   where
-    rule : sourceRule d m u ≡ true
-    rule = all-at (sourceRule d m) 0 16 (and-right (allN (linkRule d m) 0 256) _ (and-right (allN (taskRule d m) 1 32) _ e)) u (omega arith) (omega (arith, g .fields .few-sources))
+    here : fastestAt m u ≡ raisedTo (w .peak) (getD fastest u 0)
+    here = K .here u (omega (arith, g .fields .few-sources))
 
-    kept : cond (eqb (fastestAt m u) 0) (eqb (ageAt m u) (longestGap d u)) (onKnob (fastestAt m u)) ≡ true
-    kept = and-right (leb (ageAt m u) (longestGap d u)) _ (rw (lt-ltb u (d .«source_count») p) at rule)
-
-    go : (b : Bool) → eqb (fastestAt m u) 0 ≡ b → fastestAt m u ≤ 3000
-    go true f = omega (arith, eqb-true (fastestAt m u) 0 f)
-    go false f = within 200 (fastestAt m u) 3000 (rw f at kept) .1
+    go : (f : ℕ) → getD fastest u 0 ≡ f → getD fastest u 0 ≤ 3000
+    go zero q = omega arith
+    go (suc n) q =
+        let z : fastestAt m u ≡ max (getD fastest u 0) (w .peak) = here ∙ raised-some (w .peak) (getD fastest u 0) (omega arith) in
+        let r : cond (eqb (fastestAt m u) 0) (eqb (ageAt m u) (longestGap d u)) (onKnob (fastestAt m u)) ≡ true = and-right (leb (ageAt m u) (longestGap d u)) _ (source-rule d m g e u p) in
+        let o : onKnob (fastestAt m u) ≡ true = rw (ne-eqb (fastestAt m u) 0 (λ y. omega arith)) at r in
+        omega (arith, within 200 (fastestAt m u) 3000 o .1)
 
 -- so that the spacings of arriving sources can be worked out
-pub timed : (d : Description) (t mask sources : ℕ) (w : Words) (rows runs ticks pulses used since fastest tempos gaps : List ℕ) (m : Machine) → TablesOf d rows runs ticks pulses sources → Tracks d w used since fastest m → lawful d m ≡ true → w .tick < 2 ^ 63 → Asked ticks pulses tempos gaps → Sourced mask → Known d mask → onKnob t ≡ true → Timed mask t ticks pulses since fastest tempos gaps
-timed d t mask sources w rows runs ticks pulses used since fastest tempos gaps m T R l early asked sourced k knob = record {
+pub timed : (d : Description) (t mask peak sources : ℕ) (w : Words) (rows runs ticks pulses used since fastest tempos gaps : List ℕ) (m : Machine) → TablesOf d rows runs ticks pulses sources → Tracks d w used since fastest m → lawful d m ≡ true → w .tick < 2 ^ 63 → Asked ticks pulses tempos gaps → Sourced mask → Known d mask → onKnob t ≡ true → peak ≡ max (w .peak) t → Timed mask peak ticks pulses since fastest tempos gaps
+timed d t mask peak sources w rows runs ticks pulses used since fastest tempos gaps m T R l early asked sourced k knob q = record {
   sourced = sourced;
-  low = within 200 t 3000 knob .0;
-  high = within 200 t 3000 knob .1;
+  low = omega (arith, within 200 t 3000 knob .0);
+  high = omega (arith, within 200 t 3000 knob .1, R .keeps .high);
   few = λ u e. plain-pulses (T .same-sources .at u (omega (arith, under u e, T .as-wide)));
-  kept = λ u e. let q : getD fastest u 0 ≡ fastestAt m u = ap (λ (f : List ℕ). getD f u 0) (R .keeps .same) in omega (arith, kept-most d m (T .formed) l u (under u e));
+  kept = λ u e. kept-most d w fastest m (T .formed) l (R .keeps) u (under u e);
   early = λ u e. omega (arith, R .holds .ages .before u (under u e));
   asked = asked;
 }
@@ -217,7 +263,7 @@ end-soon d t mask m s n = rw (s, n) refl
 pub end-none : (d : Description) (t mask : ℕ) (m : Machine) → strangers d (marksIn mask) ≡ false → tooSoon d t (marksIn mask) m ≡ false → Done ≡ arrivalsEnd d t mask m
 end-none d t mask m s n = rw (s, n) refl
 
--- no arrivals: the mask is known, none is too soon, nothing fires, and no tempo is stored
+-- no arrivals: the mask is known, none is too soon, and nothing fires
 pub silent-known : (d : Description) (mask : ℕ) → WellFormed d → mask ≡ 0 → Known d mask
 silent-known d mask g e = (g .fields .few-sources, ap (λ k. k / 2 ^ d .«source_count») e ∙ zero-div (2 ^ d .«source_count»))
 
@@ -233,63 +279,73 @@ pub silent-arrive : (d : Description) (mask : ℕ) (m : Machine) → WellFormed 
 unfolding arrive upTo
 silent-arrive d mask m g e = arrive-none d mask 0 (d .«source_count») m (omega arith) (g .fields .few-sources) (λ u a b. none-heard mask u e)
 
-pub silent-stored : (mask v : ℕ) (l : List ℕ) → length l ≡ 16 → mask ≡ 0 → Stored mask 16 v l l
-silent-stored mask v l z e = record { many = z; here = λ u h on. absurd (not-both on (none-heard mask u e)); others = λ u off. refl }
+-- what kept tempos are to become: without arrivals, and with
+pub silent-keeps : (t mask : ℕ) (w : Words) (fastest : List ℕ) (m : Machine) → mask ≡ 0 → Keeps w fastest m → KeepsAfter t mask w fastest m
+silent-keeps t mask w fastest m e K = record {
+  many = K .many;
+  here = λ u p. sym (rw (mark-in mask u p ∙ none-heard mask u e, K .here u p) (raised-twice (w .peak) t (getD fastest u 0)));
+  above = K .above;
+  high = K .high;
+}
 
--- the tempos of a record are kept through a tick
-module _ (d : Description) (t mask : ℕ) (finish : Bool) (w : Words) (used since fastest fastest₁ fastest₂ : List ℕ) (m : Machine) (g : WellFormed d) (low : 200 ≤ t) (R : Tracks d w used since fastest m) (s : Stored mask 16 t fastest fastest₁) (r : Raises t (w .tempo) fastest₁ fastest₂) where
-  above-first : Above (min (w .tempo) t) fastest₁
-  above-first u p = go (heard mask u) refl
-    where
-      kept : (getD fastest u 0 ≡ 0) ⊎ (w .tempo ≤ getD fastest u 0) → heard mask u ≡ false → (getD fastest₁ u 0 ≡ 0) ⊎ (min (w .tempo) t ≤ getD fastest₁ u 0)
-      kept (inl z) e = inl (s .others u e ∙ z)
-      kept (inr z) e = inr (omega (arith, s .others u e))
+pub arrived-keeps : (t mask peak : ℕ) (w w′ : Words) (fastest fastest′ : List ℕ) (m : Machine) → 200 ≤ t → t ≤ 3000 → peak ≡ max (w .peak) t → (w′ .low ≡ t) × (w′ .peak ≡ t) → Keeps w fastest m → length fastest′ ≡ 16 → ((u : ℕ) → u < 16 → heard mask u ≡ true → getD fastest′ u 0 ≡ t) → (Above (w .low) fastest → (u : ℕ) → u < 16 → heard mask u ≡ false → getD fastest′ u 0 ≡ raisedTo peak (getD fastest u 0)) → KeepsAfter t mask w′ fastest′ m
+arrived-keeps t mask peak w w′ fastest fastest′ m low high q k K z fired others = record {
+  many = z;
+  here = λ u p. here u p (heard mask u) refl;
+  above = λ u p. above u p (heard mask u) refl;
+  high = omega (arith, k .1);
+}
+  where
+    top : max (w′ .peak) t ≡ t
+    top = omega (arith, k .1)
 
-      go : (b : Bool) → heard mask u ≡ b → (getD fastest₁ u 0 ≡ 0) ⊎ (min (w .tempo) t ≤ getD fastest₁ u 0)
-      go true e = inr (omega (arith, s .here u p e))
-      go false e = kept (R .keeps .above u p) e
+    here : (u : ℕ) → u < 16 → (b : Bool) → heard mask u ≡ b → raisedTo (max (w′ .peak) t) (getD fastest′ u 0) ≡ keptAfter t (getD (marksIn mask) u false) (fastestAt m u)
+    here u p true e =
+        rw (top, fired u p e, mark-in mask u p, e) (raised-some t t (omega arith) ∙ (let y : max t t ≡ t = omega arith in y))
+    here u p false e =
+        let y : max peak t ≡ max (w .peak) t = omega arith in
+        rw (top, others (K .above) u p e, mark-in mask u p, e, K .here u p)
+        (raised-twice peak t (getD fastest u 0) ∙ ap (λ x. raisedTo x (getD fastest u 0)) y ∙ sym (raised-twice (w .peak) t (getD fastest u 0)))
 
-  after : (u : ℕ) → u < 16 → getD fastest₂ u 0 ≡ keptAfter t (getD (marksIn mask) u false) (fastestAt m u)
-  after u p = r .raised above-first u p ∙ go (heard mask u) refl
-    where
-      own : raisedTo t t ≡ t
-      own = rw (ne-eqb t 0 (λ z. omega arith)) (let q : max t t ≡ t = omega arith in q)
+    rest : (u f : ℕ) → getD fastest′ u 0 ≡ raisedTo peak f → (getD fastest′ u 0 ≡ 0) ⊎ (w′ .low ≤ getD fastest′ u 0)
+    rest u zero e = inl e
+    rest u (suc n) e = let y : raisedTo peak (suc n) ≡ max (suc n) peak = raised-some peak (suc n) (omega arith) in inr (omega (arith, k .0))
 
-      go : (b : Bool) → heard mask u ≡ b → raisedTo t (getD fastest₁ u 0) ≡ keptAfter t (getD (marksIn mask) u false) (fastestAt m u)
-      go true e = rw (s .here u p e, mark-in mask u p, e) own
-      go false e = rw (s .others u e, mark-in mask u p, e, R .keeps .same) refl
+    above : (u : ℕ) → u < 16 → (b : Bool) → heard mask u ≡ b → (getD fastest′ u 0 ≡ 0) ⊎ (w′ .low ≤ getD fastest′ u 0)
+    above u p true e = inr (omega (arith, fired u p e, k .0))
+    above u p false e = rest u (getD fastest u 0) (others (K .above) u p e)
 
-  above-last : (u : ℕ) → u < 16 → (getD fastest₂ u 0 ≡ 0) ⊎ (t ≤ getD fastest₂ u 0)
-  above-last u p = go (getD fastest₁ u 0) (r .raised above-first u p)
-    where
-      go : (f : ℕ) → getD fastest₂ u 0 ≡ raisedTo t f → (getD fastest₂ u 0 ≡ 0) ⊎ (t ≤ getD fastest₂ u 0)
-      go zero e = inl e
-      go (suc n) e = let q : getD fastest₂ u 0 ≡ max (suc n) t = rw (ne-eqb (suc n) 0 (λ z. omega arith)) at e in inr (omega arith)
-
-  -- the words hold what the steps make of the record, and the tempos those that it keeps
-  pub tracked : (w′ : Words) (used′ since′ : List ℕ) → w′ .tempo ≡ t → Holds d w′ used′ since′ (ageAll d (worked d finish (arrive d (marksIn mask) m))) → Tracks d w′ used′ since′ fastest₂ (stepped d t (marksIn mask) finish m)
-  unfolding stepped keep
-  tracked w′ used′ since′ e h = record {
-    holds = record {
-      marks = record {
-        sized = T .sized;
-        no-zero = h .marks .no-zero;
-        present = h .marks .present;
-        awake = h .marks .awake;
-        waiting = h .marks .waiting;
-        dropped = h .marks .dropped;
-      };
-      same-used = h .same-used;
-      ages = ages-same d (w′ .tick) since′ (ageAll d (worked d finish (arrive d (marksIn mask) m))) (stepped d t (marksIn mask) finish m) refl (h .ages);
+-- the words hold what the steps make of a record, and the tempos those that it keeps
+pub tracked : (d : Description) (t mask : ℕ) (finish : Bool) (w w₁ w₂ : Words) (used used′ since since′ fastest fastest′ : List ℕ) (m : Machine) → WellFormed d → t ≤ 3000 → Tracks d w used since fastest m → KeepsAfter t mask w₁ fastest′ m → w₂ .low ≡ w₁ .low → w₂ .peak ≡ max (w₁ .peak) t → Holds d w₂ used′ since′ (ageAll d (worked d finish (arrive d (marksIn mask) m))) → Tracks d w₂ used′ since′ fastest′ (stepped d t (marksIn mask) finish m)
+unfolding stepped keep
+tracked d t mask finish w w₁ w₂ used used′ since since′ fastest fastest′ m g high R K a b h = record {
+  holds = record {
+    marks = record {
+      sized = T .sized;
+      no-zero = h .marks .no-zero;
+      present = h .marks .present;
+      awake = h .marks .awake;
+      waiting = h .marks .waiting;
+      dropped = h .marks .dropped;
     };
-    keeps = record {
-      same = ext-getD 0 fastest₂ (stepped d t (marksIn mask) finish m .fastest) (r .many ∙ sym (T .sized .fastests)) (λ u p. after u (omega (arith, r .many)) ∙ sym (T .fastest u (omega (arith, r .many))));
-      above = λ u p. rw e (above-last u p);
-    };
-  }
-    where
-      T : Stepped d g t (marksIn mask) (highest d (arrive d (marksIn mask) m)) (overAt d (highest d (arrive d (marksIn mask) m)) finish m) m (stepped d t (marksIn mask) finish m)
-      T = step d g t (marksIn mask) finish m (R .holds .marks .sized)
+    same-used = h .same-used;
+    ages = ages-same d (w₂ .tick) since′ (ageAll d (worked d finish (arrive d (marksIn mask) m))) (stepped d t (marksIn mask) finish m) refl (h .ages);
+  };
+  keeps = record {
+    many = K .many;
+    here = λ u p. T .fastest u p ∙ sym (K .here u p) ∙ ap (λ x. raisedTo x (getD fastest′ u 0)) (sym b);
+    above = λ u p. rw a (K .above u p);
+    high = omega (arith, K .high);
+  };
+}
+  where
+    T : Stepped d g t (marksIn mask) (highest d (arrive d (marksIn mask) m)) (overAt d (highest d (arrive d (marksIn mask) m)) finish m) m (stepped d t (marksIn mask) finish m)
+    T = step d g t (marksIn mask) finish m (R .holds .marks .sized)
+
+-- kept tempos raised to the fastest given are the record's
+pub raised-same : (d : Description) (w : Words) (used since fastest fastest′ : List ℕ) (m : Machine) → Tracks d w used since fastest m → length fastest′ ≡ 16 → ((u : ℕ) → u < 16 → getD fastest′ u 0 ≡ raisedTo (w .peak) (getD fastest u 0)) → fastest′ ≡ m .fastest
+raised-same d w used since fastest fastest′ m R z h =
+    ext-getD 0 fastest′ (m .fastest) (z ∙ sym (R .holds .marks .sized .fastests)) (λ u p. h u (omega arith) ∙ sym (R .keeps .here u (omega arith)))
 
 -- a refused call's answer and the plain machine's, whose record its words hold
 pub answer-ends : (r : Advanced) (o : Outcome) (w : Words) (m : Machine) (p : Ticked) → r ≡ record { outcome = o; words = w } → record { outcome = o; machine = m } ≡ p → r .outcome ≡ p .outcome
@@ -305,9 +361,6 @@ answer-tick r o w e = ap (λ (x : Advanced). x .words .tick) e
 -- arrivals that are refused leave the words as they were
 pub refused-stays : (r : Advanced) (why : Refusal) (w : Words) → r ≡ record { outcome = Refused why 0; words = w } → r .outcome ≡ Done → ⊥
 refused-stays r why w e f = refused-not (sym (ap (λ (x : Advanced). x .outcome) e) ∙ f)
-
-pub answer-knob : (r : Advanced) (o : Outcome) (w : Words) → r ≡ record { outcome = o; words = w } → r .words .tempo ≡ w .tempo
-answer-knob r o w e = ap (λ (x : Advanced). x .words .tempo) e
 
 pub answer-words : (d : Description) (used since : List ℕ) (m : Machine) (r : Advanced) (o : Outcome) (w : Words) → r ≡ record { outcome = o; words = w } → Holds d w used since m → Holds d (r .words) used since m
 answer-words d used since m r o w e h = subst (λ (k : Words). Holds d k used since m) (sym (ap (λ (x : Advanced). x .words) e)) h

@@ -1,5 +1,5 @@
 -- The tick call on a record: its tables, its arrivals as a mask, and its answer. Assumes nothing.
-use Prim.Native.Nat.{ℕ, _+_}
+use Prim.Native.Nat.{ℕ, zero, suc, _+_, max}
 use mathlib.Core.Path.{_≡_, refl, sym, _∙_}
 use mathlib.Core.Bool.{Bool, true, false, _&&_}
 use mathlib.Core.Logic.{inr}
@@ -12,7 +12,7 @@ use Rattle.model.specs.declared.Description.{Description}
 use Rattle.model.specs.declared.Machine.{Machine}
 use Rattle.model.specs.declared.Ticked.{Ticked}
 use Rattle.model.specs.declared.Outcome.{Outcome}
-use Rattle.model.specs.Machine.{lawful}
+use Rattle.model.specs.Machine.{fastestAt, lawful}
 use Rattle.lemmas.proofs.Tests.{and-left}
 use Rattle.lemmas.proofs.Table.{is-tab}
 use Rattle.theory.proofs.WellFormed.{WellFormed}
@@ -24,8 +24,10 @@ use Rattle.spacings.specs.Sources.{SourcesOf}
 use Rattle.model.specs.Run.{heard, marksIn}
 use Rattle.steps.specs.declared.words.Words.{Words}
 use Rattle.steps.specs.Parts.{Sourced}
+use Rattle.steps.specs.Words.{raisedTo}
 use Rattle.steps.specs.Record.{Packs}
 use Rattle.machine.specs.Calls.{TablesOf, Tracks}
+use Rattle.machine.proofs.CallLaws.{raised-some}
 
 -- the tables of a wiring and of sources
 pub tables-of : (d : Description) (w : Wiring) (s : Sources) → WiringOf d w → SourcesOf d s → TablesOf d (w .rows) (w .runs) (s .ticks) (s .pulses) (w .sources)
@@ -37,12 +39,21 @@ tables-of d w s r h = record {
   same-sources = record { counted = sym (r .as-wide); at = λ u p. h .at u (omega (arith, r .as-wide, h .counted)) };
 }
 
--- the words of a record that keeps the rules, which say nothing of its kept tempos
+-- the words of a record that keeps the rules, beside its kept tempos
 pub packed-tracks : (d : Description) (m : Machine) (w : Words) (since : List ℕ) → WellFormed d → lawful d m ≡ true → Packs m w since → Tracks d w (m .used) since (m .fastest) m
 packed-tracks d m w since g l p = record {
   holds = p .holds d g l;
-  keeps = record { same = refl; above = λ u h. inr (omega (arith, p .knob)) };
+  keeps = record {
+    many = p .holds d g l .marks .sized .fastests;
+    here = λ u h. at (fastestAt m u);
+    above = λ u h. inr (omega (arith, p .knob .0));
+    high = omega (arith, p .knob .1);
+  };
 }
+  where
+    at : (f : ℕ) → f ≡ raisedTo (w .peak) f
+    at zero = refl
+    at (suc n) = let q : suc n ≡ max (suc n) (w .peak) = omega (arith, p .knob .1) in q ∙ sym (raised-some (w .peak) (suc n) (omega arith))
 
 -- the mask of some marks
 module _ (mask : ℕ) (marks : List Bool) (h : (j : ℕ) → member mask j ≡ (ltb j 16 && getD marks (0 + j) false)) where

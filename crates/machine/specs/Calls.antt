@@ -1,9 +1,9 @@
 -- What one call ensures: of every accepted description whose tables it is given, and every record that its words hold.
-use Prim.Native.Nat.{ℕ, _+_, _^_, _≤_, _<_}
-use mathlib.Core.Bool.{Bool, true, cond}
+use Prim.Native.Nat.{ℕ, _+_, _^_, _≤_, _<_, max}
+use mathlib.Core.Bool.{Bool, true, false, cond}
 use mathlib.Core.List.{List}
 use mathlib.Core.Path.{_≡_}
-use lib.ListN.{getD}
+use lib.ListN.{getD, length}
 use Rattle.model.specs.declared.Description.{Description}
 use Rattle.model.specs.declared.Machine.{Machine}
 use Rattle.model.specs.declared.Arrivals.{Arrivals}
@@ -13,7 +13,7 @@ use Rattle.model.specs.declared.Outcome.the-variants.{Done, Refused}
 use Rattle.model.specs.declared.Refusal.the-variants.{Stranger, TooSoon}
 use Rattle.model.specs.File.{judge}
 use Rattle.model.specs.Verdicts.{onKnob, judgeAt}
-use Rattle.model.specs.Machine.{arrive, ageAll, lawful, strangers, tooSoon, plainTick}
+use Rattle.model.specs.Machine.{fastestAt, arrive, ageAll, keptAfter, lawful, strangers, tooSoon, plainTick}
 use Rattle.model.specs.History.{plainCall}
 use Rattle.model.specs.Run.{heard, marksIn, callOf}
 use Rattle.theory.proofs.WellFormed.{WellFormed}
@@ -24,7 +24,7 @@ use Rattle.spacings.specs.Sources.{sourcesWith, SourcesOf}
 use Rattle.spacings.specs.Gaps.{Asked, GapsOf}
 use Rattle.steps.specs.declared.words.Words.{Words}
 use Rattle.steps.specs.Parts.{Known, Sourced}
-use Rattle.steps.specs.Words.{Ages, Holds, Keeps, Stored, worked, Raises}
+use Rattle.steps.specs.Words.{Ages, Holds, Keeps, Above, raisedTo, worked}
 use Rattle.machine.specs.declared.call.Call.{Call}
 use Rattle.machine.specs.declared.call.Advanced.{Advanced}
 
@@ -42,29 +42,36 @@ pub record Tracks (d : Description) (w : Words) (used since fastest : List ℕ) 
   pub keeps : Keeps w fastest m
 
 -- the numbers of every arriving source are such that its spacing can be worked out
-pub record Timed (mask t : ℕ) (ticks pulses since fastest tempos gaps : List ℕ) : Type 0 where
+pub record Timed (mask peak : ℕ) (ticks pulses since fastest tempos gaps : List ℕ) : Type 0 where
   pub sourced : Sourced mask
-  pub low : 200 ≤ t
-  pub high : t ≤ 3000
+  pub low : 200 ≤ peak
+  pub high : peak ≤ 3000
   pub few : (u : ℕ) → heard mask u ≡ true → getD pulses u 0 ≤ 960
   pub kept : (u : ℕ) → heard mask u ≡ true → getD fastest u 0 ≤ 3000
   pub early : (u : ℕ) → heard mask u ≡ true → getD since u 0 < 2 ^ 63
   pub asked : Asked ticks pulses tempos gaps
 
--- whether an arriving source comes too soon
-pub record SoonIs (mask t : ℕ) (ticks pulses since fastest : List ℕ) (tick : ℕ) (r : Bool) (tempos′ gaps′ : List ℕ) : Type 0 where
-  pub told : (d : Description) (sources : ℕ) (m : Machine) → WellFormed d → SourcesOf d (sourcesWith sources ticks pulses) → Known d mask
-      → Ages d tick since m → fastest ≡ m .fastest → r ≡ tooSoon d t (marksIn mask) m
+-- whether an arriving source comes too soon, peak being the fastest tempo given since the last arrival
+pub record SoonIs (mask peak : ℕ) (ticks pulses since fastest : List ℕ) (tick : ℕ) (r : Bool) (tempos′ gaps′ : List ℕ) : Type 0 where
+  pub told : (d : Description) (t sources : ℕ) (w : Words) (m : Machine) → WellFormed d → SourcesOf d (sourcesWith sources ticks pulses) → Known d mask → lawful d m ≡ true
+      → Ages d tick since m → Keeps w fastest m → peak ≡ max (w .peak) t → 200 ≤ t → r ≡ tooSoon d t (marksIn mask) m
   pub asked : Asked ticks pulses tempos′ gaps′
 
 -- steps 2 to 4 are made at tempo t
-pub record RunsOn (rows runs : List ℕ) (t : ℕ) (finish : Bool) (w : Words) (used fastest : List ℕ) (r : Advanced) (used′ fastest′ : List ℕ) : Type 0 where
+pub record RunsOn (rows runs : List ℕ) (t : ℕ) (finish : Bool) (w : Words) (used : List ℕ) (r : Advanced) (used′ : List ℕ) : Type 0 where
   pub done : r .outcome ≡ Done
   pub ran : (d : Description) (since : List ℕ) (m : Machine) → WellFormed d → RowsOf d (d .«link_count») rows → runs ≡ d .runs
       → Holds d w used since m → Holds d (r .words) used′ since (ageAll d (worked d finish m))
-  pub raises : Raises t (w .tempo) fastest fastest′
   pub then : r .words .tick ≡ w .tick + 1
-  pub knob : r .words .tempo ≡ t
+  pub low : r .words .low ≡ w .low
+  pub peak : r .words .peak ≡ max (w .peak) t
+
+-- the sources of a mask have fired at tempo t: what a record's kept tempos are to become
+pub record KeepsAfter (t mask : ℕ) (w : Words) (fastest : List ℕ) (m : Machine) : Type 0 where
+  pub many : length fastest ≡ 16
+  pub here : (u : ℕ) → u < 16 → raisedTo (max (w .peak) t) (getD fastest u 0) ≡ keptAfter t (getD (marksIn mask) u false) (fastestAt m u)
+  pub above : Above (w .low) fastest
+  pub high : w .peak ≤ 3000
 
 -- 15 and 14 in this order, or neither
 abbrev pub arrivalsEnd : Description → ℕ → ℕ → Machine → Outcome
@@ -90,15 +97,14 @@ pub record Coming (rows ticks pulses : List ℕ) (sources t mask : ℕ) (w : Wor
 
 -- they are refused, and all is as it was; or the sources have fired
 pub record Comes (rows ticks pulses : List ℕ) (sources t mask : ℕ) (w : Words) (since fastest : List ℕ) (r : Advanced) (since′ fastest′ tempos′ gaps′ : List ℕ) : Type 0 where
-  pub ends : (d : Description) (runs used : List ℕ) (m : Machine) → TablesOf d rows runs ticks pulses sources → Tracks d w used since fastest m
+  pub ends : (d : Description) (runs used : List ℕ) (m : Machine) → TablesOf d rows runs ticks pulses sources → lawful d m ≡ true → Tracks d w used since fastest m
       → r .outcome ≡ arrivalsEnd d t mask m
   pub stays : (r .outcome ≡ Done → ⊥) → (since′ ≡ since) × (fastest′ ≡ fastest)
   pub fired : r .outcome ≡ Done → (d : Description) (runs used : List ℕ) (m : Machine) → TablesOf d rows runs ticks pulses sources → Tracks d w used since fastest m
       → Holds d (r .words) used since′ (arrive d (marksIn mask) m)
-  pub kept : r .outcome ≡ Done → Stored mask 16 t fastest fastest′
+  pub kept : r .outcome ≡ Done → (d : Description) (used : List ℕ) (m : Machine) → Tracks d w used since fastest m → KeepsAfter t mask (r .words) fastest′ m
   pub asked : Asked ticks pulses tempos′ gaps′
   pub then : r .words .tick ≡ w .tick
-  pub knob : r .words .tempo ≡ w .tempo
 
 -- a call may be made: its tables are those of some accepted description, and the words hold a record that keeps the rules
 pub record Going (rows runs ticks pulses : List ℕ) (sources mask : ℕ) (w : Words) (used since fastest tempos gaps : List ℕ) : Type 0 where

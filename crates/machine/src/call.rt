@@ -5,13 +5,13 @@ use model::Refusal;
 use spacings::gap_at;
 use spacings::on_knob;
 use steps::step::arrive;
+use steps::step::larger;
 use steps::step::long;
 use steps::step::pass;
 use steps::step::work;
 use steps::words::Words;
 ghost use mathlib.Core.Path.{_≡_};
-ghost use Prim.Native.Nat.{_+_, _≤_, _<_, _/_, _^_, max};
-ghost use lib.ListN.{length};
+ghost use Prim.Native.Nat.{_+_, _≤_, _<_, _/_, _^_};
 ghost use lib.Dec.{ltb};
 ghost use Rattle.model.specs.declared.Outcome.the-variants.{Done, Refused};
 ghost use Rattle.steps.specs.Words.{Workable};
@@ -38,16 +38,6 @@ fn above(mask: u64, sources: usize) -> u64
     mask >> sources
 }
 
-// The larger of two tempos.
-fn larger(f: u32, t: u32) -> u32
-    ensures { λ r. ⌜ r ≡ max f t ⌝ }
-{
-    if f < t {
-        return t;
-    }
-    f
-}
-
 // Whether a spacing has not passed since some tick.
 fn young(since: u64, gap: u32, tick: u64) -> bool
     requires { ⌜ since < 2 ^ 63 ⌝ }
@@ -56,10 +46,11 @@ fn young(since: u64, gap: u32, tick: u64) -> bool
     tick < since + long(gap)
 }
 
-// 14: the age of an arriving source is below its spacing at the fastest tempo given since it last fired, this tick's included.
+// 14: the age of an arriving source is below its spacing at the fastest tempo given since it last fired. Peak is the fastest of those since the last
+// arrival, this tick's included.
 fn too_soon<'a>(
     mask: u64,
-    t: u32,
+    peak: u32,
     ticks: &'a [u32; 16],
     pulses: &'a [u32; 16],
     since: &[u64; 16],
@@ -68,13 +59,13 @@ fn too_soon<'a>(
     tempos: &mut [u32; 16],
     gaps: &mut [u32; 16],
 ) -> bool
-    requires { ⌜ Timed mask t (now ticks) (now pulses) (now since) (now fastest) (now tempos) (now gaps) ⌝ }
-    ensures { λ r. ⌜ SoonIs mask t (now (ticks .entry)) (now (pulses .entry)) (now (since .entry)) (now (fastest .entry)) tick r (now (tempos .exit)) (now (gaps .exit)) ⌝ }
+    requires { ⌜ Timed mask peak (now ticks) (now pulses) (now since) (now fastest) (now tempos) (now gaps) ⌝ }
+    ensures { λ r. ⌜ SoonIs mask peak (now (ticks .entry)) (now (pulses .entry)) (now (since .entry)) (now (fastest .entry)) tick r (now (tempos .exit)) (now (gaps .exit)) ⌝ }
 {
     let mut rest = mask;
     while rest != 0 {
         let u = sets::first(rest);
-        let tempo = larger(fastest[u], t);
+        let tempo = larger(fastest[u], peak);
         let gap = gap_at(ticks, pulses, u, tempo, &mut *tempos, &mut *gaps);
         if young(since[u], gap, tick) {
             return true;
@@ -108,13 +99,12 @@ fn run_on<'a>(
     finish: bool,
     w: Words,
     used: &mut [u32; 32],
-    fastest: &mut [u32; 16],
 ) -> Advanced
-    requires { ⌜ Workable w (now used) × (w .tick < 2 ^ 63) × (length (now fastest) ≡ 16) ⌝ }
-    ensures { λ r. ⌜ RunsOn (now (rows .entry)) (now (runs .entry)) t finish w (now (used .entry)) (now (fastest .entry)) r (now (used .exit)) (now (fastest .exit)) ⌝ }
+    requires { ⌜ Workable w (now used) × (w .tick < 2 ^ 63) ⌝ }
+    ensures { λ r. ⌜ RunsOn (now (rows .entry)) (now (runs .entry)) t finish w (now (used .entry)) r (now (used .exit)) ⌝ }
 {
     let worked = work(rows, runs, finish, w, used);
-    done(pass(t, worked, fastest))
+    done(pass(t, worked))
 }
 
 // 15 and 14 in this order, or else step 1 at tempo t: the arrivals fire.
@@ -140,10 +130,11 @@ fn come<'a>(
     if above(mask, sources) != 0 {
         return refused(Refusal::Stranger, w);
     }
-    if too_soon(mask, t, ticks, pulses, since, fastest, w.tick, tempos, gaps) {
+    let peak = larger(w.peak, t);
+    if too_soon(mask, peak, ticks, pulses, since, fastest, w.tick, tempos, gaps) {
         return refused(Refusal::TooSoon, w);
     }
-    done(arrive(rows, t, mask, w, since, fastest))
+    done(arrive(rows, t, peak, mask, w, since, fastest))
 }
 
 // 11, 15 and 14 in this order, or else a tick. The record keeps the rules, so that 16 is not looked for.
@@ -178,7 +169,7 @@ pub fn advance<'a>(
         call.mask,
         w,
         since,
-        &mut *fastest,
+        fastest,
         tempos,
         gaps,
     );
@@ -186,5 +177,5 @@ pub fn advance<'a>(
     if let Outcome::Refused(why, _) = outcome {
         return refused(why, w);
     }
-    run_on(rows, runs, t, finish, came.words, used, fastest)
+    run_on(rows, runs, t, finish, came.words, used)
 }

@@ -16,6 +16,7 @@ use spacings::sources_of;
 use steps::record::begin;
 use steps::record::since_of;
 use steps::record::unpack;
+use steps::step::raise;
 use wiring::Wiring;
 use wiring::wiring_of;
 ghost use mathlib.Core.Path.{_≡_};
@@ -102,6 +103,7 @@ pub fn run_wired(
         words = done.words;
         i += 1;
     }
+    raise(words.peak, &mut fastest);
     let machine = unpack(&longest, sources, words, used, &since, fastest);
     let outcome = Outcome::Done;
     Ticked { outcome, machine }

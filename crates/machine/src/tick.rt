@@ -12,6 +12,7 @@ use spacings::Sources;
 use steps::record::pack;
 use steps::record::unpack;
 use steps::record::word_in;
+use steps::step::raise;
 use wiring::Wiring;
 ghost use mathlib.Core.Path.{_≡_};
 ghost use Rattle.model.specs.declared.Outcome.the-variants.{Refused};
@@ -83,6 +84,7 @@ pub fn tick_judged(
     );
     let outcome = done.outcome;
     let left = done.words;
+    raise(left.peak, &mut fastest);
     Ticked {
         outcome,
         machine: unpack(&longest, sources, left, used, &since, fastest),

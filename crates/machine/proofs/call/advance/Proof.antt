@@ -12,7 +12,6 @@ use Rattle.model.specs.Machine.{arrive}
 use Rattle.model.specs.Run.{marksIn}
 use Rattle.lemmas.proofs.Outcomes.{refused-not}
 use Rattle.lemmas.proofs.Tests.{within}
-use Rattle.steps.specs.Words.{Raises}
 use Rattle.machine.specs.Calls.{Tracks}
 use Rattle.machine.proofs.CallLaws.{workable, judged-at, tick-off, tick-refused, tick-done, end-place, tracked, answer-ends, answer-tracks, answer-tick}
 use borrow.Author.Needs.{needs}
@@ -79,10 +78,10 @@ returns-2 c =
     let soon = answer-tick (r .result) (Refused why 0) w (r .ensures) in
     record {
       ends = λ d m T j l R.
-          let e = sym (v .ensures .ends d (A .runs .now) (A .used .now) m T R) ∙ told .1 in
+          let e = sym (v .ensures .ends d (A .runs .now) (A .used .now) m T l R) ∙ told .1 in
           answer-ends (r .result) (Refused why 0) w m _ (r .ensures) (tick-refused d t mask m (A .call .finish) why 0 (judged-at d t j on) l (e ∙ ap (Refused why) (end-place d t mask m why (told .0 .1 .0) e)));
       leaves = λ d m T j l R.
-          let e = sym (v .ensures .ends d (A .runs .now) (A .used .now) m T R) ∙ told .1 in
+          let e = sym (v .ensures .ends d (A .runs .now) (A .used .now) m T l R) ∙ told .1 in
           answer-tracks d (A .used .now) (A .since .now) (A .fastest .now) (v .last .1 .1 .1 .1 .1 .1 .1 .0) (v .last .1 .1 .1 .1 .1 .1 .1 .1 .0) (r .result) (Refused why 0) w m _ (same .0) (same .1) (r .ensures) (tick-refused d t mask m (A .call .finish) why 0 (judged-at d t j on) l (e ∙ ap (Refused why) (end-place d t mask m why (told .0 .1 .0) e))) R;
       asked = v .ensures .asked;
       soon = omega (arith, soon);
@@ -93,31 +92,30 @@ enum-told c = search needs
 
 run-on-requires : tie.Need-run-on-requires
 run-on-requires c κs =
-    let A = c .before .before .before .before .before .before .before .before .before .before .before .args in
-    let p = c .before .before .before .before .before .before .before .before .before .before .before .pre in
-    let v = c .before .before .before .before .come in
-    let done = c .before .before .enum-told .given .1 in
-    (workable (p .description) (A .w) (v .result .words) (A .used .now) (A .since .now) (v .last .1 .1 .1 .1 .1 .1 .1 .0) (p .machine) (arrive (p .description) (marksIn (A .call .mask)) (p .machine)) (p .tables .formed) (p .keeps) (p .tracks .holds) (v .ensures .fired done (p .description) (A .runs .now) (A .used .now) (p .machine) (p .tables) (p .tracks)), omega (arith, p .early, v .ensures .then), v .ensures .kept done .many)
+    let A = c .before .before .before .before .before .before .before .before .before .before .args in
+    let p = c .before .before .before .before .before .before .before .before .before .before .pre in
+    let v = c .before .before .before .come in
+    let done = c .before .enum-told .given .1 in
+    (workable (p .description) (A .w) (v .result .words) (A .used .now) (A .since .now) (v .last .1 .1 .1 .1 .1 .1 .1 .0) (p .machine) (arrive (p .description) (marksIn (A .call .mask)) (p .machine)) (p .tables .formed) (p .keeps) (p .tracks .holds) (v .ensures .fired done (p .description) (A .runs .now) (A .used .now) (p .machine) (p .tables) (p .tracks)), omega (arith, p .early, v .ensures .then))
 
 returns-3 : tie.Need-returns-3
 returns-3 c =
-    let A = c .before .before .before .before .before .before .before .before .before .before .before .before .args in
+    let A = c .before .before .before .before .before .before .before .before .before .before .before .args in
     let t = A .call .tempo in
     let mask = A .call .mask in
     let finish = A .call .finish in
-    let a = c .before .before .before .before .before .come in
+    let a = c .before .before .before .before .come in
     let v = c .run-on in
-    let done = c .before .before .before .enum-told .given .1 in
-    let on : onKnob t ≡ true = sym (c .before .before .before .before .before .before .before .before .before .before .before .on-knob .ensures) ∙ not-false (c .before .before .before .before .before .before .before .before .before .before .before .on-knob .result) (c .before .before .before .before .before .before .before .before .before .before .if1 .left) in
+    let done = c .before .before .enum-told .given .1 in
+    let on : onKnob t ≡ true = sym (c .before .before .before .before .before .before .before .before .before .before .on-knob .ensures) ∙ not-false (c .before .before .before .before .before .before .before .before .before .before .on-knob .result) (c .before .before .before .before .before .before .before .before .before .if1 .left) in
     let since = a .last .1 .1 .1 .1 .1 .1 .1 .0 in
     let fastest = a .last .1 .1 .1 .1 .1 .1 .1 .1 .0 in
     let used′ = v .last .1 .1 .1 .1 .1 .0 in
-    let fastest′ = v .last .1 .1 .1 .1 .1 .1 .0 in
     record {
-      ends = λ d m T j l R. v .ensures .done ∙ ap (λ (x : Ticked). x .outcome) (tick-done d t mask m finish (judged-at d t j on) l (sym (a .ensures .ends d (A .runs .now) (A .used .now) m T R) ∙ done));
+      ends = λ d m T j l R. v .ensures .done ∙ ap (λ (x : Ticked). x .outcome) (tick-done d t mask m finish (judged-at d t j on) l (sym (a .ensures .ends d (A .runs .now) (A .used .now) m T l R) ∙ done));
       leaves = λ d m T j l R.
-          subst (λ (k : Machine). Tracks d (v .result .words) used′ since fastest′ k) (ap (λ (x : Ticked). x .machine) (tick-done d t mask m finish (judged-at d t j on) l (sym (a .ensures .ends d (A .runs .now) (A .used .now) m T R) ∙ done)))
-          (tracked d t mask finish (A .w) (A .used .now) (A .since .now) (A .fastest .now) fastest fastest′ m (T .formed) (within 200 t 3000 on .0) R (a .ensures .kept done) (subst (λ low. Raises t low fastest fastest′) (a .ensures .knob) (v .ensures .raises)) (v .result .words) used′ since (v .ensures .knob)
+          subst (λ (k : Machine). Tracks d (v .result .words) used′ since fastest k) (ap (λ (x : Ticked). x .machine) (tick-done d t mask m finish (judged-at d t j on) l (sym (a .ensures .ends d (A .runs .now) (A .used .now) m T l R) ∙ done)))
+          (tracked d t mask finish (A .w) (a .result .words) (v .result .words) (A .used .now) used′ (A .since .now) since (A .fastest .now) fastest m (T .formed) (within 200 t 3000 on .1) R (a .ensures .kept done d (A .used .now) m R) (v .ensures .low) (v .ensures .peak)
           (v .ensures .ran d since (arrive d (marksIn mask) m) (T .formed) (T .rowed) (T .same-runs) (a .ensures .fired done d (A .runs .now) (A .used .now) m T R)));
       asked = a .ensures .asked;
       soon = omega (arith, v .ensures .then, a .ensures .then);

@@ -15,11 +15,11 @@ use Rattle.machine.proofs.call.too_soon.Statement.{statement}
 use Rattle.machine.proofs.call.too_soon.Tie as tie
 
 abbrev Inv-loop : tie.InvT-loop
-Inv-loop mask t ticks pulses since fastest tick tempos₀ gaps₀ rest₀ tempos gaps rest =
-    (r : ℕ) × Rest mask r rest × Asked ticks pulses tempos gaps × ((u : ℕ) → u < r → heard mask u ≡ true → getD since u 0 + spacingBy (getD ticks u 0) (getD pulses u 0) (max (getD fastest u 0) t) ≤ tick)
+Inv-loop mask peak ticks pulses since fastest tick tempos₀ gaps₀ rest₀ tempos gaps rest =
+    (r : ℕ) × Rest mask r rest × Asked ticks pulses tempos gaps × ((u : ℕ) → u < r → heard mask u ≡ true → getD since u 0 + spacingBy (getD ticks u 0) (getD pulses u 0) (max (getD fastest u 0) peak) ≤ tick)
 
 abbrev μ-loop : tie.MeasureT-loop
-μ-loop mask t ticks pulses since fastest tick tempos₀ gaps₀ rest₀ tempos gaps rest = rest
+μ-loop mask peak ticks pulses since fastest tick tempos₀ gaps₀ rest₀ tempos gaps rest = rest
 
 loop-holds : tie.Need-loop-holds Inv-loop μ-loop
 loop-holds c = (0, rest-all (c .args .mask), c .pre .asked, λ u h e. absurd (omega arith))
@@ -34,7 +34,7 @@ own c = omega (arith, least (c .before .before .before .args .mask) (c .before .
 comes : (c : tie.After-first Inv-loop μ-loop) → heard (c .before .before .before .args .mask) (c .first .result) ≡ true
 comes c = here (c .before .before .before .args .mask) (c .before .before .loop .inv .0) (c .before .before .loop .rest) (c .first .result) (c .before .before .loop .inv .1) (c .first .ensures)
 
-due : (c : tie.After-gap-at Inv-loop μ-loop) → c .gap-at .result ≡ spacingBy (getD (c .before .before .before .before .before .before .before .before .args .ticks .now) (c .before .before .before .before .before .first .result) 0) (getD (c .before .before .before .before .before .before .before .before .args .pulses .now) (c .before .before .before .before .before .first .result) 0) (max (getD (c .before .before .before .before .before .before .before .before .args .fastest .now) (c .before .before .before .before .before .first .result) 0) (c .before .before .before .before .before .before .before .before .args .t))
+due : (c : tie.After-gap-at Inv-loop μ-loop) → c .gap-at .result ≡ spacingBy (getD (c .before .before .before .before .before .before .before .before .args .ticks .now) (c .before .before .before .before .before .first .result) 0) (getD (c .before .before .before .before .before .before .before .before .args .pulses .now) (c .before .before .before .before .before .first .result) 0) (max (getD (c .before .before .before .before .before .before .before .before .args .fastest .now) (c .before .before .before .before .before .first .result) 0) (c .before .before .before .before .before .before .before .before .args .peak))
 due c = c .gap-at .ensures .0 ∙ ap (spacingBy (getD (c .before .before .before .before .before .before .before .before .args .ticks .now) (c .before .before .before .before .before .first .result) 0) (getD (c .before .before .before .before .before .before .before .before .args .pulses .now) (c .before .before .before .before .before .first .result) 0)) (c .before .before .before .larger .ensures)
 
 mul-larger : tie.Need-mul-larger Inv-loop μ-loop
@@ -65,7 +65,7 @@ returns c =
     let A = c .before .before .before .before .before .before .before .before .before .before .before .args in
     let u = c .before .before .before .before .before .before .before .before .first .result in
     record {
-      told = λ d sources m g s k a e. soon-one d (A .t) (A .mask) (A .tick) sources (A .ticks .now) (A .pulses .now) (A .since .now) (A .fastest .now) m g s k a e (c .before .before .before .before .before .before .before .before .before .before .before .pre .low) u (comes (c .before .before .before .before .before .before .before .before)) (subst (λ x. A .tick < getD (A .since .now) u 0 + x) (due (c .before .before .before)) (ltb-true _ _ (sym (c .before .young .ensures) ∙ c .if1 .taken)));
+      told = λ d t sources w m g s k l a K q low. soon-one d t (A .mask) (A .peak) (A .tick) sources (A .ticks .now) (A .pulses .now) (A .since .now) (A .fastest .now) w m g s k l a K q low u (comes (c .before .before .before .before .before .before .before .before)) (subst (λ x. A .tick < getD (A .since .now) u 0 + x) (due (c .before .before .before)) (ltb-true _ _ (sym (c .before .young .ensures) ∙ c .if1 .taken)));
       asked = c .before .before .before .gap-at .ensures .1;
     }
 
@@ -82,14 +82,14 @@ loop-again c =
     let u = c .before .before .before .before .before .before .before .before .before .first .result in
     let T = turn (A .mask) (L .inv .0) (L .rest) u (c .rest .result) (c .before .before .before .before .before .before .before .before .before .before .before .before .pre .sourced) (L .inv .1) (c .before .before .before .before .before .before .before .before .before .first .ensures) (c .rest .ensures) in
     let p : getD (A .since .now) u 0 + c .before .before .before .before .gap-at .result ≤ A .tick = ltb-false _ _ (sym (c .before .before .young .ensures) ∙ c .before .if1 .left) in
-    (u + 1, T .after, c .before .before .before .before .gap-at .ensures .1, passed (λ k. getD (A .since .now) k 0 + spacingBy (getD (A .ticks .now) k 0) (getD (A .pulses .now) k 0) (max (getD (A .fastest .now) k 0) (A .t)) ≤ A .tick) (A .mask) (L .inv .0) u (c .rest .result) T (L .inv .3) (subst (λ x. getD (A .since .now) u 0 + x ≤ A .tick) (due (c .before .before .before .before)) p))
+    (u + 1, T .after, c .before .before .before .before .gap-at .ensures .1, passed (λ k. getD (A .since .now) k 0 + spacingBy (getD (A .ticks .now) k 0) (getD (A .pulses .now) k 0) (max (getD (A .fastest .now) k 0) (A .peak)) ≤ A .tick) (A .mask) (L .inv .0) u (c .rest .result) T (L .inv .3) (subst (λ x. getD (A .since .now) u 0 + x ≤ A .tick) (due (c .before .before .before .before)) p))
 
 returns-2 : tie.Need-returns-2 Inv-loop μ-loop
 returns-2 c =
     let A = c .before .before .args in
     let L = c .before .loop in
     record {
-      told = λ d sources m g s k a e. soon-none d (A .t) (A .mask) (A .tick) sources (A .ticks .now) (A .pulses .now) (A .since .now) (A .fastest .now) m g s k a e (c .before .before .pre .low) (λ u h. L .inv .3 u (rest-under (A .mask) (L .inv .0) (L .rest) (L .inv .1) (c .loop-test .left) u h) h);
+      told = λ d t sources w m g s k l a K q low. soon-none d t (A .mask) (A .peak) (A .tick) sources (A .ticks .now) (A .pulses .now) (A .since .now) (A .fastest .now) w m g s k l a K q low (λ u h. L .inv .3 u (rest-under (A .mask) (L .inv .0) (L .rest) (L .inv .1) (c .loop-test .left) u h) h);
       asked = L .inv .2;
     }
 

@@ -26,6 +26,7 @@ use Rattle.steps.proofs.MaskLaws.{sourced}
 use Rattle.steps.proofs.RecordLaws.{begun, none-kept}
 use Rattle.machine.specs.Calls.{Tracks}
 use Rattle.machine.proofs.RunLaws.{calls-length, calls-at, codes-length, run-left, run-code, store-turn, ran-short, ran-whole, filled-short, filled-whole, kept}
+use Rattle.machine.proofs.CallLaws.{raised-same}
 use Rattle.machine.proofs.TickLaws.{tables-of}
 use borrow.Author.Needs.{needs}
 use Rattle.machine.proofs.run.run_wired.Statement.{statement}
@@ -58,7 +59,7 @@ since-of-requires c κs = search needs
 
 loop-holds : tie.Need-loop-holds Inv-loop μ-loop
 unfolding left
-loop-holds c = (omega arith, refl, omega (arith, c .before .before .begin .ensures .first), asked-none _ _, λ d r s g j. (record { holds = begun d (c .before .before .begin .result) _ (c .since-of .result) (r .formed) (c .before .before .begin .ensures) g (c .since-of .ensures); keeps = none-kept d (c .before .before .begin .result) }, refl))
+loop-holds c = (omega arith, refl, omega (arith, c .before .before .begin .ensures .first), asked-none _ _, λ d r s g j. (record { holds = begun d (c .before .before .begin .result) _ (c .since-of .result) (r .formed) (c .before .before .begin .ensures) g (c .since-of .ensures); keeps = none-kept d (c .before .before .begin .result) (c .before .before .begin .ensures) }, refl))
 
 mul-at : tie.Need-mul-at Inv-loop μ-loop
 mul-at c = omega (arith, c .before .before .before .before .before .before .before .before, c .loop-test .taken, div-mul-le-self (length (c .before .before .before .before .before .before .before .before .args .calls .now)) 6)
@@ -142,21 +143,24 @@ loop-again c =
           (subst (λ (k : Machine). Tracks d (v .result .words) (v .last .1 .1 .1 .1 .1 .1 .1 .0) (v .last .1 .1 .1 .1 .1 .1 .1 .1 .0) (v .last .1 .1 .1 .1 .1 .1 .1 .1 .1 .0) k) (run-left d cs (idle d) i call T q) (v .ensures .leaves d m tables j l (I .0)), store-turn (S .args .outcomes .now) (L .outcomes) (page d cs) i (c .before .code .result) (omega (arith, c .before .before .before .before .before .before .before .before .before .before .before .before .before .before .before .before .before .before .before .before .before .before .before .before .if1 .left, J)) (omega (arith, codes-length d cs (idle d))) (I .1) (c .before .code .ensures ∙ ap (λ (o : Outcome). ofOutcome o .number) (v .ensures .ends d m tables j l (I .0)) ∙ run-code d cs (idle d) i call T q)),
     )
 
+raise-requires : tie.Need-raise-requires Inv-loop μ-loop
+raise-requires c κs = let p = c .before .before .before .before .before .before .before .before .before .pre in c .before .before .loop .inv .4 (p .description) (p .wired) (p .same-sources) (p .spaced) (p .judged) .0 .keeps .many
+
 unpack-requires : tie.Need-unpack-requires Inv-loop μ-loop
-unpack-requires c κs = omega (arith, c .before .before .before .before .before .before .before .before .before .before .pre .wired .as-wide, c .before .before .before .before .before .before .before .before .before .before .pre .wired .formed .fields .few-sources)
+unpack-requires c κs = omega (arith, c .before .before .before .before .before .before .before .before .before .before .before .before .pre .wired .as-wide, c .before .before .before .before .before .before .before .before .before .before .before .before .pre .wired .formed .fields .few-sources)
 
 same-length : tie.Need-same-length Inv-loop μ-loop
-same-length c = c .before .before .before .before .loop .inv .1
+same-length c = c .before .before .before .before .before .before .loop .inv .1
 
 returns-2 : tie.Need-returns-2 Inv-loop μ-loop
 returns-2 c = λ d r s g j.
-    let S = c .before .before .before .before .before .before .before .before .before .before .before in
-    let L = c .before .before .before .before .loop in
+    let S = c .before .before .before .before .before .before .before .before .before .before .before .before .before in
+    let L = c .before .before .before .before .before .before .loop in
     let cs = callsIn (S .args .calls .now) in
-    let e : L .i ≡ length cs = omega (arith, c .before .before .before .loop-test .left, L .inv .0, calls-length (S .args .calls .now)) in
-    let h : length cs ≤ length (S .args .outcomes .now) = omega (arith, c .before .before .before .before .before .before .before .before .if1 .left, calls-length (S .args .calls .now)) in
+    let e : L .i ≡ length cs = omega (arith, c .before .before .before .before .before .loop-test .left, L .inv .0, calls-length (S .args .calls .now)) in
+    let h : length cs ≤ length (S .args .outcomes .now) = omega (arith, c .before .before .before .before .before .before .before .before .before .before .if1 .left, calls-length (S .args .calls .now)) in
     let I = L .inv .4 d r s g j in
-    (ran-whole d cs (S .args .outcomes .now) (c .unpack .result) h (c .unpack .ensures d (left d (idle d) (take (L .i) cs)) (r .as-wide) g (I .0 .holds) (I .0 .keeps .same) ∙ ap (left d (idle d)) (take-all (L .i) cs (omega arith))), I .1 ∙ ap (λ k. take k (page d cs) ++ drop k (S .args .outcomes .now)) e ∙ filled-whole d cs (S .args .outcomes .now) h)
+    (ran-whole d cs (S .args .outcomes .now) (c .unpack .result) h (c .unpack .ensures d (left d (idle d) (take (L .i) cs)) (r .as-wide) g (I .0 .holds) (raised-same d (L .words) (L .used) (L .since) (L .fastest) (c .before .before .before .raise .last .1 .0) (left d (idle d) (take (L .i) cs)) (I .0) (c .before .before .before .raise .ensures .0) (c .before .before .before .raise .ensures .1)) ∙ ap (left d (idle d)) (take-all (L .i) cs (omega arith))), I .1 ∙ ap (λ k. take k (page d cs) ++ drop k (S .args .outcomes .now)) e ∙ filled-whole d cs (S .args .outcomes .now) h)
 
 pub run-wired-spec : {M : Type 1} → statement M
 run-wired-spec =
@@ -184,6 +188,7 @@ run-wired-spec =
     add-i
     loop-less
     loop-again
+    raise-requires
     unpack-requires
     same-length
     returns-2)

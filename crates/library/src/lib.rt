@@ -133,12 +133,7 @@ pub extern "C" fn bench_quote(file: &[u8]) -> i64
 
 // Many tick calls from the idle start: each call's outcome and the last record into the buffers.
 #[no_mangle]
-pub extern "C" fn bench_run(
-    file: &[u8],
-    calls: &[u8],
-    outcomes: &mut [u8],
-    state: &mut [u8],
-) -> i64
+pub extern "C" fn bench_run(file: &[u8], calls: &[u8], outcomes: &mut [u8], state: &mut [u8]) -> i64
     ensures { λ r. ⌜ RunReplied (now (file .entry)) (now (calls .entry)) (now (outcomes .entry)) (now (state .entry)) (now (outcomes .exit)) (now (state .exit)) r ⌝ }
 {
     let read = files::read(file);

@@ -28,7 +28,6 @@ use Rattle.model.specs.Machine.{awakeAt, usedAt, ageAt, fastestAt, longestGap, 
 use Rattle.model.specs.Run.{heard, marksIn}
 use Rattle.lemmas.proofs.Tests.{not-both, true-of, false-of, both, and-left, and-right, and-false-left, and-false-right, within}
 use Rattle.lemmas.proofs.Range.{all-at, any-at, any-none, none-any}
-use Rattle.lemmas.proofs.Outcomes.{refused-not}
 use Rattle.theory.proofs.WellFormed.{WellFormed}
 use Rattle.theory.proofs.Spacing.{gap-anti}
 use Rattle.assurance.proofs.Stepping.{overAt, Stepped, step}
@@ -241,19 +240,7 @@ pub tick-done : (d : Description) (t mask : ℕ) (m : Machine) (finish : Bool) �
 unfolding plainTick judgeTick
 tick-done d t mask m finish e l a = rw (e, l, a) refl
 
--- the refusals of arrivals have the place 0
-pub end-place : (d : Description) (t mask : ℕ) (m : Machine) (r : Refusal) (place : ℕ) → arrivalsEnd d t mask m ≡ Refused r place → place ≡ 0
-end-place d t mask m r place e = go (strangers d (marksIn mask)) refl (tooSoon d t (marksIn mask) m) refl
-  where
-    at : Outcome → ℕ
-    at Done = 0
-    at (Refused r place) = place
-
-    go : (a : Bool) → strangers d (marksIn mask) ≡ a → (b : Bool) → tooSoon d t (marksIn mask) m ≡ b → place ≡ 0
-    go true p b q = sym (ap at (rw p at e))
-    go false p true q = sym (ap at (rw (p, q) at e))
-    go false p false q = sym (ap at (rw (p, q) at e))
-
+-- their ends
 pub end-stranger : (d : Description) (t mask : ℕ) (m : Machine) → strangers d (marksIn mask) ≡ true → Refused Stranger 0 ≡ arrivalsEnd d t mask m
 end-stranger d t mask m s = rw s refl
 
@@ -351,16 +338,9 @@ raised-same d w used since fastest fastest′ m R z h =
 pub answer-ends : (r : Advanced) (o : Outcome) (w : Words) (m : Machine) (p : Ticked) → r ≡ record { outcome = o; words = w } → record { outcome = o; machine = m } ≡ p → r .outcome ≡ p .outcome
 answer-ends r o w m p e q = ap (λ (x : Advanced). x .outcome) e ∙ ap (λ (x : Ticked). x .outcome) q
 
-pub answer-tracks : (d : Description) (used since fastest since′ fastest′ : List ℕ) (r : Advanced) (o : Outcome) (w : Words) (m : Machine) (p : Ticked) → since′ ≡ since → fastest′ ≡ fastest → r ≡ record { outcome = o; words = w } → record { outcome = o; machine = m } ≡ p → Tracks d w used since fastest m → Tracks d (r .words) used since′ fastest′ (p .machine)
-answer-tracks d used since fastest since′ fastest′ r o w m p a b e q h =
-    rw (a, b) (subst (λ (k : Machine). Tracks d (r .words) used since fastest k) (ap (λ (x : Ticked). x .machine) q) (subst (λ (k : Words). Tracks d k used since fastest m) (sym (ap (λ (x : Advanced). x .words) e)) h))
+pub answer-tracks : (d : Description) (used since fastest : List ℕ) (r : Advanced) (o : Outcome) (w : Words) (m : Machine) (p : Ticked) → r ≡ record { outcome = o; words = w } → record { outcome = o; machine = m } ≡ p → Tracks d w used since fastest m → Tracks d (r .words) used since fastest (p .machine)
+answer-tracks d used since fastest r o w m p e q h =
+    subst (λ (k : Machine). Tracks d (r .words) used since fastest k) (ap (λ (x : Ticked). x .machine) q) (subst (λ (k : Words). Tracks d k used since fastest m) (sym (ap (λ (x : Advanced). x .words) e)) h)
 
 pub answer-tick : (r : Advanced) (o : Outcome) (w : Words) → r ≡ record { outcome = o; words = w } → r .words .tick ≡ w .tick
 answer-tick r o w e = ap (λ (x : Advanced). x .words .tick) e
-
--- arrivals that are refused leave the words as they were
-pub refused-stays : (r : Advanced) (why : Refusal) (w : Words) → r ≡ record { outcome = Refused why 0; words = w } → r .outcome ≡ Done → ⊥
-refused-stays r why w e f = refused-not (sym (ap (λ (x : Advanced). x .outcome) e) ∙ f)
-
-pub answer-words : (d : Description) (used since : List ℕ) (m : Machine) (r : Advanced) (o : Outcome) (w : Words) → r ≡ record { outcome = o; words = w } → Holds d w used since m → Holds d (r .words) used since m
-answer-words d used since m r o w e h = subst (λ (k : Words). Holds d k used since m) (sym (ap (λ (x : Advanced). x .words) e)) h

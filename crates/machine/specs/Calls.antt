@@ -12,8 +12,8 @@ use Rattle.model.specs.declared.Outcome.{Outcome}
 use Rattle.model.specs.declared.Outcome.the-variants.{Done, Refused}
 use Rattle.model.specs.declared.Refusal.the-variants.{Stranger, TooSoon}
 use Rattle.model.specs.File.{judge}
-use Rattle.model.specs.Verdicts.{onKnob, judgeAt}
-use Rattle.model.specs.Machine.{fastestAt, arrive, ageAll, keptAfter, lawful, strangers, tooSoon, plainTick}
+use Rattle.model.specs.Verdicts.{judgeAt}
+use Rattle.model.specs.Machine.{fastestAt, ageAll, keptAfter, lawful, strangers, tooSoon, plainTick}
 use Rattle.model.specs.History.{plainCall}
 use Rattle.model.specs.Run.{heard, marksIn, callOf}
 use Rattle.theory.proofs.WellFormed.{WellFormed}
@@ -79,32 +79,6 @@ arrivalsEnd d t mask m =
     cond (strangers d (marksIn mask)) (Refused Stranger 0)
     (cond (tooSoon d t (marksIn mask) m) (Refused TooSoon 0)
     Done)
-
--- arrivals may be judged: there is some record that the tables hold
-pub record Coming (rows ticks pulses : List ℕ) (sources t mask : ℕ) (w : Words) (since fastest tempos gaps : List ℕ) : Type 0 where
-  pub description : Description
-  pub machine : Machine
-  pub runs : List ℕ
-  pub used : List ℕ
-  pub tables : TablesOf description rows runs ticks pulses sources
-  pub tracks : Tracks description w used since fastest machine
-  pub keeps : lawful description machine ≡ true
-  pub on : onKnob t ≡ true
-  pub sourced : Sourced mask
-  pub fits : mask < 2 ^ 64
-  pub early : w .tick < 2 ^ 63
-  pub asked : Asked ticks pulses tempos gaps
-
--- they are refused, and all is as it was; or the sources have fired
-pub record Comes (rows ticks pulses : List ℕ) (sources t mask : ℕ) (w : Words) (since fastest : List ℕ) (r : Advanced) (since′ fastest′ tempos′ gaps′ : List ℕ) : Type 0 where
-  pub ends : (d : Description) (runs used : List ℕ) (m : Machine) → TablesOf d rows runs ticks pulses sources → lawful d m ≡ true → Tracks d w used since fastest m
-      → r .outcome ≡ arrivalsEnd d t mask m
-  pub stays : (r .outcome ≡ Done → ⊥) → (since′ ≡ since) × (fastest′ ≡ fastest)
-  pub fired : r .outcome ≡ Done → (d : Description) (runs used : List ℕ) (m : Machine) → TablesOf d rows runs ticks pulses sources → Tracks d w used since fastest m
-      → Holds d (r .words) used since′ (arrive d (marksIn mask) m)
-  pub kept : r .outcome ≡ Done → (d : Description) (used : List ℕ) (m : Machine) → Tracks d w used since fastest m → KeepsAfter t mask (r .words) fastest′ m
-  pub asked : Asked ticks pulses tempos′ gaps′
-  pub then : r .words .tick ≡ w .tick
 
 -- a call may be made: its tables are those of some accepted description, and the words hold a record that keeps the rules
 pub record Going (rows runs ticks pulses : List ℕ) (sources mask : ℕ) (w : Words) (used since fastest tempos gaps : List ℕ) : Type 0 where

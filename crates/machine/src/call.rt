@@ -13,9 +13,9 @@ use steps::words::Words;
 ghost use mathlib.Core.Path.{_≡_};
 ghost use Prim.Native.Nat.{_+_, _≤_, _<_, _/_, _^_};
 ghost use lib.Dec.{ltb};
-ghost use Rattle.model.specs.declared.Outcome.the-variants.{Done, Refused};
+ghost use Rattle.model.specs.declared.Outcome.the-variants.{Refused};
 ghost use Rattle.steps.specs.Words.{Workable};
-ghost use Rattle.machine.specs.Calls.{Timed, SoonIs, RunsOn, Coming, Comes, Going, Advances};
+ghost use Rattle.machine.specs.Calls.{Timed, SoonIs, RunsOn, Going, Advances};
 
 // What a caller brings to a tick: the arrivals, whose bit u is source 33 + u, the tempo, and finish.
 pub struct Call {
@@ -83,14 +83,6 @@ fn refused(why: Refusal, words: Words) -> Advanced
     Advanced { outcome, words }
 }
 
-// A call that is done leaves other words.
-fn done(words: Words) -> Advanced
-    ensures { λ r. ⌜ r ≡ record { outcome = Done; words = words } ⌝ }
-{
-    let outcome = Outcome::Done;
-    Advanced { outcome, words }
-}
-
 // Steps 2 to 4 at tempo t, once the arrivals have fired.
 fn run_on<'a>(
     rows: &'a [u64; 576],
@@ -104,37 +96,9 @@ fn run_on<'a>(
     ensures { λ r. ⌜ RunsOn (now (rows .entry)) (now (runs .entry)) t finish w (now (used .entry)) r (now (used .exit)) ⌝ }
 {
     let worked = work(rows, runs, finish, w, used);
-    done(pass(t, worked))
-}
-
-// 15 and 14 in this order, or else step 1 at tempo t: the arrivals fire.
-fn come<'a>(
-    rows: &'a [u64; 576],
-    ticks: &'a [u32; 16],
-    pulses: &'a [u32; 16],
-    sources: usize,
-    t: u32,
-    mask: u64,
-    w: Words,
-    since: &mut [u64; 16],
-    fastest: &mut [u32; 16],
-    tempos: &mut [u32; 16],
-    gaps: &mut [u32; 16],
-) -> Advanced
-    requires { ⌜ Coming (now rows) (now ticks) (now pulses) sources t mask w (now since) (now fastest) (now tempos) (now gaps) ⌝ }
-    ensures { λ r. ⌜ Comes (now (rows .entry)) (now (ticks .entry)) (now (pulses .entry)) sources t mask w (now (since .entry)) (now (fastest .entry)) r (now (since .exit)) (now (fastest .exit)) (now (tempos .exit)) (now (gaps .exit)) ⌝ }
-{
-    if mask == 0 {
-        return done(w);
-    }
-    if above(mask, sources) != 0 {
-        return refused(Refusal::Stranger, w);
-    }
-    let peak = larger(w.peak, t);
-    if too_soon(mask, peak, ticks, pulses, since, fastest, w.tick, tempos, gaps) {
-        return refused(Refusal::TooSoon, w);
-    }
-    done(arrive(rows, t, peak, mask, w, since, fastest))
+    let words = pass(t, worked);
+    let outcome = Outcome::Done;
+    Advanced { outcome, words }
 }
 
 // 11, 15 and 14 in this order, or else a tick. The record keeps the rules, so that 16 is not looked for.
@@ -155,27 +119,22 @@ pub fn advance<'a>(
     requires { ⌜ Going (now rows) (now runs) (now ticks) (now pulses) sources (call .mask) w (now used) (now since) (now fastest) (now tempos) (now gaps) ⌝ }
     ensures { λ r. ⌜ Advances (now (rows .entry)) (now (runs .entry)) (now (ticks .entry)) (now (pulses .entry)) sources call w (now (used .entry)) (now (since .entry)) (now (fastest .entry)) r (now (used .exit)) (now (since .exit)) (now (fastest .exit)) (now (tempos .exit)) (now (gaps .exit)) ⌝ }
 {
+    let mask = call.mask;
     let t = call.tempo;
     let finish = call.finish;
     if !on_knob(t) {
         return refused(Refusal::OffKnob, w);
     }
-    let came = come(
-        rows,
-        ticks,
-        pulses,
-        sources,
-        t,
-        call.mask,
-        w,
-        since,
-        fastest,
-        tempos,
-        gaps,
-    );
-    let outcome = came.outcome;
-    if let Outcome::Refused(why, _) = outcome {
-        return refused(why, w);
+    if mask == 0 {
+        return run_on(rows, runs, t, finish, w, used);
     }
-    run_on(rows, runs, t, finish, came.words, used)
+    if above(mask, sources) != 0 {
+        return refused(Refusal::Stranger, w);
+    }
+    let peak = larger(w.peak, t);
+    if too_soon(mask, peak, ticks, pulses, since, fastest, w.tick, tempos, gaps) {
+        return refused(Refusal::TooSoon, w);
+    }
+    let arrived = arrive(rows, t, peak, mask, w, since, fastest);
+    run_on(rows, runs, t, finish, arrived, used)
 }

@@ -141,6 +141,10 @@ begun d w gaps since g b s r = record {
     absent u p (no q) = List·getD-eq-default (idle d .ages) 0 {n = u} (omega (arith, length-tab 16 (λ u. cond (ltb u (d .«source_count»)) (longestGap d u) 0)))
 
 -- it keeps no tempo
+pub idle-fastest : (d : Description) → replicate 16 0 ≡ idle d .fastest
+unfolding idle
+idle-fastest d = refl
+
 pub none-kept : (d : Description) (w : Words) → Begins w → Keeps w (replicate 16 0) (idle d)
 unfolding idle
 none-kept d w b = record {

@@ -2,7 +2,7 @@
 use mathlib.Core.Path.{refl, sym, _∙_}
 use native.Mathlib.Omega.{arith}
 use Rattle.model.specs.Machine.{idle}
-use Rattle.steps.proofs.RecordLaws.{begun, none-kept}
+use Rattle.steps.proofs.RecordLaws.{begun, idle-fastest}
 use Rattle.theory.proofs.Typed.{typed-widths}
 use Rattle.theory.proofs.FileLaws.{judge-well-formed}
 use Rattle.ticks.proofs.Laws.{start-refused, start-done}
@@ -42,7 +42,7 @@ returns-2 c =
     let d = c .before .before .before .before .before .before .before .before .before .before .args .d in
     let j = sym (c .before .before .before .before .before .before .before .before .before .judge .ensures) ∙ c .before .before .before .before .before .before .before .enum-told .given .1 in
     let k = judge-well-formed d (typed-widths d _ (c .before .before .before .before .before .before .before .before .before .before .good .0)) j in
-    start-done d (c .unpack .result) j (c .unpack .ensures d (idle d) refl (c .before .before .before .before .before .before .gaps-of .ensures) (begun d (c .before .before .begin .result) (c .before .before .before .before .before .before .gaps-of .result) (c .before .before .before .before .since-of .result) k (c .before .before .begin .ensures) (c .before .before .before .before .before .before .gaps-of .ensures) (c .before .before .before .before .since-of .ensures)) (none-kept d (c .before .before .begin .result) .same))
+    start-done d (c .unpack .result) j (c .unpack .ensures d (idle d) refl (c .before .before .before .before .before .before .gaps-of .ensures) (begun d (c .before .before .begin .result) (c .before .before .before .before .before .before .gaps-of .result) (c .before .before .before .before .since-of .result) k (c .before .before .begin .ensures) (c .before .before .before .before .before .before .gaps-of .ensures) (c .before .before .before .before .since-of .ensures)) (idle-fastest d))
 
 pub start-spec : {M : Type 1} → statement M
 start-spec =

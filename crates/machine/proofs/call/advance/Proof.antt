@@ -1,19 +1,21 @@
--- `advance` meets its contract: a tempo off the knob, arrivals that are refused, or the steps after them. Assumes nothing.
-use mathlib.Core.Path.{_≡_, refl, sym, ap, subst, _∙_}
+-- `advance` meets its contract: a tempo off the knob, a quiet tick, a stranger, a source that comes too soon, or arrivals and the steps after them.
+-- Assumes nothing.
+use Prim.Native.Nat.{_≤_}
+use mathlib.Core.Path.{_≡_, sym, ap, subst, _∙_}
 use mathlib.Core.Bool.{true, false}
 use native.Mathlib.Omega.{arith}
 use borrow.Author.Tests.{not-true, not-false}
 use Rattle.model.specs.declared.Machine.{Machine}
 use Rattle.model.specs.declared.Ticked.{Ticked}
-use Rattle.model.specs.declared.Outcome.the-variants.{Done, Refused}
-use Rattle.model.specs.declared.Refusal.the-variants.{OffKnob}
+use Rattle.model.specs.declared.Outcome.the-variants.{Refused}
+use Rattle.model.specs.declared.Refusal.the-variants.{OffKnob, TooSoon, Stranger}
 use Rattle.model.specs.Verdicts.{onKnob}
-use Rattle.model.specs.Machine.{arrive}
+use Rattle.model.specs.Machine.{arrive, ageAll}
 use Rattle.model.specs.Run.{marksIn}
-use Rattle.lemmas.proofs.Outcomes.{refused-not}
 use Rattle.lemmas.proofs.Tests.{within}
+use Rattle.steps.specs.Words.{Holds, worked}
 use Rattle.machine.specs.Calls.{Tracks}
-use Rattle.machine.proofs.CallLaws.{workable, judged-at, tick-off, tick-refused, tick-done, end-place, tracked, answer-ends, answer-tracks, answer-tick}
+use Rattle.machine.proofs.CallLaws.{known, strangers-none, strangers-some, workable, timed, judged-at, tick-off, tick-refused, tick-done, end-stranger, end-soon, end-none, silent-known, silent-soon, silent-arrive, silent-keeps, arrived-keeps, tracked, answer-ends, answer-tracks, answer-tick}
 use borrow.Author.Needs.{needs}
 use Rattle.machine.proofs.call.advance.Statement.{statement}
 use Rattle.machine.proofs.call.advance.Tie as tie
@@ -27,97 +29,150 @@ refused-requires c κs = search needs
 returns : tie.Need-returns
 returns c =
     let A = c .before .before .before .args in
-    let r = c .refused in
     let w = A .w in
-    let off : onKnob (A .call .tempo) ≡ false = sym (c .before .before .on-knob .ensures) ∙ not-true (c .before .before .on-knob .result) (c .before .if1 .taken) in
+    let t = A .call .tempo in
+    let mask = A .call .mask in
+    let finish = A .call .finish in
+    let r = c .refused in
+    let off : onKnob t ≡ false = sym (c .before .before .on-knob .ensures) ∙ not-true (c .before .before .on-knob .result) (c .before .if1 .taken) in
     let soon = answer-tick (r .result) (Refused OffKnob 0) w (r .ensures) in
     record {
-      ends = λ d m T j l R. answer-ends (r .result) (Refused OffKnob 0) w m _ (r .ensures) (tick-off d (A .call .tempo) m (record { marks = marksIn (A .call .mask) }) (A .call .finish) j off);
-      leaves = λ d m T j l R. answer-tracks d (A .used .now) (A .since .now) (A .fastest .now) (A .since .now) (A .fastest .now) (r .result) (Refused OffKnob 0) w m _ refl refl (r .ensures) (tick-off d (A .call .tempo) m (record { marks = marksIn (A .call .mask) }) (A .call .finish) j off) R;
+      ends = λ d m T j l R. answer-ends (r .result) (Refused OffKnob 0) w m _ (r .ensures) (tick-off d t m (record { marks = marksIn mask }) finish j off);
+      leaves = λ d m T j l R. answer-tracks d (A .used .now) (A .since .now) (A .fastest .now) (r .result) (Refused OffKnob 0) w m _ (r .ensures) (tick-off d t m (record { marks = marksIn mask }) finish j off) R;
       asked = c .before .before .before .pre .asked;
       soon = omega (arith, soon);
     }
 
-come-requires : tie.Need-come-requires
-come-requires c κs =
-    let A = c .before .before .before .before .before .before .args in
-    let p = c .before .before .before .before .before .before .pre in
+run-on-requires : tie.Need-run-on-requires
+run-on-requires c κs =
+    let A = c .before .before .before .before .args in
+    let p = c .before .before .before .before .pre in
+    let H = p .tracks .holds in
+    (workable (p .description) (A .w) (A .w) (A .used .now) (A .since .now) (A .since .now) (p .machine) (p .machine) (p .tables .formed) (p .keeps) H H, p .early)
+
+returns-2 : tie.Need-returns-2
+returns-2 c =
+    let A = c .before .before .before .before .before .args in
+    let w = A .w in
+    let t = A .call .tempo in
+    let mask = A .call .mask in
+    let finish = A .call .finish in
+    let v = c .run-on in
+    let e : mask ≡ 0 = c .before .before .if2 .taken in
+    let on : onKnob t ≡ true = sym (c .before .before .before .before .on-knob .ensures) ∙ not-false (c .before .before .before .before .on-knob .result) (c .before .before .before .if1 .left) in
+    let used = v .last .1 .1 .1 .1 .1 .0 in
     record {
-      description = p .description;
-      machine = p .machine;
-      runs = A .runs .now;
-      used = A .used .now;
-      tables = p .tables;
-      tracks = p .tracks;
-      keeps = p .keeps;
-      on = sym (c .before .before .before .before .before .on-knob .ensures) ∙ not-false (c .before .before .before .before .before .on-knob .result) (c .before .before .before .before .if1 .left);
-      sourced = p .sourced;
-      fits = p .fits;
-      early = p .early;
-      asked = p .asked;
+      ends = λ d m T j l R. v .ensures .done ∙ ap (λ (x : Ticked). x .outcome) (tick-done d t mask m finish (judged-at d t j on) l (sym (end-none d t mask m (strangers-none d mask (silent-known d mask (T .formed) e)) (silent-soon d t mask m (T .formed) e))));
+      leaves = λ d m T j l R.
+          subst (λ (k : Machine). Tracks d (v .result .words) used (A .since .now) (A .fastest .now) k) (ap (λ (x : Ticked). x .machine) (tick-done d t mask m finish (judged-at d t j on) l (sym (end-none d t mask m (strangers-none d mask (silent-known d mask (T .formed) e)) (silent-soon d t mask m (T .formed) e)))))
+          (tracked d t mask finish w w (v .result .words) (A .used .now) used (A .since .now) (A .since .now) (A .fastest .now) (A .fastest .now) m (T .formed) (within 200 t 3000 on .1) R (silent-keeps t mask w (A .fastest .now) m e (R .keeps)) (v .ensures .low) (v .ensures .peak)
+          (subst (λ (k : Machine). Holds d (v .result .words) used (A .since .now) (ageAll d (worked d finish k))) (silent-arrive d mask m (T .formed) e) (v .ensures .ran d (A .since .now) m (T .formed) (T .rowed) (T .same-runs) (R .holds))));
+      asked = c .before .before .before .before .before .pre .asked;
+      soon = omega (arith, v .ensures .then);
     }
 
-enum-known-outcome : tie.Need-enum-known-outcome
-enum-known-outcome c = search needs
+above-requires : tie.Need-above-requires
+above-requires c κs = omega (arith, c .before .before .before .pre .tables .as-wide, c .before .before .before .pre .tables .formed .fields .few-sources)
 
 refused-requires-2 : tie.Need-refused-requires-2
 refused-requires-2 c κs = search needs
 
-returns-2 : tie.Need-returns-2
-returns-2 c =
-    let A = c .before .before .before .before .before .before .before .before .before .before .before .args in
+returns-3 : tie.Need-returns-3
+returns-3 c =
+    let A = c .before .before .before .before .before .before .args in
     let w = A .w in
     let t = A .call .tempo in
     let mask = A .call .mask in
-    let v = c .before .before .before .before .come in
+    let finish = A .call .finish in
+    let few : A .sources ≤ 16 = omega (arith, c .before .before .before .before .before .before .pre .tables .as-wide, c .before .before .before .before .before .before .pre .tables .formed .fields .few-sources) in
     let r = c .refused2 in
-    let told = c .before .before .outcome .given in
-    let why = told .0 .0 in
-    let on : onKnob t ≡ true = sym (c .before .before .before .before .before .before .before .before .before .before .on-knob .ensures) ∙ not-false (c .before .before .before .before .before .before .before .before .before .before .on-knob .result) (c .before .before .before .before .before .before .before .before .before .if1 .left) in
-    let same = v .ensures .stays (λ f. refused-not (sym (told .1) ∙ f)) in
-    let soon = answer-tick (r .result) (Refused why 0) w (r .ensures) in
+    let on : onKnob t ≡ true = sym (c .before .before .before .before .before .on-knob .ensures) ∙ not-false (c .before .before .before .before .before .on-knob .result) (c .before .before .before .before .if1 .left) in
+    let soon = answer-tick (r .result) (Refused Stranger 0) w (r .ensures) in
     record {
-      ends = λ d m T j l R.
-          let e = sym (v .ensures .ends d (A .runs .now) (A .used .now) m T l R) ∙ told .1 in
-          answer-ends (r .result) (Refused why 0) w m _ (r .ensures) (tick-refused d t mask m (A .call .finish) why 0 (judged-at d t j on) l (e ∙ ap (Refused why) (end-place d t mask m why (told .0 .1 .0) e)));
-      leaves = λ d m T j l R.
-          let e = sym (v .ensures .ends d (A .runs .now) (A .used .now) m T l R) ∙ told .1 in
-          answer-tracks d (A .used .now) (A .since .now) (A .fastest .now) (v .last .1 .1 .1 .1 .1 .1 .1 .0) (v .last .1 .1 .1 .1 .1 .1 .1 .1 .0) (r .result) (Refused why 0) w m _ (same .0) (same .1) (r .ensures) (tick-refused d t mask m (A .call .finish) why 0 (judged-at d t j on) l (e ∙ ap (Refused why) (end-place d t mask m why (told .0 .1 .0) e))) R;
-      asked = v .ensures .asked;
+      ends = λ d m T j l R. answer-ends (r .result) (Refused Stranger 0) w m _ (r .ensures) (tick-refused d t mask m finish Stranger 0 (judged-at d t j on) l (sym (end-stranger d t mask m (strangers-some d mask (A .sources) (T .as-wide) few (c .before .before .before .before .before .before .pre .fits) (c .before .before .before .before .before .before .pre .sourced) (λ z. c .before .if3 .taken (c .before .before .above .ensures ∙ z))))));
+      leaves = λ d m T j l R. answer-tracks d (A .used .now) (A .since .now) (A .fastest .now) (r .result) (Refused Stranger 0) w m _ (r .ensures) (tick-refused d t mask m finish Stranger 0 (judged-at d t j on) l (sym (end-stranger d t mask m (strangers-some d mask (A .sources) (T .as-wide) few (c .before .before .before .before .before .before .pre .fits) (c .before .before .before .before .before .before .pre .sourced) (λ z. c .before .if3 .taken (c .before .before .above .ensures ∙ z)))))) R;
+      asked = c .before .before .before .before .before .before .pre .asked;
       soon = omega (arith, soon);
     }
 
-enum-told : tie.Need-enum-told
-enum-told c = search needs
+larger-requires : tie.Need-larger-requires
+larger-requires c κs = search needs
 
-run-on-requires : tie.Need-run-on-requires
-run-on-requires c κs =
+too-soon-requires : tie.Need-too-soon-requires
+too-soon-requires c κs =
     let A = c .before .before .before .before .before .before .before .before .before .before .args in
-    let p = c .before .before .before .before .before .before .before .before .before .before .pre in
-    let v = c .before .before .before .come in
-    let done = c .before .enum-told .given .1 in
-    (workable (p .description) (A .w) (v .result .words) (A .used .now) (A .since .now) (v .last .1 .1 .1 .1 .1 .1 .1 .0) (p .machine) (arrive (p .description) (marksIn (A .call .mask)) (p .machine)) (p .tables .formed) (p .keeps) (p .tracks .holds) (v .ensures .fired done (p .description) (A .runs .now) (A .used .now) (p .machine) (p .tables) (p .tracks)), omega (arith, p .early, v .ensures .then))
-
-returns-3 : tie.Need-returns-3
-returns-3 c =
-    let A = c .before .before .before .before .before .before .before .before .before .before .before .args in
+    let w = A .w in
     let t = A .call .tempo in
     let mask = A .call .mask in
     let finish = A .call .finish in
-    let a = c .before .before .before .before .come in
-    let v = c .run-on in
-    let done = c .before .before .enum-told .given .1 in
-    let on : onKnob t ≡ true = sym (c .before .before .before .before .before .before .before .before .before .before .on-knob .ensures) ∙ not-false (c .before .before .before .before .before .before .before .before .before .before .on-knob .result) (c .before .before .before .before .before .before .before .before .before .if1 .left) in
-    let since = a .last .1 .1 .1 .1 .1 .1 .1 .0 in
-    let fastest = a .last .1 .1 .1 .1 .1 .1 .1 .1 .0 in
+    let p = c .before .before .before .before .before .before .before .before .before .before .pre in
+    let few : A .sources ≤ 16 = omega (arith, c .before .before .before .before .before .before .before .before .before .before .pre .tables .as-wide, c .before .before .before .before .before .before .before .before .before .before .pre .tables .formed .fields .few-sources) in
+    let on : onKnob t ≡ true = sym (c .before .before .before .before .before .before .before .before .before .on-knob .ensures) ∙ not-false (c .before .before .before .before .before .before .before .before .before .on-knob .result) (c .before .before .before .before .before .before .before .before .if1 .left) in
+    timed (p .description) t mask (c .before .before .before .before .larger .result) (A .sources) w (A .rows .now) (A .runs .now) (A .ticks .now) (A .pulses .now) (A .used .now) (A .since .now) (A .fastest .now) (A .tempos .now) (A .gaps .now) (p .machine) (p .tables) (p .tracks) (p .keeps) (p .early) (p .asked) (p .sourced) (known (p .description) mask (A .sources) (c .before .before .before .before .before .before .above .result) (p .tables .as-wide) few (c .before .before .before .before .before .before .above .ensures) (c .before .before .before .before .before .if3 .left)) on (c .before .before .before .before .larger .ensures)
+
+refused-requires-3 : tie.Need-refused-requires-3
+refused-requires-3 c κs = search needs
+
+returns-4 : tie.Need-returns-4
+returns-4 c =
+    let A = c .before .before .before .before .before .before .before .before .before .before .before .before .before .args in
+    let w = A .w in
+    let t = A .call .tempo in
+    let mask = A .call .mask in
+    let finish = A .call .finish in
+    let few : A .sources ≤ 16 = omega (arith, c .before .before .before .before .before .before .before .before .before .before .before .before .before .pre .tables .as-wide, c .before .before .before .before .before .before .before .before .before .before .before .before .before .pre .tables .formed .fields .few-sources) in
+    let r = c .refused3 in
+    let on : onKnob t ≡ true = sym (c .before .before .before .before .before .before .before .before .before .before .before .before .on-knob .ensures) ∙ not-false (c .before .before .before .before .before .before .before .before .before .before .before .before .on-knob .result) (c .before .before .before .before .before .before .before .before .before .before .before .if1 .left) in
+    let soon = answer-tick (r .result) (Refused TooSoon 0) w (r .ensures) in
+    record {
+      ends = λ d m T j l R.
+          let K = known d mask (A .sources) (c .before .before .before .before .before .before .before .before .before .above .result) (T .as-wide) few (c .before .before .before .before .before .before .before .before .before .above .ensures) (c .before .before .before .before .before .before .before .before .if3 .left) in
+          answer-ends (r .result) (Refused TooSoon 0) w m _ (r .ensures) (tick-refused d t mask m finish TooSoon 0 (judged-at d t j on) l (sym (end-soon d t mask m (strangers-none d mask K) (sym (c .before .before .too-soon .ensures .told d t (A .sources) w m (T .formed) (T .same-sources) K l (R .holds .ages) (R .keeps) (c .before .before .before .before .before .before .before .larger .ensures) (within 200 t 3000 on .0)) ∙ c .before .if4 .taken))));
+      leaves = λ d m T j l R.
+          let K = known d mask (A .sources) (c .before .before .before .before .before .before .before .before .before .above .result) (T .as-wide) few (c .before .before .before .before .before .before .before .before .before .above .ensures) (c .before .before .before .before .before .before .before .before .if3 .left) in
+          answer-tracks d (A .used .now) (A .since .now) (A .fastest .now) (r .result) (Refused TooSoon 0) w m _ (r .ensures) (tick-refused d t mask m finish TooSoon 0 (judged-at d t j on) l (sym (end-soon d t mask m (strangers-none d mask K) (sym (c .before .before .too-soon .ensures .told d t (A .sources) w m (T .formed) (T .same-sources) K l (R .holds .ages) (R .keeps) (c .before .before .before .before .before .before .before .larger .ensures) (within 200 t 3000 on .0)) ∙ c .before .if4 .taken)))) R;
+      asked = c .before .before .too-soon .ensures .asked;
+      soon = omega (arith, soon);
+    }
+
+arrive-requires : tie.Need-arrive-requires
+arrive-requires c κs = let p = c .before .before .before .before .before .before .before .before .before .before .before .before .before .before .pre in (p .sourced, p .tracks .holds .ages .many, p .tracks .keeps .many)
+
+run-on-requires-2 : tie.Need-run-on-requires-2
+run-on-requires-2 c κs =
+    let A = c .before .before .before .before .before .before .before .before .before .before .before .before .before .before .before .before .args in
+    let p = c .before .before .before .before .before .before .before .before .before .before .before .before .before .before .before .before .pre in
+    let mask = A .call .mask in
+    let few : A .sources ≤ 16 = omega (arith, c .before .before .before .before .before .before .before .before .before .before .before .before .before .before .before .before .pre .tables .as-wide, c .before .before .before .before .before .before .before .before .before .before .before .before .before .before .before .before .pre .tables .formed .fields .few-sources) in
+    let d = p .description in
+    let T = p .tables in
+    let a = c .before .arrive in
+    (workable d (A .w) (a .result) (A .used .now) (A .since .now) (a .last .1 .1 .1 .1 .1 .0) (p .machine) (arrive d (marksIn mask) (p .machine)) (T .formed) (p .keeps) (p .tracks .holds) (a .ensures .arrived d (A .used .now) (p .machine) (T .formed) (T .rowed) (known d mask (A .sources) (c .before .before .before .before .before .before .before .before .before .before .before .before .above .result) (T .as-wide) few (c .before .before .before .before .before .before .before .before .before .before .before .before .above .ensures) (c .before .before .before .before .before .before .before .before .before .before .before .if3 .left)) (p .tracks .holds)), omega (arith, p .early, a .ensures .then))
+
+returns-5 : tie.Need-returns-5
+returns-5 c =
+    let A = c .before .before .before .before .before .before .before .before .before .before .before .before .before .before .before .before .before .args in
+    let w = A .w in
+    let t = A .call .tempo in
+    let mask = A .call .mask in
+    let finish = A .call .finish in
+    let few : A .sources ≤ 16 = omega (arith, c .before .before .before .before .before .before .before .before .before .before .before .before .before .before .before .before .before .pre .tables .as-wide, c .before .before .before .before .before .before .before .before .before .before .before .before .before .before .before .before .before .pre .tables .formed .fields .few-sources) in
+    let a = c .before .before .arrive in
+    let v = c .run-on2 in
+    let on : onKnob t ≡ true = sym (c .before .before .before .before .before .before .before .before .before .before .before .before .before .before .before .before .on-knob .ensures) ∙ not-false (c .before .before .before .before .before .before .before .before .before .before .before .before .before .before .before .before .on-knob .result) (c .before .before .before .before .before .before .before .before .before .before .before .before .before .before .before .if1 .left) in
+    let since = a .last .1 .1 .1 .1 .1 .0 in
+    let fastest = a .last .1 .1 .1 .1 .1 .1 .0 in
     let used′ = v .last .1 .1 .1 .1 .1 .0 in
     record {
-      ends = λ d m T j l R. v .ensures .done ∙ ap (λ (x : Ticked). x .outcome) (tick-done d t mask m finish (judged-at d t j on) l (sym (a .ensures .ends d (A .runs .now) (A .used .now) m T l R) ∙ done));
+      ends = λ d m T j l R.
+          let K = known d mask (A .sources) (c .before .before .before .before .before .before .before .before .before .before .before .before .before .above .result) (T .as-wide) few (c .before .before .before .before .before .before .before .before .before .before .before .before .before .above .ensures) (c .before .before .before .before .before .before .before .before .before .before .before .before .if3 .left) in
+          v .ensures .done ∙ ap (λ (x : Ticked). x .outcome) (tick-done d t mask m finish (judged-at d t j on) l (sym (end-none d t mask m (strangers-none d mask K) (sym (c .before .before .before .before .before .before .too-soon .ensures .told d t (A .sources) w m (T .formed) (T .same-sources) K l (R .holds .ages) (R .keeps) (c .before .before .before .before .before .before .before .before .before .before .before .larger .ensures) (within 200 t 3000 on .0)) ∙ c .before .before .before .before .before .if4 .left))));
       leaves = λ d m T j l R.
-          subst (λ (k : Machine). Tracks d (v .result .words) used′ since fastest k) (ap (λ (x : Ticked). x .machine) (tick-done d t mask m finish (judged-at d t j on) l (sym (a .ensures .ends d (A .runs .now) (A .used .now) m T l R) ∙ done)))
-          (tracked d t mask finish (A .w) (a .result .words) (v .result .words) (A .used .now) used′ (A .since .now) since (A .fastest .now) fastest m (T .formed) (within 200 t 3000 on .1) R (a .ensures .kept done d (A .used .now) m R) (v .ensures .low) (v .ensures .peak)
-          (v .ensures .ran d since (arrive d (marksIn mask) m) (T .formed) (T .rowed) (T .same-runs) (a .ensures .fired done d (A .runs .now) (A .used .now) m T R)));
-      asked = a .ensures .asked;
+          let K = known d mask (A .sources) (c .before .before .before .before .before .before .before .before .before .before .before .before .before .above .result) (T .as-wide) few (c .before .before .before .before .before .before .before .before .before .before .before .before .before .above .ensures) (c .before .before .before .before .before .before .before .before .before .before .before .before .if3 .left) in
+          subst (λ (k : Machine). Tracks d (v .result .words) used′ since fastest k) (ap (λ (x : Ticked). x .machine) (tick-done d t mask m finish (judged-at d t j on) l (sym (end-none d t mask m (strangers-none d mask K) (sym (c .before .before .before .before .before .before .too-soon .ensures .told d t (A .sources) w m (T .formed) (T .same-sources) K l (R .holds .ages) (R .keeps) (c .before .before .before .before .before .before .before .before .before .before .before .larger .ensures) (within 200 t 3000 on .0)) ∙ c .before .before .before .before .before .if4 .left)))))
+          (tracked d t mask finish w (a .result) (v .result .words) (A .used .now) used′ (A .since .now) since (A .fastest .now) fastest m (T .formed) (within 200 t 3000 on .1) R (arrived-keeps t mask (c .before .before .before .before .before .before .before .before .before .before .before .larger .result) w (a .result) (A .fastest .now) fastest m (within 200 t 3000 on .0) (within 200 t 3000 on .1) (c .before .before .before .before .before .before .before .before .before .before .before .larger .ensures) (a .ensures .knob) (R .keeps) (a .ensures .many) (a .ensures .fired) (a .ensures .others)) (v .ensures .low) (v .ensures .peak)
+          (v .ensures .ran d since (arrive d (marksIn mask) m) (T .formed) (T .rowed) (T .same-runs) (a .ensures .arrived d (A .used .now) m (T .formed) (T .rowed) K (R .holds))));
+      asked = c .before .before .before .before .before .before .too-soon .ensures .asked;
       soon = omega (arith, v .ensures .then, a .ensures .then);
     }
 
@@ -128,10 +183,15 @@ advance-spec =
     on-knob-requires
     refused-requires
     returns
-    come-requires
-    enum-known-outcome
-    refused-requires-2
-    returns-2
-    enum-told
     run-on-requires
-    returns-3)
+    returns-2
+    above-requires
+    refused-requires-2
+    returns-3
+    larger-requires
+    too-soon-requires
+    refused-requires-3
+    returns-4
+    arrive-requires
+    run-on-requires-2
+    returns-5)

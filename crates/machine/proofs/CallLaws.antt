@@ -103,6 +103,33 @@ source-rule d m g e u p =
     let r : sourceRule d m u ≡ true = all-at (sourceRule d m) 0 16 (and-right (allN (linkRule d m) 0 256) _ (and-right (allN (taskRule d m) 1 32) _ e)) u (omega arith) (omega (arith, g .fields .few-sources)) in
     rw (lt-ltb u (d .«source_count») p) at r
 
+-- so that a kept tempo is 0 or at least 200
+pub kept-rule : (d : Description) (m : Machine) → WellFormed d → lawful d m ≡ true → (u : ℕ) → u < 16 → (fastestAt m u ≡ 0) ⊎ (200 ≤ fastestAt m u)
+unfolding lawful
+kept-rule d m g e u p = go (ltb u (d .«source_count»)) refl (eqb (fastestAt m u) 0) refl
+  where
+    rule : sourceRule d m u ≡ true
+    rule = all-at (sourceRule d m) 0 16 (and-right (allN (linkRule d m) 0 256) _ (and-right (allN (taskRule d m) 1 32) _ e)) u (omega arith) (omega arith)
+
+    go : (a : Bool) → ltb u (d .«source_count») ≡ a → (b : Bool) → eqb (fastestAt m u) 0 ≡ b → (fastestAt m u ≡ 0) ⊎ (200 ≤ fastestAt m u)
+    go a x true y = inl (eqb-true (fastestAt m u) 0 y)
+    go true x false y =
+        let r : (leb (ageAt m u) (longestGap d u) && onKnob (fastestAt m u)) ≡ true = rw (x, y) at rule in
+        inr (within 200 (fastestAt m u) 3000 (and-right (leb (ageAt m u) (longestGap d u)) _ r) .0)
+    go false x false y =
+        let r : (eqb (ageAt m u) 0 && eqb (fastestAt m u) 0) ≡ true = rw x at rule in
+        absurd (not-both (and-right (eqb (ageAt m u) 0) _ r) y)
+
+-- a tick that counts and does no more
+pub rested : (mask awake t peak : ℕ) → (eqb mask 0 && (eqb awake 0 && (leb 200 t && leb t peak))) ≡ true → (mask ≡ 0) × (awake ≡ 0) × (200 ≤ t) × (t ≤ peak)
+rested mask awake t peak e =
+    let f : (eqb awake 0 && (leb 200 t && leb t peak)) ≡ true = and-right (eqb mask 0) _ e in
+    let g : (leb 200 t && leb t peak) ≡ true = and-right (eqb awake 0) _ f in
+    (eqb-true mask 0 (and-left (eqb mask 0) _ e), eqb-true awake 0 (and-left (eqb awake 0) _ f), leb-true 200 t (and-left (leb 200 t) _ g), leb-true t peak (and-right (leb 200 t) _ g))
+
+pub rests-on : (t peak : ℕ) → 200 ≤ t → t ≤ peak → peak ≤ 3000 → onKnob t ≡ true
+rests-on t peak a b c = both (leb 200 t) (leb t 3000) (le-leb 200 t a) (le-leb t 3000 (omega arith))
+
 -- an arrival that is too soon, and none that is
 module _ (d : Description) (t mask peak tick sources : ℕ) (ticks pulses since fastest : List ℕ) (w : Words) (m : Machine) (g : WellFormed d) (s : SourcesOf d (sourcesWith sources ticks pulses)) (k : Known d mask) (l : lawful d m ≡ true) (a : Ages d tick since m) (K : Keeps w fastest m) (q : peak ≡ max (w .peak) t) (low : 200 ≤ t) where
   abbrev due : ℕ → ℕ
@@ -344,3 +371,6 @@ answer-tracks d used since fastest r o w m p e q h =
 
 pub answer-tick : (r : Advanced) (o : Outcome) (w : Words) → r ≡ record { outcome = o; words = w } → r .words .tick ≡ w .tick
 answer-tick r o w e = ap (λ (x : Advanced). x .words .tick) e
+
+pub answer-words : (d : Description) (used since : List ℕ) (m : Machine) (r : Advanced) (o : Outcome) (w : Words) → r ≡ record { outcome = o; words = w } → Holds d w used since m → Holds d (r .words) used since m
+answer-words d used since m r o w e h = subst (λ (k : Words). Holds d k used since m) (sym (ap (λ (x : Advanced). x .words) e)) h

@@ -1,8 +1,8 @@
 -- The tick call on a record: its tables, its arrivals as a mask, and its answer. Assumes nothing.
-use Prim.Native.Nat.{ℕ, zero, suc, _+_, max}
+use Prim.Native.Nat.{ℕ, zero, suc, _+_, _≤_, max}
 use mathlib.Core.Path.{_≡_, refl, sym, _∙_}
 use mathlib.Core.Bool.{Bool, true, false, _&&_}
-use mathlib.Core.Logic.{inr}
+use mathlib.Core.Logic.{_⊎_, inl, inr}
 use mathlib.Core.List.{List}
 use native.Mathlib.Omega.{arith}
 use lib.ListN.{getD, length}
@@ -27,7 +27,7 @@ use Rattle.steps.specs.Parts.{Sourced}
 use Rattle.steps.specs.Words.{raisedTo}
 use Rattle.steps.specs.Record.{Packs}
 use Rattle.machine.specs.Calls.{TablesOf, Tracks}
-use Rattle.machine.proofs.CallLaws.{raised-some}
+use Rattle.machine.proofs.CallLaws.{raised-some, kept-rule}
 
 -- the tables of a wiring and of sources
 pub tables-of : (d : Description) (w : Wiring) (s : Sources) → WiringOf d w → SourcesOf d s → TablesOf d (w .rows) (w .runs) (s .ticks) (s .pulses) (w .sources)
@@ -45,15 +45,16 @@ packed-tracks d m w since g l p = record {
   holds = p .holds d g l;
   keeps = record {
     many = p .holds d g l .marks .sized .fastests;
-    here = λ u h. at (fastestAt m u);
+    here = λ u h. at (fastestAt m u) (kept-rule d m g l u h);
     above = λ u h. inr (omega (arith, p .knob .0));
     high = omega (arith, p .knob .1);
   };
 }
   where
-    at : (f : ℕ) → f ≡ raisedTo (w .peak) f
-    at zero = refl
-    at (suc n) = let q : suc n ≡ max (suc n) (w .peak) = omega (arith, p .knob .1) in q ∙ sym (raised-some (w .peak) (suc n) (omega arith))
+    at : (f : ℕ) → (f ≡ 0) ⊎ (200 ≤ f) → f ≡ raisedTo (w .peak) f
+    at zero k = refl
+    at (suc n) (inl e) = absurd (omega arith)
+    at (suc n) (inr e) = let q : suc n ≡ max (suc n) (w .peak) = omega (arith, p .knob .1) in q ∙ sym (raised-some (w .peak) (suc n) (omega arith))
 
 -- the mask of some marks
 module _ (mask : ℕ) (marks : List Bool) (h : (j : ℕ) → member mask j ≡ (ltb j 16 && getD marks (0 + j) false)) where

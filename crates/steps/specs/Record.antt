@@ -42,7 +42,7 @@ pub record Begins (w : Words) : Type 0 where
   pub waiting : (l : ℕ) → inside (w .waiting) l ≡ false
   pub dropped : (l : ℕ) → inside (w .dropped) l ≡ false
   pub first : w .tick ≡ 4294967296
-  pub knob : (w .low ≡ 0) × (w .peak ≡ 0)
+  pub knob : (w .low ≡ 0) × (w .peak ≡ 200)
 
 -- the record that words hold, the spacings being those for 20.0
 abbrev pub Unpacks : List ℕ → ℕ → Words → List ℕ → List ℕ → List ℕ → Machine → Type 0
@@ -53,4 +53,4 @@ Unpacks gaps sources w used since fastest r =
 pub record Packs (m : Machine) (w : Words) (since : List ℕ) : Type 0 where
   pub holds : (d : Description) → WellFormed d → lawful d m ≡ true → Holds d w (m .used) since m
   pub first : w .tick ≡ 4294967296
-  pub knob : (w .low ≡ 0) × (w .peak ≡ 0)
+  pub knob : (w .low ≡ 0) × (w .peak ≡ 200)

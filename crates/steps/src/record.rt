@@ -26,7 +26,7 @@ pub fn begin() -> Words
         dropped,
         tick: 4294967296,
         low: 0,
-        peak: 0,
+        peak: 200,
     }
 }
 
@@ -202,7 +202,7 @@ pub fn pack(m: Machine) -> Packed
         dropped,
         tick: 4294967296,
         low: 0,
-        peak: 0,
+        peak: 200,
     };
     Packed { words, since }
 }

@@ -32,7 +32,7 @@ pub fn half_at(s: &[u8], at: usize) -> u16
 }
 
 // The number in four bytes, high byte first.
-pub fn word_at(s: &[u8], at: usize) -> u32
+fn word_at(s: &[u8], at: usize) -> u32
     requires { ⌜ at + 4 ≤ length (now s) ⌝ }
     ensures { λ r. ⌜ r ≡ numberIn (now (s .entry)) at 4 ⌝ }
 {

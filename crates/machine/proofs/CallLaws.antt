@@ -22,7 +22,6 @@ use Rattle.model.specs.declared.Refusal.the-variants.{OffKnob, TooSoon, Strange
 use Rattle.model.specs.Basics.{anyN, allN, upTo}
 use Rattle.model.specs.Graph.{runOf}
 use Rattle.model.specs.Delays.{spacingOf}
-use Rattle.model.specs.Field.{numberIn}
 use Rattle.model.specs.File.{judge}
 use Rattle.model.specs.Verdicts.{onKnob, judgeAt}
 use Rattle.model.specs.Machine.{awakeAt, usedAt, ageAt, fastestAt, longestGap, taskRule, linkRule, sourceRule, lawful, arrive, highest, ageAll, keptAfter, keep, stepped, strangers, tooSoon, judgeTick, plainTick}
@@ -39,12 +38,11 @@ use Rattle.spacings.proofs.SourceLaws.{plain-pulses}
 use Rattle.spacings.proofs.GapLaws.{gap-of}
 use Rattle.steps.specs.declared.words.Words.{Words}
 use Rattle.steps.specs.Parts.{Known, Sourced}
-use Rattle.steps.specs.Words.{Ages, Holds, Keeps, Workable, worked, Above, raisedTo, Passes}
+use Rattle.steps.specs.Words.{Ages, Holds, Keeps, Workable, worked, Above, raisedTo}
 use Rattle.steps.proofs.MaskLaws.{none-above, mark-in, heard-under}
-use Rattle.steps.proofs.StepLaws.{arrive-none, ages-same, work-none}
-use Rattle.machine.specs.declared.call.Call.{Call}
+use Rattle.steps.proofs.StepLaws.{arrive-none, ages-same}
 use Rattle.machine.specs.declared.call.Advanced.{Advanced}
-use Rattle.machine.specs.Calls.{TablesOf, Tracks, Timed, KeepsAfter, arrivalsEnd, Advances}
+use Rattle.machine.specs.Calls.{TablesOf, Tracks, Timed, KeepsAfter, arrivalsEnd}
 
 -- a mask with nothing left above s sources
 pub known : (d : Description) (mask s a : ℕ) → d .«source_count» ≡ s → s ≤ 16 → a ≡ mask / 2 ^ s → a ≡ 0 → Known d mask
@@ -301,7 +299,6 @@ silent-keeps t mask w fastest m e K = record {
   many = K .many;
   here = λ u p. sym (rw (mark-in mask u p ∙ none-heard mask u e, K .here u p) (raised-twice (w .peak) t (getD fastest u 0)));
   above = K .above;
-  least = K .least;
   high = K .high;
 }
 
@@ -310,7 +307,6 @@ arrived-keeps t mask peak w w′ fastest fastest′ m low high q k K z fired oth
   many = z;
   here = λ u p. here u p (heard mask u) refl;
   above = λ u p. above u p (heard mask u) refl;
-  least = omega (arith, k .1);
   high = omega (arith, k .1);
 }
   where
@@ -353,7 +349,6 @@ tracked d t mask finish w w₁ w₂ used used′ since since′ fastest fastest�
     many = K .many;
     here = λ u p. T .fastest u p ∙ sym (K .here u p) ∙ ap (λ x. raisedTo x (getD fastest′ u 0)) (sym b);
     above = λ u p. rw a (K .above u p);
-    least = omega (arith, K .least);
     high = omega (arith, K .high);
   };
 }
@@ -379,41 +374,3 @@ answer-tick r o w e = ap (λ (x : Advanced). x .words .tick) e
 
 pub answer-words : (d : Description) (used since : List ℕ) (m : Machine) (r : Advanced) (o : Outcome) (w : Words) → r ≡ record { outcome = o; words = w } → Holds d w used since m → Holds d (r .words) used since m
 answer-words d used since m r o w e h = subst (λ (k : Words). Holds d k used since m) (sym (ap (λ (x : Advanced). x .words) e)) h
-
--- a tick that only counts: no arrivals, no task awake, and a tempo of the knob
-module _ (rows runs ticks pulses : List ℕ) (sources : ℕ) (call : Call) (w w′ : Words) (used since fastest tempos gaps : List ℕ) (r : Advanced) (e : call .mask ≡ 0) (z : w .awake ≡ 0) (on : onKnob (call .tempo) ≡ true) (v : Passes (call .tempo) w w′) (q : r ≡ record { outcome = Done; words = w′ }) (asked : Asked ticks pulses tempos gaps) where
-  quiet : (d : Description) (m : Machine) → WellFormed d → judge d ≡ Done → lawful d m ≡ true → record { outcome = Done; machine = stepped d (call .tempo) (marksIn (call .mask)) (call .finish) m } ≡ plainTick d (call .tempo) m (record { marks = marksIn (call .mask) }) (call .finish)
-  quiet d m g j l =
-      tick-done d (call .tempo) (call .mask) m (call .finish) (judged-at d (call .tempo) j on) l (sym (end-none d (call .tempo) (call .mask) m (strangers-none d (call .mask) (silent-known d (call .mask) g e)) (silent-soon d (call .tempo) (call .mask) m g e)))
-
-  held : (d : Description) (m : Machine) → WellFormed d → Holds d w used since m → Holds d (r .words) used since (ageAll d (worked d (call .finish) (arrive d (marksIn (call .mask)) m)))
-  held d m g h =
-      subst (λ (k : Machine). Holds d (r .words) used since (ageAll d (worked d (call .finish) k))) (silent-arrive d (call .mask) m g e)
-      (answer-words d used since (ageAll d (worked d (call .finish) m)) r Done w′ q (v .passed d used since (worked d (call .finish) m) g (work-none d w used since (call .finish) m z h)))
-
-  pub counted : Advances rows runs ticks pulses sources call w used since fastest r used since fastest tempos gaps
-  counted = record {
-    ends = λ d m T j l R. ap (λ (x : Advanced). x .outcome) q ∙ ap (λ (x : Ticked). x .outcome) (quiet d m (T .formed) j l);
-    leaves = λ d m T j l R.
-        subst (λ (k : Machine). Tracks d (r .words) used since fastest k) (ap (λ (x : Ticked). x .machine) (quiet d m (T .formed) j l))
-        (tracked d (call .tempo) (call .mask) (call .finish) w w (r .words) used used since since fastest fastest m (T .formed) (within 200 (call .tempo) 3000 on .1) R (silent-keeps (call .tempo) (call .mask) w fastest m e (R .keeps)) (ap (λ (x : Advanced). x .words .low) q ∙ v .low) (ap (λ (x : Advanced). x .words .peak) q ∙ v .peak) (held d m (T .formed) (R .holds)));
-    asked = asked;
-    soon = omega (arith, answer-tick r Done w′ q, v .then);
-  }
-
--- mask and tempo as one number
-pub head-parts : (s : List ℕ) (at : ℕ) → ((i : ℕ) → getD s i 0 < 256) → (numberIn s at 4 / 65536 ≡ numberIn s at 2) × (numberIn s at 4 % 65536 ≡ numberIn s (at + 2) 2)
-unfolding numberIn
-head-parts s at h =
-    let a : at + 2 + 0 ≡ at + 2 = omega arith in
-    let b : at + 2 + 1 ≡ at + 3 = omega arith in
-    let x : getD s (at + 2 + 0) 0 ≡ getD s (at + 2) 0 = ap (λ i. getD s i 0) a in
-    let y : getD s (at + 2 + 1) 0 ≡ getD s (at + 3) 0 = ap (λ i. getD s i 0) b in
-    (omega (arith, h (at + 2), h (at + 3)), omega (arith, h (at + 2), h (at + 3)))
-
--- a head that is the fastest tempo given: no arrivals, at that tempo
-pub stood : (s : List ℕ) (at head peak awake : ℕ) → ((i : ℕ) → getD s i 0 < 256) → head ≡ numberIn s at 4 → (eqb head peak && eqb awake 0) ≡ true → peak ≤ 3000 → (numberIn s at 2 ≡ 0) × (awake ≡ 0) × (numberIn s (at + 2) 2 ≡ head) × (head ≡ peak)
-stood s at head peak awake h e f p =
-    let k = head-parts s at h in
-    let q : head ≡ peak = eqb-true head peak (and-left (eqb head peak) _ f) in
-    (omega (arith, k .0), eqb-true awake 0 (and-right (eqb head peak) _ f), omega (arith, k .1), q)

@@ -1,10 +1,9 @@
 -- What one call ensures: of every accepted description whose tables it is given, and every record that its words hold.
 use Prim.Native.Nat.{ℕ, _+_, _^_, _≤_, _<_, max}
-use mathlib.Core.Bool.{Bool, true, false, not, cond}
+use mathlib.Core.Bool.{Bool, true, false, cond}
 use mathlib.Core.List.{List}
 use mathlib.Core.Path.{_≡_}
 use lib.ListN.{getD, length}
-use lib.Dec.{eqb}
 use Rattle.model.specs.declared.Description.{Description}
 use Rattle.model.specs.declared.Machine.{Machine}
 use Rattle.model.specs.declared.Arrivals.{Arrivals}
@@ -12,7 +11,6 @@ use Rattle.model.specs.declared.Ticked.{Ticked}
 use Rattle.model.specs.declared.Outcome.{Outcome}
 use Rattle.model.specs.declared.Outcome.the-variants.{Done, Refused}
 use Rattle.model.specs.declared.Refusal.the-variants.{Stranger, TooSoon}
-use Rattle.model.specs.Field.{numberIn}
 use Rattle.model.specs.File.{judge}
 use Rattle.model.specs.Verdicts.{judgeAt}
 use Rattle.model.specs.Machine.{fastestAt, ageAll, keptAfter, lawful, strangers, tooSoon, plainTick}
@@ -73,7 +71,6 @@ pub record KeepsAfter (t mask : ℕ) (w : Words) (fastest : List ℕ) (m : Machi
   pub many : length fastest ≡ 16
   pub here : (u : ℕ) → u < 16 → raisedTo (max (w .peak) t) (getD fastest u 0) ≡ keptAfter t (getD (marksIn mask) u false) (fastestAt m u)
   pub above : Above (w .low) fastest
-  pub least : 200 ≤ w .peak
   pub high : w .peak ≤ 3000
 
 -- 15 and 14 in this order, or neither
@@ -94,10 +91,6 @@ pub record Going (rows runs ticks pulses : List ℕ) (sources mask : ℕ) (w : W
   pub fits : mask < 2 ^ 64
   pub early : w .tick < 2 ^ 63
   pub asked : Asked ticks pulses tempos gaps
-
--- the call of the bytes from a place on
-abbrev pub callFrom : List ℕ → ℕ → Call
-callFrom bytes at = record { mask = numberIn bytes at 2; tempo = numberIn bytes (at + 2) 2; finish = not (eqb (getD bytes (at + 4) 0) 0) }
 
 -- the plain machine's answer to a call
 abbrev pub plainAnswer : Description → Machine → Call → Ticked

@@ -85,18 +85,11 @@ fn refused(why: Refusal, words: Words) -> Advanced
 }
 
 // A call that is done leaves other words.
-pub fn done(words: Words) -> Advanced
+fn done(words: Words) -> Advanced
     ensures { λ r. ⌜ r ≡ record { outcome = Done; words = words } ⌝ }
 {
     let outcome = Outcome::Done;
     Advanced { outcome, words }
-}
-
-// Whether the mask and tempo of a call, read as one number, are the fastest tempo given, and no task is awake.
-pub fn stands(head: u32, peak: u32, awake: u64) -> bool
-    ensures { λ r. ⌜ r ≡ (eqb head peak && eqb awake 0) ⌝ }
-{
-    head == peak && awake == 0
 }
 
 // Whether nothing comes, no task is awake, and the tempo is one of the knob up to the fastest given: such a tick counts and does no more.

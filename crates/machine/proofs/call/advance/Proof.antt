@@ -7,15 +7,17 @@ use native.Mathlib.Omega.{arith}
 use borrow.Author.Tests.{not-true, not-false}
 use Rattle.model.specs.declared.Machine.{Machine}
 use Rattle.model.specs.declared.Ticked.{Ticked}
-use Rattle.model.specs.declared.Outcome.the-variants.{Refused}
+use Rattle.model.specs.declared.Outcome.the-variants.{Done, Refused}
 use Rattle.model.specs.declared.Refusal.the-variants.{OffKnob, TooSoon, Stranger}
 use Rattle.model.specs.Verdicts.{onKnob}
 use Rattle.model.specs.Machine.{arrive, ageAll}
 use Rattle.model.specs.Run.{marksIn}
 use Rattle.lemmas.proofs.Tests.{within}
 use Rattle.steps.specs.Words.{Holds, worked}
+use Rattle.steps.proofs.StepLaws.{work-none}
+use Rattle.machine.specs.declared.call.Advanced.{Advanced}
 use Rattle.machine.specs.Calls.{Tracks}
-use Rattle.machine.proofs.CallLaws.{known, strangers-none, strangers-some, workable, timed, judged-at, tick-off, tick-refused, tick-done, end-stranger, end-soon, end-none, silent-known, silent-soon, silent-arrive, silent-keeps, arrived-keeps, tracked, answer-ends, answer-tracks, answer-tick, rested, rests-on, counted}
+use Rattle.machine.proofs.CallLaws.{known, strangers-none, strangers-some, workable, timed, judged-at, tick-off, tick-refused, tick-done, end-stranger, end-soon, end-none, silent-known, silent-soon, silent-arrive, silent-keeps, arrived-keeps, tracked, answer-ends, answer-tracks, answer-tick, answer-words, rested, rests-on}
 use borrow.Author.Needs.{needs}
 use Rattle.machine.proofs.call.advance.Statement.{statement}
 use Rattle.machine.proofs.call.advance.Tie as tie
@@ -33,8 +35,24 @@ returns : tie.Need-returns
 returns c =
     let A = c .before .before .before .before .args in
     let w = A .w in
-    let still = rested (A .call .mask) (w .awake) (A .call .tempo) (w .peak) (sym (c .before .before .before .rests .ensures) ∙ c .before .before .if1 .taken) in
-    counted (A .rows .now) (A .runs .now) (A .ticks .now) (A .pulses .now) (A .sources) (A .call) w (c .before .pass .result) (A .used .now) (A .since .now) (A .fastest .now) (A .tempos .now) (A .gaps .now) (c .done .result) (still .0) (still .1) (rests-on (A .call .tempo) (w .peak) (still .2) (still .3) (c .before .before .before .before .pre .tracks .keeps .high)) (c .before .pass .ensures) (c .done .ensures) (c .before .before .before .before .pre .asked)
+    let t = A .call .tempo in
+    let mask = A .call .mask in
+    let finish = A .call .finish in
+    let v = c .before .pass in
+    let r = c .done in
+    let still = rested mask (w .awake) t (w .peak) (sym (c .before .before .before .rests .ensures) ∙ c .before .before .if1 .taken) in
+    let e : mask ≡ 0 = still .0 in
+    let on : onKnob t ≡ true = rests-on t (w .peak) (still .2) (still .3) (c .before .before .before .before .pre .tracks .keeps .high) in
+    let then = answer-tick (r .result) Done (v .result) (r .ensures) in
+    record {
+      ends = λ d m T j l R. ap (λ (x : Advanced). x .outcome) (r .ensures) ∙ ap (λ (x : Ticked). x .outcome) (tick-done d t mask m finish (judged-at d t j on) l (sym (end-none d t mask m (strangers-none d mask (silent-known d mask (T .formed) e)) (silent-soon d t mask m (T .formed) e))));
+      leaves = λ d m T j l R.
+          subst (λ (k : Machine). Tracks d (r .result .words) (A .used .now) (A .since .now) (A .fastest .now) k) (ap (λ (x : Ticked). x .machine) (tick-done d t mask m finish (judged-at d t j on) l (sym (end-none d t mask m (strangers-none d mask (silent-known d mask (T .formed) e)) (silent-soon d t mask m (T .formed) e)))))
+          (tracked d t mask finish w w (r .result .words) (A .used .now) (A .used .now) (A .since .now) (A .since .now) (A .fastest .now) (A .fastest .now) m (T .formed) (within 200 t 3000 on .1) R (silent-keeps t mask w (A .fastest .now) m e (R .keeps)) (ap (λ (x : Advanced). x .words .low) (r .ensures) ∙ v .ensures .low) (ap (λ (x : Advanced). x .words .peak) (r .ensures) ∙ v .ensures .peak)
+          (subst (λ (k : Machine). Holds d (r .result .words) (A .used .now) (A .since .now) (ageAll d (worked d finish k))) (silent-arrive d mask m (T .formed) e) (answer-words d (A .used .now) (A .since .now) (ageAll d (worked d finish m)) (r .result) Done (v .result) (r .ensures) (v .ensures .passed d (A .used .now) (A .since .now) (worked d finish m) (T .formed) (work-none d w (A .used .now) (A .since .now) finish m (still .1) (R .holds))))));
+      asked = c .before .before .before .before .pre .asked;
+      soon = omega (arith, then, v .ensures .then);
+    }
 
 on-knob-requires : tie.Need-on-knob-requires
 on-knob-requires c κs = search needs

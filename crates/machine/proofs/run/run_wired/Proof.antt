@@ -1,11 +1,13 @@
 -- `run_wired` meets its contract: after i calls the words hold the record that the plain machine leaves, and the buffer its codes. Assumes nothing.
-use Prim.Native.Nat.{ℕ, _+_, _*_, _-_, _/_, _^_, _≤_, _<_}
+use Prim.Native.Nat.{ℕ, _+_, _*_, _-_, _/_, _≤_, _<_}
 use mathlib.Core.Path.{_≡_, refl, sym, ap, subst, _∙_}
+use mathlib.Core.Bool.{not}
 use mathlib.Core.List.{_++_}
 use native.Mathlib.Omega.{arith}
 use native.Mathlib.Nat.{div-mul-le-self}
 use lib.ListN.{length, getD, take, drop, length-set}
 use lib.Seq.{take-all}
+use lib.Dec.{eqb}
 use Rattle.model.specs.declared.Description.{Description}
 use Rattle.model.specs.declared.Machine.{Machine}
 use Rattle.model.specs.declared.Outcome.{Outcome}
@@ -15,9 +17,7 @@ use Rattle.model.specs.Field.{numberIn}
 use Rattle.model.specs.File.{judge}
 use Rattle.model.specs.Machine.{idle}
 use Rattle.model.specs.History.{Call, left}
-use Rattle.model.specs.Run.{callIn, callsIn, page}
-use Rattle.theory.proofs.NumberBytes.{number-fits}
-use Rattle.assurance.proofs.Replay.{callAt}
+use Rattle.model.specs.Run.{callOf, callsIn, page}
 use Rattle.wiring.specs.Rows.{WiringOf}
 use Rattle.spacings.specs.Sources.{SourcesOf}
 use Rattle.spacings.specs.Gaps.{Asked, GapsOf}
@@ -64,53 +64,73 @@ loop-holds c = (omega arith, refl, omega (arith, c .before .before .begin .ensur
 mul-at : tie.Need-mul-at Inv-loop μ-loop
 mul-at c = omega (arith, c .before .before .before .before .before .before .before .before, c .loop-test .taken, div-mul-le-self (length (c .before .before .before .before .before .before .before .before .args .calls .now)) 6)
 
-turn-requires : tie.Need-turn-requires Inv-loop μ-loop
-turn-requires c κs =
-    let S = c .before .before .before .before .before .before .before .before .before .before .before .before .before .before .before .before .before .before .before in
-    let L = c .before .before .before .before .before .before .before .before .before .before .before .before .loop in
+half-at-requires : tie.Need-half-at-requires Inv-loop μ-loop
+half-at-requires c κs = omega (arith, c .loop-test .taken, div-mul-le-self (length (c .before .before .before .before .before .before .before .before .args .calls .now)) 6)
+
+bits-requires : tie.Need-bits-requires Inv-loop μ-loop
+bits-requires c κs = search needs
+
+add-half-at : tie.Need-add-half-at Inv-loop μ-loop
+add-half-at c = omega (arith, c .before .before .before .before .before .before .before .before .before .before, c .before .before .loop-test .taken, div-mul-le-self (length (c .before .before .before .before .before .before .before .before .before .before .args .calls .now)) 6)
+
+half-at-requires-2 : tie.Need-half-at-requires-2 Inv-loop μ-loop
+half-at-requires-2 c κs = omega (arith, c .before .before .loop-test .taken, div-mul-le-self (length (c .before .before .before .before .before .before .before .before .before .before .args .calls .now)) 6)
+
+tempo-of-requires : tie.Need-tempo-of-requires Inv-loop μ-loop
+tempo-of-requires c κs = search needs
+
+add-t36 : tie.Need-add-t36 Inv-loop μ-loop
+add-t36 c = omega (arith, c .before .before .before .before .before .before .before .before .before .before .before .before, c .before .before .before .before .loop-test .taken, div-mul-le-self (length (c .before .before .before .before .before .before .before .before .before .before .before .before .args .calls .now)) 6)
+
+shared-slice-read-t38 : tie.Need-shared-slice-read-t38 Inv-loop μ-loop
+shared-slice-read-t38 c = omega (arith, c .before .before .before .before .before .loop-test .taken, div-mul-le-self (length (c .before .before .before .before .before .before .before .before .before .before .before .before .before .args .calls .now)) 6)
+
+advance-requires : tie.Need-advance-requires Inv-loop μ-loop
+advance-requires c κs =
+    let S = c .before .before .before .before .before .before .before .before .before .before .before .before .before .before .before .before .before .before .before .before .before .before .before .before in
+    let L = c .before .before .before .before .before .before .before .before .before .before .before .before .before .before .before .before .before .loop in
     let d = S .pre .description in
     let r = S .pre .wired in
     let m = left d (idle d) (take (L .i) (callsIn (S .args .calls .now))) in
-    let bytes : (k : ℕ) → getD (S .args .calls .now) k 0 < 256 = λ k. c .before .before .before .before .before .before .before .before .before .before .before .before .before .before .before .before .before .before .shared-slice-known .given k .fits in
-    let fits : numberIn (S .args .calls .now) (6 * L .i) 2 < 2 ^ 16 = number-fits (S .args .calls .now) (6 * L .i) 2 bytes in (
-      omega (arith, c .before .before .before .before .before .before .before .before .before .before .before .loop-test .taken, div-mul-le-self (length (S .args .calls .now)) 6),
-      record {
-        description = d;
-        machine = m;
-        tables = tables-of d (S .args .t1) (S .args .t2) r (S .pre .same-sources);
-        tracks = L .inv .4 d r (S .pre .same-sources) (S .pre .spaced) (S .pre .judged) .0;
-        keeps = kept d (take (L .i) (callsIn (S .args .calls .now))) m (r .formed) refl;
-        sourced = sourced (numberIn (S .args .calls .now) (6 * L .i) 2) fits;
-        fits = omega (arith, fits);
-        early = omega (arith, S, L .inv .2, c .before .before .before .before .before .before .before .before .before .before .before .loop-test .taken, div-mul-le-self (length (S .args .calls .now)) 6);
-        asked = L .inv .3;
-      },
-    )
+    record {
+      description = d;
+      machine = m;
+      tables = tables-of d (S .args .t1) (S .args .t2) r (S .pre .same-sources);
+      tracks = L .inv .4 d r (S .pre .same-sources) (S .pre .spaced) (S .pre .judged) .0;
+      keeps = kept d (take (L .i) (callsIn (S .args .calls .now))) m (r .formed) refl;
+      sourced = sourced (c .before .before .before .before .before .before .before .before .before .before .before .before .before .before .bits .result) (c .before .before .before .before .before .before .before .before .before .before .before .before .before .before .bits .ensures .1);
+      fits = omega (arith, c .before .before .before .before .before .before .before .before .before .before .before .before .before .before .bits .ensures .1);
+      early = omega (arith, S, L .inv .2, c .before .before .before .before .before .before .before .before .before .before .before .before .before .before .before .before .loop-test .taken, div-mul-le-self (length (S .args .calls .now)) 6);
+      asked = L .inv .3;
+    }
 
 code-requires : tie.Need-code-requires Inv-loop μ-loop
 code-requires c κs = search needs
 
 slice-write-outcomes : tie.Need-slice-write-outcomes Inv-loop μ-loop
-slice-write-outcomes c = omega (arith, c .before .before .before .before .before .before .before .before .before .before .before .before .before .before .before .before .before .before .if1 .left, c .before .before .before .before .before .before .before .before .before .before .before .before .before .loop-test .taken, c .before .before .before .before .before .before .before .before .before .before .before .before .before .before .loop .inv .1)
+slice-write-outcomes c = omega (arith, c .before .before .before .before .before .before .before .before .before .before .before .before .before .before .before .before .before .before .before .before .before .before .before .if1 .left, c .before .before .before .before .before .before .before .before .before .before .before .before .before .before .before .before .before .before .loop-test .taken, c .before .before .before .before .before .before .before .before .before .before .before .before .before .before .before .before .before .before .before .loop .inv .1)
 
 add-i : tie.Need-add-i Inv-loop μ-loop
-add-i c = omega (arith, c .before .before .before .before .before .before .before .before .before .before .before .before .before .before .before .before .before .before .before .before .before .before, c .before .before .before .before .before .before .before .before .before .before .before .before .before .before .loop-test .taken, div-mul-le-self (length (c .before .before .before .before .before .before .before .before .before .before .before .before .before .before .before .before .before .before .before .before .before .before .args .calls .now)) 6)
+add-i c = omega (arith, c .before .before .before .before .before .before .before .before .before .before .before .before .before .before .before .before .before .before .before .before .before .before .before .before .before .before .before, c .before .before .before .before .before .before .before .before .before .before .before .before .before .before .before .before .before .before .before .loop-test .taken, div-mul-le-self (length (c .before .before .before .before .before .before .before .before .before .before .before .before .before .before .before .before .before .before .before .before .before .before .before .before .before .before .before .args .calls .now)) 6)
 
 loop-less : tie.Need-loop-less Inv-loop μ-loop
-loop-less c = omega (arith, c .before .before .before .before .before .before .before .before .before .before .before .before .before .before .loop-test .taken)
+loop-less c = omega (arith, c .before .before .before .before .before .before .before .before .before .before .before .before .before .before .before .before .before .before .before .loop-test .taken)
 
 loop-again : tie.Need-loop-again Inv-loop μ-loop
 loop-again c =
-    let S = c .before .before .before .before .before .before .before .before .before .before .before .before .before .before .before .before .before .before .before .before .before .before in
-    let L = c .before .before .before .before .before .before .before .before .before .before .before .before .before .before .before .loop in
+    let S = c .before .before .before .before .before .before .before .before .before .before .before .before .before .before .before .before .before .before .before .before .before .before .before .before .before .before .before in
+    let L = c .before .before .before .before .before .before .before .before .before .before .before .before .before .before .before .before .before .before .before .before .loop in
     let i = L .i in
     let bytes = S .args .calls .now in
     let cs = callsIn bytes in
-    let v = c .before .before .turn in
-    let J : i < length bytes / 6 = c .before .before .before .before .before .before .before .before .before .before .before .before .before .before .loop-test .taken in
+    let mask = c .before .before .before .before .before .before .before .before .before .before .before .before .before .before .before .before .before .bits .result in
+    let t = c .before .before .before .before .before .before .before .before .before .before .before .before .before .before .before .tempo-of .result in
+    let finish = not (eqb (getD bytes (6 * i + 4) 0) 0) in
+    let v = c .before .before .advance in
+    let J : i < length bytes / 6 = c .before .before .before .before .before .before .before .before .before .before .before .before .before .before .before .before .before .before .before .loop-test .taken in
     let T : i < length cs = omega (arith, J, calls-length bytes) in
-    let call : Call = callIn bytes i in
-    let q : callAt cs i ≡ call = calls-at bytes i J in (
+    let call : Call = callOf mask t finish in
+    let q = calls-at bytes i J ∙ ap (λ k. callOf k (numberIn bytes (6 * i + 2) 2) finish) (sym (c .before .before .before .before .before .before .before .before .before .before .before .before .before .before .before .before .before .bits .ensures .0 ∙ c .before .before .before .before .before .before .before .before .before .before .before .before .before .before .before .before .before .before .half-at .ensures)) ∙ ap (λ k. callOf mask k finish) (sym (c .before .before .before .before .before .before .before .before .before .before .before .before .before .before .before .tempo-of .ensures ∙ c .before .before .before .before .before .before .before .before .before .before .before .before .before .before .before .before .half-at2 .ensures)) in (
       omega (arith, J),
       length-set (L .outcomes) i (c .before .code .result) ∙ L .inv .1,
       omega (arith, v .ensures .soon, L .inv .2),
@@ -120,7 +140,7 @@ loop-again c =
           let m = left d (idle d) (take i cs) in
           let tables = tables-of d (S .args .t1) (S .args .t2) r s in
           let l = kept d (take i cs) m (r .formed) refl in
-          (subst (λ (k : Machine). Tracks d (v .result .words) (v .last .1 .1 .1 .1 .1 .1 .1 .1 .0) (v .last .1 .1 .1 .1 .1 .1 .1 .1 .1 .0) (v .last .1 .1 .1 .1 .1 .1 .1 .1 .1 .1 .0) k) (run-left d cs (idle d) i call T q) (v .ensures .leaves d m tables j l (I .0)), store-turn (S .args .outcomes .now) (L .outcomes) (page d cs) i (c .before .code .result) (omega (arith, c .before .before .before .before .before .before .before .before .before .before .before .before .before .before .before .before .before .before .before .if1 .left, J)) (omega (arith, codes-length d cs (idle d))) (I .1) (c .before .code .ensures ∙ ap (λ (o : Outcome). ofOutcome o .number) (v .ensures .ends d m tables j l (I .0)) ∙ run-code d cs (idle d) i call T q)),
+          (subst (λ (k : Machine). Tracks d (v .result .words) (v .last .1 .1 .1 .1 .1 .1 .1 .0) (v .last .1 .1 .1 .1 .1 .1 .1 .1 .0) (v .last .1 .1 .1 .1 .1 .1 .1 .1 .1 .0) k) (run-left d cs (idle d) i call T q) (v .ensures .leaves d m tables j l (I .0)), store-turn (S .args .outcomes .now) (L .outcomes) (page d cs) i (c .before .code .result) (omega (arith, c .before .before .before .before .before .before .before .before .before .before .before .before .before .before .before .before .before .before .before .before .before .before .before .before .if1 .left, J)) (omega (arith, codes-length d cs (idle d))) (I .1) (c .before .code .ensures ∙ ap (λ (o : Outcome). ofOutcome o .number) (v .ensures .ends d m tables j l (I .0)) ∙ run-code d cs (idle d) i call T q)),
     )
 
 raise-requires : tie.Need-raise-requires Inv-loop μ-loop
@@ -155,7 +175,14 @@ run-wired-spec =
     since-of-requires
     loop-holds
     mul-at
-    turn-requires
+    half-at-requires
+    bits-requires
+    add-half-at
+    half-at-requires-2
+    tempo-of-requires
+    add-t36
+    shared-slice-read-t38
+    advance-requires
     code-requires
     slice-write-outcomes
     add-i

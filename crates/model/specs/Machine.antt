@@ -62,10 +62,11 @@ setAge u x m = record { awake = m .awake; used = m .used; waiting = m .waiting; 
 abbrev pub setFastest : ℕ → ℕ → Machine → Machine
 setFastest u x m = record { awake = m .awake; used = m .used; waiting = m .waiting; dropped = m .dropped; ages = m .ages; fastest = set (m .fastest) u x }
 
--- "at the start all tasks sleep, used is 0, marks are clear"; "ages start at the spacing for 20.0", and no tempo is kept
+-- a record of zeros, which stands beside a refusal
 abbrev pub blankMachine : Machine
 blankMachine = record { awake = replicate 32 false; used = replicate 32 0; waiting = replicate 256 false; dropped = replicate 256 false; ages = replicate 16 0; fastest = replicate 16 0 }
 
+-- "at the start all tasks sleep, used is 0, marks are clear"; "ages start at the spacing for 20.0", and no tempo is kept
 unfoldable pub idle : Description → Machine
 idle d = record {
   awake = replicate 32 false;

@@ -73,7 +73,7 @@ pub record FromPage (file page : List ℕ) (q : ℕ) : Type 0 where
   pub quoted : quotedFile file ≡ Tempo q
   pub low : 200 ≤ q
   pub high : q ≤ 3000
-  -- the promise at every tempo up to q: of the record that the start call answers and every list of calls on it
+  -- the promise, however the knob moves up to q: of the record that the start call answers and every list of calls on it
   pub assured : (s : Ticked) (cs : List Call) (rs : List Ticked) (m : Machine)
       → StartMeets (readFile file .description) s → Calls (readFile file .description) (s .machine) cs rs m
       → UpTo q (ticks (readFile file .description) (idle (readFile file .description)) cs) → Assured (readFile file .description) q cs rs m

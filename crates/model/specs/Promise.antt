@@ -65,7 +65,7 @@ unfoldable pub atTempo : ℕ → List Call → Bool
 atTempo t [] = true
 atTempo t (c ∷ cs) = eqb (c .tempo) t && atTempo t cs
 
--- Demand 3: the same "at any one tempo up to the quote"
+-- Demand 3: the same of calls that all have one tempo up to the quote; 01 has "the same T, from 200 to that quote", and below 200 every call is refused
 abbrev pub Demand3 : Type 0
 Demand3 = (d : Description) (q t : ℕ) (s : Ticked) (cs : List Call) (rs : List Ticked) (m : Machine)
     → Widths d → quoteOf d ≡ Tempo q → t ≤ q → atTempo t cs ≡ true → StartMeets d s → Calls d (s .machine) cs rs m → Assured d q cs rs m

@@ -93,8 +93,8 @@ int64_t bench_quote(const uint8_t *file, size_t file_length);
  * refused call is no tick and changes nothing, and its tempo does not count as given.
  * `record` gets BENCH_RECORD bytes, the machine as the last call left it.
  * Refusals: 1 to 10 for the file, then 13 if a buffer is short; no byte of either buffer has changed then.
- * If no tempo is above the quote, whatever the calls and however the tempo moves from one to the next: no critical link is ever
- * marked dropped, and no event from a source on a critical link waits longer than the delay in the report. */
+ * If no call with the outcome 0 has a tempo above the quote, whatever the calls and however the tempo moves from one to the next: no
+ * critical link is ever marked dropped, and no event from a source on a critical link waits longer than the delay in the report. */
 int64_t bench_run(const uint8_t *file, size_t file_length, const uint8_t *calls, size_t calls_length, uint8_t *outcomes,
                   size_t outcomes_length, uint8_t *record, size_t record_length);
 

@@ -299,6 +299,7 @@ silent-keeps t mask w fastest m e K = record {
   many = K .many;
   here = λ u p. sym (rw (mark-in mask u p ∙ none-heard mask u e, K .here u p) (raised-twice (w .peak) t (getD fastest u 0)));
   above = K .above;
+  least = K .least;
   high = K .high;
 }
 
@@ -307,6 +308,7 @@ arrived-keeps t mask peak w w′ fastest fastest′ m low high q k K z fired oth
   many = z;
   here = λ u p. here u p (heard mask u) refl;
   above = λ u p. above u p (heard mask u) refl;
+  least = omega (arith, k .1);
   high = omega (arith, k .1);
 }
   where
@@ -349,6 +351,7 @@ tracked d t mask finish w w₁ w₂ used used′ since since′ fastest fastest�
     many = K .many;
     here = λ u p. T .fastest u p ∙ sym (K .here u p) ∙ ap (λ x. raisedTo x (getD fastest′ u 0)) (sym b);
     above = λ u p. rw a (K .above u p);
+    least = omega (arith, K .least);
     high = omega (arith, K .high);
   };
 }

@@ -47,6 +47,7 @@ packed-tracks d m w since g l p = record {
     many = p .holds d g l .marks .sized .fastests;
     here = λ u h. at (fastestAt m u) (kept-rule d m g l u h);
     above = λ u h. inr (omega (arith, p .knob .0));
+    least = omega (arith, p .knob .1);
     high = omega (arith, p .knob .1);
   };
 }

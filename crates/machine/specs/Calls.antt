@@ -71,6 +71,7 @@ pub record KeepsAfter (t mask : ℕ) (w : Words) (fastest : List ℕ) (m : Machi
   pub many : length fastest ≡ 16
   pub here : (u : ℕ) → u < 16 → raisedTo (max (w .peak) t) (getD fastest u 0) ≡ keptAfter t (getD (marksIn mask) u false) (fastestAt m u)
   pub above : Above (w .low) fastest
+  pub least : 200 ≤ w .peak
   pub high : w .peak ≤ 3000
 
 -- 15 and 14 in this order, or neither

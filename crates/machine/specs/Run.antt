@@ -1,18 +1,34 @@
 -- What a run of tick calls ensures once its description is judged.
-use Prim.Native.Nat.{ℕ}
-use mathlib.Core.List.{List}
+use Prim.Native.Nat.{ℕ, _+_, _*_, _≤_, _<_}
+use mathlib.Core.List.{List, _++_}
 use mathlib.Core.Path.{_≡_}
+use lib.ListN.{length, getD, take, drop}
 use Rattle.model.specs.declared.Description.{Description}
 use Rattle.model.specs.declared.Ticked.{Ticked}
 use Rattle.model.specs.declared.Outcome.the-variants.{Done}
+use Rattle.model.specs.Field.{numberIn}
 use Rattle.model.specs.File.{filledBy, judge}
 use Rattle.model.specs.History.{Call}
 use Rattle.model.specs.Run.{page, ranFrom}
 use Rattle.wiring.specs.declared.Wiring.{Wiring}
+use Rattle.steps.specs.declared.words.Words.{Words}
 use Rattle.wiring.specs.Rows.{WiringOf}
 use Rattle.spacings.specs.declared.Sources.{Sources}
 use Rattle.spacings.specs.Sources.{SourcesOf}
 use Rattle.spacings.specs.Gaps.{GapsOf}
+
+-- calls that are passed: no task is awake, nothing comes, the tempo is t, and their codes are 0
+pub record Skips (calls : List ℕ) (from n awake t : ℕ) (outcomes : List ℕ) (r : ℕ) (outcomes′ : List ℕ) : Type 0 where
+  pub on : from ≤ r
+  pub most : r ≤ n
+  pub sized : length outcomes′ ≡ length outcomes
+  pub quiet : (k : ℕ) → from ≤ k → k < r → (awake ≡ 0) × (numberIn calls (6 * k) 2 ≡ 0) × (numberIn calls (6 * k + 2) 2 ≡ t)
+  pub stored : (text out₀ : List ℕ) → r ≤ length text → r ≤ length out₀ → ((k : ℕ) → from ≤ k → k < r → getD text k 0 ≡ 0)
+      → outcomes ≡ take from text ++ drop from out₀ → outcomes′ ≡ take r text ++ drop r out₀
+
+-- words so many ticks later
+abbrev pub laterBy : ℕ → Words → Words
+laterBy k w = record { awake = w .awake; waiting = w .waiting; dropped = w .dropped; tick = w .tick + k; low = w .low; peak = w .peak }
 
 -- the record after the last call, or 13; and the codes of the calls in the buffer
 abbrev pub RunOf : Description → List Call → List ℕ → List ℕ → Ticked → Type 0

@@ -17,17 +17,22 @@ use steps::record::begin;
 use steps::record::since_of;
 use steps::record::unpack;
 use steps::step::raise;
+use steps::words::Words;
 use wiring::Wiring;
 use wiring::wiring_of;
 ghost use mathlib.Core.Path.{_≡_};
-ghost use Prim.Native.Nat.{_<_, _^_};
+ghost use mathlib.Core.Bool.{_&&_};
+ghost use Prim.Native.Nat.{_+_, _*_, _≤_, _<_, _^_};
+ghost use lib.ListN.{length};
+ghost use lib.Dec.{eqb};
+ghost use Rattle.model.specs.Field.{numberIn};
 ghost use Rattle.model.specs.declared.Outcome.the-variants.{Done};
 ghost use Rattle.model.specs.File.{judge};
 ghost use Rattle.theory.proofs.WellFormed.{WellFormed};
 ghost use Rattle.machine.specs.Calls.{Accepted};
 ghost use Rattle.model.specs.Refusals.{ofOutcome};
 ghost use Rattle.model.specs.Run.{callsIn};
-ghost use Rattle.machine.specs.Run.{RunIs, RunOf};
+ghost use Rattle.machine.specs.Run.{Skips, laterBy, RunIs, RunOf};
 
 // A call's end as a byte: the refusal's number, or 0.
 fn code(end: Outcome) -> u8
@@ -51,6 +56,53 @@ fn tempo_of(t: u16) -> u32
     ensures { λ r. ⌜ r ≡ t ⌝ }
 {
     t as u32
+}
+
+// Whether nothing comes in a call, and its tempo is t.
+fn quiet_at(calls: &[u8], at: usize, t: u32) -> bool
+    requires { ⌜ at + 4 ≤ length (now calls) ⌝ }
+    ensures { λ r. ⌜ r ≡ (eqb (numberIn (now (calls .entry)) at 2) 0 && eqb (numberIn (now (calls .entry)) (at + 2) 2) t) ⌝ }
+{
+    if half_at(calls, at) != 0 {
+        return false;
+    }
+    tempo_of(half_at(calls, at + 2)) == t
+}
+
+// Where no task is awake, passes the calls from a place on in which nothing comes at tempo t: their codes are 0. The place of the first other one.
+fn skip(calls: &[u8], from: usize, n: usize, awake: u64, t: u32, outcomes: &mut [u8]) -> usize
+    requires { ⌜ (from ≤ n) × (6 * n ≤ length (now calls)) × (n ≤ length (now outcomes)) ⌝ }
+    ensures { λ r. ⌜ Skips (now (calls .entry)) from n awake t (now (outcomes .entry)) r (now (outcomes .exit)) ⌝ }
+{
+    let mut i = from;
+    if awake != 0 {
+        return i;
+    }
+    while i < n {
+        if !quiet_at(calls, 6 * i, t) {
+            return i;
+        }
+        outcomes[i] = 0;
+        i += 1;
+    }
+    i
+}
+
+// The words so many ticks later, in which nothing happened.
+fn later(w: Words, ticks: usize) -> Words
+    requires { ⌜ w .tick + ticks < 2 ^ 64 ⌝ }
+    ensures { λ r. ⌜ r ≡ laterBy ticks w ⌝ }
+{
+    let waiting = w.waiting;
+    let dropped = w.dropped;
+    Words {
+        awake: w.awake,
+        waiting,
+        dropped,
+        tick: w.tick + ticks as u64,
+        low: w.low,
+        peak: w.peak,
+    }
 }
 
 // The calls of a wiring from the start, six bytes each. Each call's refusal, or 0, goes to its place of the buffer; one that does
@@ -100,8 +152,10 @@ pub fn run_wired(
         );
         let outcome = done.outcome;
         outcomes[i] = code(outcome);
-        words = done.words;
-        i += 1;
+        let next = done.words;
+        let to = skip(calls, i + 1, n, next.awake, next.peak, &mut *outcomes);
+        words = later(next, to - i - 1);
+        i = to;
     }
     raise(words.peak, &mut fastest);
     let machine = unpack(&longest, sources, words, used, &since, fastest);

@@ -151,6 +151,7 @@ none-kept d w b = record {
   many = refl;
   here = λ u p. getD-same 16 u 0 ∙ sym (ap (raisedTo (w .peak)) (getD-same 16 u 0));
   above = λ u p. inl (getD-same 16 u 0);
+  least = omega (arith, b .knob .1);
   high = omega (arith, b .knob .1);
 }
 

@@ -59,6 +59,7 @@ pub record Keeps (w : Words) (fastest : List ℕ) (m : Machine) : Type 0 where
   pub many : length fastest ≡ 16
   pub here : (u : ℕ) → u < 16 → fastestAt m u ≡ raisedTo (w .peak) (getD fastest u 0)
   pub above : Above (w .low) fastest
+  pub least : 200 ≤ w .peak
   pub high : w .peak ≤ 3000
 
 -- the links of a set have fired, and their tasks are awake

@@ -24,9 +24,11 @@ use Rattle.spacings.specs.Gaps.{Asked, GapsOf}
 use Rattle.spacings.proofs.GapLaws.{asked-none}
 use Rattle.steps.proofs.MaskLaws.{sourced}
 use Rattle.steps.proofs.RecordLaws.{begun, none-kept}
+use Rattle.steps.specs.declared.words.Words.{Words}
 use Rattle.machine.specs.Calls.{Tracks}
 use Rattle.machine.proofs.RunLaws.{calls-length, calls-at, codes-length, run-left, run-code, store-turn, ran-short, ran-whole, filled-short, filled-whole, kept}
 use Rattle.machine.proofs.CallLaws.{raised-same}
+use Rattle.machine.proofs.SkipLaws.{passed-on}
 use Rattle.machine.proofs.TickLaws.{tables-of}
 use borrow.Author.Needs.{needs}
 use Rattle.machine.proofs.run.run_wired.Statement.{statement}
@@ -79,11 +81,11 @@ half-at-requires-2 c κs = omega (arith, c .before .before .loop-test .taken, di
 tempo-of-requires : tie.Need-tempo-of-requires Inv-loop μ-loop
 tempo-of-requires c κs = search needs
 
-add-t36 : tie.Need-add-t36 Inv-loop μ-loop
-add-t36 c = omega (arith, c .before .before .before .before .before .before .before .before .before .before .before .before, c .before .before .before .before .loop-test .taken, div-mul-le-self (length (c .before .before .before .before .before .before .before .before .before .before .before .before .args .calls .now)) 6)
+add-t38 : tie.Need-add-t38 Inv-loop μ-loop
+add-t38 c = omega (arith, c .before .before .before .before .before .before .before .before .before .before .before .before, c .before .before .before .before .loop-test .taken, div-mul-le-self (length (c .before .before .before .before .before .before .before .before .before .before .before .before .args .calls .now)) 6)
 
-shared-slice-read-t38 : tie.Need-shared-slice-read-t38 Inv-loop μ-loop
-shared-slice-read-t38 c = omega (arith, c .before .before .before .before .before .loop-test .taken, div-mul-le-self (length (c .before .before .before .before .before .before .before .before .before .before .before .before .before .args .calls .now)) 6)
+shared-slice-read-t40 : tie.Need-shared-slice-read-t40 Inv-loop μ-loop
+shared-slice-read-t40 c = omega (arith, c .before .before .before .before .before .loop-test .taken, div-mul-le-self (length (c .before .before .before .before .before .before .before .before .before .before .before .before .before .args .calls .now)) 6)
 
 advance-requires : tie.Need-advance-requires Inv-loop μ-loop
 advance-requires c κs =
@@ -110,37 +112,58 @@ code-requires c κs = search needs
 slice-write-outcomes : tie.Need-slice-write-outcomes Inv-loop μ-loop
 slice-write-outcomes c = omega (arith, c .before .before .before .before .before .before .before .before .before .before .before .before .before .before .before .before .before .before .before .before .before .before .before .if1 .left, c .before .before .before .before .before .before .before .before .before .before .before .before .before .before .before .before .before .before .loop-test .taken, c .before .before .before .before .before .before .before .before .before .before .before .before .before .before .before .before .before .before .before .loop .inv .1)
 
-add-i : tie.Need-add-i Inv-loop μ-loop
-add-i c = omega (arith, c .before .before .before .before .before .before .before .before .before .before .before .before .before .before .before .before .before .before .before .before .before .before .before .before .before .before .before, c .before .before .before .before .before .before .before .before .before .before .before .before .before .before .before .before .before .before .before .loop-test .taken, div-mul-le-self (length (c .before .before .before .before .before .before .before .before .before .before .before .before .before .before .before .before .before .before .before .before .before .before .before .before .before .before .before .args .calls .now)) 6)
+add-skip : tie.Need-add-skip Inv-loop μ-loop
+add-skip c = omega (arith, c .before .before .before .before .before .before .before .before .before .before .before .before .before .before .before .before .before .before .before .before .before .before .before .before .before .before .before, c .before .before .before .before .before .before .before .before .before .before .before .before .before .before .before .before .before .before .before .loop-test .taken, div-mul-le-self (length (c .before .before .before .before .before .before .before .before .before .before .before .before .before .before .before .before .before .before .before .before .before .before .before .before .before .before .before .args .calls .now)) 6)
+
+skip-requires : tie.Need-skip-requires Inv-loop μ-loop
+skip-requires c κs = (omega (arith, c .before .before .before .before .before .before .before .before .before .before .before .before .before .before .before .before .before .before .before .before .loop-test .taken), omega (arith, div-mul-le-self (length (c .before .before .before .before .before .before .before .before .before .before .before .before .before .before .before .before .before .before .before .before .before .before .before .before .before .before .before .before .args .calls .now)) 6), omega (arith, c .before .before .before .before .before .before .before .before .before .before .before .before .before .before .before .before .before .before .before .before .before .before .before .before .before .if1 .left, c .before .before .before .before .before .before .before .before .before .before .before .before .before .before .before .before .before .before .before .before .before .loop .inv .1, length-set (c .before .before .before .before .before .before .before .before .before .before .before .before .before .before .before .before .before .before .before .before .before .loop .outcomes) (c .before .before .before .before .before .before .before .before .before .before .before .before .before .before .before .before .before .before .before .before .before .loop .i) (c .before .before .code .result)))
+
+sub-later : tie.Need-sub-later Inv-loop μ-loop
+sub-later c = omega (arith, c .before .before .skip .ensures .on)
+
+sub-later-2 : tie.Need-sub-later-2 Inv-loop μ-loop
+sub-later-2 c = omega (arith, c .before .before .skip .ensures .on)
+
+later-requires : tie.Need-later-requires Inv-loop μ-loop
+later-requires c κs = omega (arith, c .before .before .before .before .before .before .before .before .before .before .before .before .before .before .before .before .before .before .before .before .before .before .before .before .before .before .before .before .before .before .before, c .before .before .before .before .before .before .advance .ensures .soon, c .before .before .before .before .before .before .before .before .before .before .before .before .before .before .before .before .before .before .before .before .before .before .before .before .loop .inv .2, c .before .before .skip .ensures .on, c .before .before .skip .ensures .most, div-mul-le-self (length (c .before .before .before .before .before .before .before .before .before .before .before .before .before .before .before .before .before .before .before .before .before .before .before .before .before .before .before .before .before .before .before .args .calls .now)) 6)
 
 loop-less : tie.Need-loop-less Inv-loop μ-loop
-loop-less c = omega (arith, c .before .before .before .before .before .before .before .before .before .before .before .before .before .before .before .before .before .before .before .loop-test .taken)
+loop-less c = omega (arith, c .before .before .before .before .before .before .before .before .before .before .before .before .before .before .before .before .before .before .before .before .before .before .before .before .loop-test .taken, c .before .before .before .skip .ensures .on, c .before .before .before .skip .ensures .most)
 
 loop-again : tie.Need-loop-again Inv-loop μ-loop
 loop-again c =
-    let S = c .before .before .before .before .before .before .before .before .before .before .before .before .before .before .before .before .before .before .before .before .before .before .before .before .before .before .before in
-    let L = c .before .before .before .before .before .before .before .before .before .before .before .before .before .before .before .before .before .before .before .before .loop in
+    let S = c .before .before .before .before .before .before .before .before .before .before .before .before .before .before .before .before .before .before .before .before .before .before .before .before .before .before .before .before .before .before .before .before in
+    let L = c .before .before .before .before .before .before .before .before .before .before .before .before .before .before .before .before .before .before .before .before .before .before .before .before .before .loop in
     let i = L .i in
     let bytes = S .args .calls .now in
     let cs = callsIn bytes in
-    let mask = c .before .before .before .before .before .before .before .before .before .before .before .before .before .before .before .before .before .bits .result in
-    let t = c .before .before .before .before .before .before .before .before .before .before .before .before .before .before .before .tempo-of .result in
+    let mask = c .before .before .before .before .before .before .before .before .before .before .before .before .before .before .before .before .before .before .before .before .before .before .bits .result in
+    let t = c .before .before .before .before .before .before .before .before .before .before .before .before .before .before .before .before .before .before .before .before .tempo-of .result in
     let finish = not (eqb (getD bytes (6 * i + 4) 0) 0) in
-    let v = c .before .before .advance in
-    let J : i < length bytes / 6 = c .before .before .before .before .before .before .before .before .before .before .before .before .before .before .before .before .before .before .before .loop-test .taken in
+    let v = c .before .before .before .before .before .before .before .advance in
+    let J : i < length bytes / 6 = c .before .before .before .before .before .before .before .before .before .before .before .before .before .before .before .before .before .before .before .before .before .before .before .before .loop-test .taken in
     let T : i < length cs = omega (arith, J, calls-length bytes) in
     let call : Call = callOf mask t finish in
-    let q = calls-at bytes i J ∙ ap (λ k. callOf k (numberIn bytes (6 * i + 2) 2) finish) (sym (c .before .before .before .before .before .before .before .before .before .before .before .before .before .before .before .before .before .bits .ensures .0 ∙ c .before .before .before .before .before .before .before .before .before .before .before .before .before .before .before .before .before .before .half-at .ensures)) ∙ ap (λ k. callOf mask k finish) (sym (c .before .before .before .before .before .before .before .before .before .before .before .before .before .before .before .tempo-of .ensures ∙ c .before .before .before .before .before .before .before .before .before .before .before .before .before .before .before .before .half-at2 .ensures)) in (
-      omega (arith, J),
-      length-set (L .outcomes) i (c .before .code .result) ∙ L .inv .1,
-      omega (arith, v .ensures .soon, L .inv .2),
+    let k = c .before .before .before .skip .ensures in
+    let q = calls-at bytes i J ∙ ap (λ k. callOf k (numberIn bytes (6 * i + 2) 2) finish) (sym (c .before .before .before .before .before .before .before .before .before .before .before .before .before .before .before .before .before .before .before .before .before .before .bits .ensures .0 ∙ c .before .before .before .before .before .before .before .before .before .before .before .before .before .before .before .before .before .before .before .before .before .before .before .half-at .ensures)) ∙ ap (λ k. callOf mask k finish) (sym (c .before .before .before .before .before .before .before .before .before .before .before .before .before .before .before .before .before .before .before .before .tempo-of .ensures ∙ c .before .before .before .before .before .before .before .before .before .before .before .before .before .before .before .before .before .before .before .before .before .half-at2 .ensures)) in (
+      k .most,
+      k .sized ∙ (length-set (L .outcomes) i (c .before .before .before .before .before .before .code .result) ∙ L .inv .1),
+      omega (arith, ap (λ (x : Words). x .tick) (c .later .ensures), v .ensures .soon, L .inv .2, k .on),
       v .ensures .asked,
       λ d r s g j.
           let I = L .inv .4 d r s g j in
           let m = left d (idle d) (take i cs) in
           let tables = tables-of d (S .args .t1) (S .args .t2) r s in
           let l = kept d (take i cs) m (r .formed) refl in
-          (subst (λ (k : Machine). Tracks d (v .result .words) (v .last .1 .1 .1 .1 .1 .1 .1 .0) (v .last .1 .1 .1 .1 .1 .1 .1 .1 .0) (v .last .1 .1 .1 .1 .1 .1 .1 .1 .1 .0) k) (run-left d cs (idle d) i call T q) (v .ensures .leaves d m tables j l (I .0)), store-turn (S .args .outcomes .now) (L .outcomes) (page d cs) i (c .before .code .result) (omega (arith, c .before .before .before .before .before .before .before .before .before .before .before .before .before .before .before .before .before .before .before .before .before .before .before .before .if1 .left, J)) (omega (arith, codes-length d cs (idle d))) (I .1) (c .before .code .ensures ∙ ap (λ (o : Outcome). ofOutcome o .number) (v .ensures .ends d m tables j l (I .0)) ∙ run-code d cs (idle d) i call T q)),
+          let w = v .result .words in
+          let to = c .before .before .before .skip .result in
+          let used = v .last .1 .1 .1 .1 .1 .1 .1 .0 in
+          let since = v .last .1 .1 .1 .1 .1 .1 .1 .1 .0 in
+          let fastest = v .last .1 .1 .1 .1 .1 .1 .1 .1 .1 .0 in
+          let R : Tracks d w used since fastest (left d (idle d) (take (i + 1) cs)) = subst (λ (x : Machine). Tracks d w used since fastest x) (run-left d cs (idle d) i call T q) (v .ensures .leaves d m tables j l (I .0)) in
+          let stored = store-turn (S .args .outcomes .now) (L .outcomes) (page d cs) i (c .before .before .before .before .before .before .code .result) (omega (arith, c .before .before .before .before .before .before .before .before .before .before .before .before .before .before .before .before .before .before .before .before .before .before .before .before .before .before .before .before .before .if1 .left, J)) (omega (arith, codes-length d cs (idle d))) (I .1) (c .before .before .before .before .before .before .code .ensures ∙ ap (λ (o : Outcome). ofOutcome o .number) (v .ensures .ends d m tables j l (I .0)) ∙ run-code d cs (idle d) i call T q) in
+          let n = passed-on d (r .formed) j bytes used since fastest w i to (k .on) (k .most) (k .quiet) R in
+          (subst (λ (x : Words). Tracks d x used since fastest (left d (idle d) (take to cs))) (sym (c .later .ensures)) (n .0), k .stored (page d cs) (S .args .outcomes .now) (omega (arith, k .most, codes-length d cs (idle d), calls-length bytes)) (omega (arith, k .most, c .before .before .before .before .before .before .before .before .before .before .before .before .before .before .before .before .before .before .before .before .before .before .before .before .before .before .before .before .before .if1 .left)) (n .1) stored),
     )
 
 raise-requires : tie.Need-raise-requires Inv-loop μ-loop
@@ -180,12 +203,16 @@ run-wired-spec =
     add-half-at
     half-at-requires-2
     tempo-of-requires
-    add-t36
-    shared-slice-read-t38
+    add-t38
+    shared-slice-read-t40
     advance-requires
     code-requires
     slice-write-outcomes
-    add-i
+    add-skip
+    skip-requires
+    sub-later
+    sub-later-2
+    later-requires
     loop-less
     loop-again
     raise-requires

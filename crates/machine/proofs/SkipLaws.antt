@@ -1,0 +1,125 @@
+-- Calls in which nothing comes while no task is awake: each is a tick that only counts. Assumes nothing.
+use Prim.Native.Nat.{ℕ, zero, suc, _+_, _-_, _*_, _/_, _≤_, _<_, max}
+use mathlib.Core.Path.{_≡_, refl, sym, ap, subst, _∙_}
+use mathlib.Core.Bool.{true}
+use mathlib.Core.List.{List}
+use native.Mathlib.Omega.{arith}
+use lib.ListN.{length, getD, take}
+use Rattle.model.specs.declared.Description.{Description}
+use Rattle.model.specs.declared.Machine.{Machine}
+use Rattle.model.specs.declared.Ticked.{Ticked}
+use Rattle.model.specs.declared.Outcome.{Outcome}
+use Rattle.model.specs.declared.Outcome.the-variants.{Done}
+use Rattle.model.specs.Field.{numberIn}
+use Rattle.model.specs.Refusals.{ofOutcome}
+use Rattle.model.specs.File.{judge}
+use Rattle.model.specs.Verdicts.{onKnob}
+use Rattle.model.specs.Machine.{idle, arrive, ageAll, stepped, plainTick, lawful}
+use Rattle.model.specs.History.{Call, left, answers}
+use Rattle.model.specs.Run.{marksIn, callIn, callsIn, page, codes}
+use Rattle.theory.proofs.WellFormed.{WellFormed}
+use Rattle.assurance.proofs.Replay.{callAt}
+use Rattle.steps.specs.declared.words.Words.{Words}
+use Rattle.steps.specs.Words.{Holds, worked}
+use Rattle.steps.proofs.StepLaws.{work-none, passes}
+use Rattle.lemmas.proofs.Tests.{Cmp, less, same, more, cmp, within}
+use Rattle.machine.specs.Calls.{Tracks}
+use Rattle.machine.specs.Run.{laterBy}
+use Rattle.machine.proofs.CallLaws.{judged-at, rests-on, strangers-none, silent-known, silent-soon, silent-arrive, silent-keeps, end-none, tick-done, tracked}
+use Rattle.machine.proofs.RunLaws.{calls-length, calls-at, run-left, run-code, kept}
+
+module _ (d : Description) (g : WellFormed d) (j : judge d ≡ Done) (bytes : List ℕ) (used since fastest : List ℕ) where
+  abbrev cs : List Call
+  cs = callsIn bytes
+
+  abbrev before : ℕ → Machine
+  before i = left d (idle d) (take i cs)
+
+  -- one such call
+  module _ (w : Words) (i : ℕ) (h : i < length bytes / 6) (z : w .awake ≡ 0) (e : numberIn bytes (6 * i) 2 ≡ 0) (t : numberIn bytes (6 * i + 2) 2 ≡ w .peak) (R : Tracks d w used since fastest (before i)) where
+    abbrev c : Call
+    c = callIn bytes i
+
+    abbrev mask : ℕ
+    mask = numberIn bytes (6 * i) 2
+
+    on : onKnob (c .tempo) ≡ true
+    on = rests-on (c .tempo) (w .peak) (omega (arith, t, R .keeps .least)) (omega (arith, t)) (R .keeps .high)
+
+    done : record { outcome = Done; machine = stepped d (c .tempo) (marksIn mask) (c .finish) (before i) } ≡ plainTick d (c .tempo) (before i) (record { marks = marksIn mask }) (c .finish)
+    done = tick-done d (c .tempo) mask (before i) (c .finish) (judged-at d (c .tempo) j on) (kept d (take i cs) (before i) g refl) (sym (end-none d (c .tempo) mask (before i) (strangers-none d mask (silent-known d mask g e)) (silent-soon d (c .tempo) mask (before i) g e)))
+
+    inside : i < length cs
+    inside = omega (arith, calls-length bytes)
+
+    held : Holds d (laterBy 1 w) used since (ageAll d (worked d (c .finish) (arrive d (marksIn mask) (before i))))
+    held =
+        subst (λ (k : Machine). Holds d (laterBy 1 w) used since (ageAll d (worked d (c .finish) k))) (silent-arrive d mask (before i) g e)
+        (passes d w (laterBy 1 w) used since (worked d (c .finish) (before i)) g refl refl refl refl (work-none d w used since (c .finish) (before i) z (R .holds)))
+
+    pub one-on : Tracks d (laterBy 1 w) used since fastest (before (i + 1))
+    one-on =
+        subst (λ (k : Machine). Tracks d (laterBy 1 w) used since fastest k) (ap (λ (x : Ticked). x .machine) done ∙ run-left d cs (idle d) i c inside (calls-at bytes i h))
+        (tracked d (c .tempo) mask (c .finish) w w (laterBy 1 w) used used since since fastest fastest (before i) g (within 200 (c .tempo) 3000 on .1) R (silent-keeps (c .tempo) mask w fastest (before i) e (R .keeps)) refl (omega (arith, t)) held)
+
+    pub one-code : getD (page d cs) i 0 ≡ 0
+    one-code =
+        sym (ap (λ (o : Outcome). ofOutcome o .number) (ap (λ (x : Ticked). x .outcome) done) ∙ run-code d cs (idle d) i c inside (calls-at bytes i h))
+
+  -- k of them
+  module _ (w : Words) (from : ℕ) (z : w .awake ≡ 0) (R : Tracks d w used since fastest (before from)) where
+    abbrev Quiet : ℕ → Type 0
+    Quiet k = (i : ℕ) → from ≤ i → i < from + k → (numberIn bytes (6 * i) 2 ≡ 0) × (numberIn bytes (6 * i + 2) 2 ≡ w .peak)
+
+    pub some-on : (k : ℕ) → from + k ≤ length bytes / 6 → Quiet k → Tracks d (laterBy k w) used since fastest (before (from + k))
+    some-on zero h q =
+        let a : from ≡ from + 0 = omega arith in
+        let b : w .tick ≡ w .tick + 0 = omega arith in
+        subst (λ n. Tracks d (at n) used since fastest (before (from + 0))) b (subst (λ n. Tracks d w used since fastest (before n)) a R)
+      where
+        at : ℕ → Words
+        at n = record { awake = w .awake; waiting = w .waiting; dropped = w .dropped; tick = n; low = w .low; peak = w .peak }
+    some-on (suc k) h q =
+        let a : from + k + 1 ≡ from + suc k = omega arith in
+        let b : w .tick + k + 1 ≡ w .tick + suc k = omega arith in
+        let ih : Tracks d (laterBy k w) used since fastest (before (from + k)) = some-on k (omega arith) (λ i x y. q i x (omega arith)) in
+        let s = q (from + k) (omega arith) (omega arith) in
+        subst (λ n. Tracks d (at n) used since fastest (before (from + suc k))) b (subst (λ n. Tracks d (laterBy 1 (laterBy k w)) used since fastest (before n)) a (one-on (laterBy k w) (from + k) (omega arith) z (s .0) (s .1) ih))
+      where
+        at : ℕ → Words
+        at n = record { awake = w .awake; waiting = w .waiting; dropped = w .dropped; tick = n; low = w .low; peak = w .peak }
+
+    pub some-code : (k : ℕ) → from + k ≤ length bytes / 6 → Quiet k → (i : ℕ) → from ≤ i → i < from + k → getD (page d cs) i 0 ≡ 0
+    some-code k h q i x y =
+        let n : ℕ = i - from in
+        let a : from + n ≡ i = omega arith in
+        let s = q i x y in
+        one-code (laterBy n w) i (omega arith) z (s .0) (s .1) (subst (λ v. Tracks d (laterBy n w) used since fastest (before v)) a (some-on n (omega arith) (λ l u v. q l u (omega arith))))
+
+-- the calls from i + 1 up to r are passed
+pub passed-on : (d : Description) → WellFormed d → judge d ≡ Done → (bytes used since fastest : List ℕ) (w : Words) (i r : ℕ) → i + 1 ≤ r → r ≤ length bytes / 6 → ((k : ℕ) → i + 1 ≤ k → k < r → (w .awake ≡ 0) × (numberIn bytes (6 * k) 2 ≡ 0) × (numberIn bytes (6 * k + 2) 2 ≡ w .peak)) → Tracks d w used since fastest (left d (idle d) (take (i + 1) (callsIn bytes)))
+    → Tracks d (laterBy (r - i - 1) w) used since fastest (left d (idle d) (take r (callsIn bytes))) × ((k : ℕ) → i + 1 ≤ k → k < r → getD (page d (callsIn bytes)) k 0 ≡ 0)
+passed-on d g j bytes used since fastest w i r h most q R = go (cmp (i + 1) r)
+  where
+    n : ℕ
+    n = r - i - 1
+
+    to : i + 1 + n ≡ r
+    to = omega arith
+
+    quiet : (k : ℕ) → i + 1 ≤ k → k < i + 1 + n → (numberIn bytes (6 * k) 2 ≡ 0) × (numberIn bytes (6 * k + 2) 2 ≡ w .peak)
+    quiet k a b = let s = q k a (omega (arith, to)) in (s .1, s .2)
+
+    some : w .awake ≡ 0 → Tracks d (laterBy (r - i - 1) w) used since fastest (left d (idle d) (take r (callsIn bytes))) × ((k : ℕ) → i + 1 ≤ k → k < r → getD (page d (callsIn bytes)) k 0 ≡ 0)
+    some z = (subst (λ x. Tracks d (laterBy n w) used since fastest (left d (idle d) (take x (callsIn bytes)))) to (some-on d g j bytes used since fastest w (i + 1) z R n (omega (arith, to)) quiet), λ k a b. some-code d g j bytes used since fastest w (i + 1) z R n (omega (arith, to)) quiet k a (omega (arith, to)))
+
+    -- none is passed: the words are as they were
+    none : i + 1 ≡ r → Tracks d (laterBy (r - i - 1) w) used since fastest (left d (idle d) (take r (callsIn bytes)))
+    none e =
+        let b : w .tick ≡ w .tick + (r - i - 1) = omega arith in
+        subst (λ x. Tracks d (record { awake = w .awake; waiting = w .waiting; dropped = w .dropped; tick = x; low = w .low; peak = w .peak }) used since fastest (left d (idle d) (take r (callsIn bytes)))) b (subst (λ x. Tracks d w used since fastest (left d (idle d) (take x (callsIn bytes)))) e R)
+
+    go : Cmp (i + 1) r → Tracks d (laterBy (r - i - 1) w) used since fastest (left d (idle d) (take r (callsIn bytes))) × ((k : ℕ) → i + 1 ≤ k → k < r → getD (page d (callsIn bytes)) k 0 ≡ 0)
+    go (less e) = some (q (i + 1) (omega arith) e .0)
+    go (same e) = (none e, λ k a b. absurd (omega arith))
+    go (more e) = absurd (omega arith)

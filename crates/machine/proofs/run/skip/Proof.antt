@@ -1,0 +1,106 @@
+-- `skip` meets its contract: the calls up to the i-th are passed. Assumes nothing.
+use Prim.Native.Nat.{ℕ, _+_, _*_, _-_, _≤_, _<_}
+use mathlib.Core.Path.{_≡_, refl, sym, _∙_}
+use mathlib.Core.Bool.{true, _&&_}
+use native.Mathlib.Omega.{arith}
+use lib.ListN.{length, length-set}
+use lib.Dec.{eqb}
+use borrow.Author.Tests.{eqb-true, not-false}
+use Rattle.model.specs.Field.{numberIn}
+use Rattle.lemmas.proofs.Tests.{Cmp, less, same, more, cmp, and-left, and-right}
+use Rattle.machine.specs.Run.{Skips}
+use Rattle.machine.proofs.RunLaws.{store-turn}
+use borrow.Author.Needs.{needs}
+use Rattle.machine.proofs.run.skip.Statement.{statement}
+use Rattle.machine.proofs.run.skip.Tie as tie
+
+abbrev Inv-loop : tie.InvT-loop
+Inv-loop calls from n awake t outcomes₀ i₀ outcomes i = Skips calls from n awake t outcomes₀ i outcomes
+
+abbrev μ-loop : tie.MeasureT-loop
+μ-loop calls from n awake t outcomes₀ i₀ outcomes i = n - i
+
+returns : tie.Need-returns Inv-loop μ-loop
+returns c = record {
+  on = omega arith;
+  most = c .before .before .before .pre .0;
+  sized = refl;
+  quiet = λ k a b. absurd (omega arith);
+  stored = λ text out a b f e. e;
+}
+
+loop-holds : tie.Need-loop-holds Inv-loop μ-loop
+loop-holds c = record {
+  on = omega arith;
+  most = c .before .before .before .pre .0;
+  sized = refl;
+  quiet = λ k a b. absurd (omega arith);
+  stored = λ text out a b f e. e;
+}
+
+mul-quiet-at : tie.Need-mul-quiet-at Inv-loop μ-loop
+mul-quiet-at c = omega (arith, c .before .before .before .before .before .pre .1, c .loop-test .taken, c .before .before .before .before .before)
+
+quiet-at-requires : tie.Need-quiet-at-requires Inv-loop μ-loop
+quiet-at-requires c κs = omega (arith, c .before .before .before .before .before .pre .1, c .loop-test .taken)
+
+same-length : tie.Need-same-length Inv-loop μ-loop
+same-length c = c .before .before .before .loop .inv .sized
+
+returns-2 : tie.Need-returns-2 Inv-loop μ-loop
+returns-2 c = c .before .before .before .loop .inv
+
+slice-write-outcomes : tie.Need-slice-write-outcomes Inv-loop μ-loop
+slice-write-outcomes c = omega (arith, c .before .before .before .before .before .before .before .pre .2, c .before .before .loop-test .taken, c .before .before .before .loop .inv .sized)
+
+add-i : tie.Need-add-i Inv-loop μ-loop
+add-i c = omega (arith, c .before .before .before .before .before .before .before .pre .1, c .before .before .loop-test .taken, c .before .before .before .before .before .before .before)
+
+loop-less : tie.Need-loop-less Inv-loop μ-loop
+loop-less c = omega (arith, c .before .before .loop-test .taken)
+
+loop-again : tie.Need-loop-again Inv-loop μ-loop
+loop-again c =
+    let A = c .before .before .before .before .before .before .before .args in
+    let L = c .before .before .before .loop in
+    let i = L .i in
+    let both : (eqb (numberIn (A .calls .now) (6 * i) 2) 0 && eqb (numberIn (A .calls .now) (6 * i + 2) 2) (A .t)) ≡ true = sym (c .before .quiet-at .ensures) ∙ not-false _ (c .if2 .left) in
+    let here : (A .awake ≡ 0) × (numberIn (A .calls .now) (6 * i) 2 ≡ 0) × (numberIn (A .calls .now) (6 * i + 2) 2 ≡ A .t) = (c .before .before .before .before .if1 .left, eqb-true _ 0 (and-left _ _ both), eqb-true _ (A .t) (and-right (eqb (numberIn (A .calls .now) (6 * i) 2) 0) _ both)) in
+    let at : (k : ℕ) → A .from ≤ k → Cmp k i → k < i + 1 → (A .awake ≡ 0) × (numberIn (A .calls .now) (6 * k) 2 ≡ 0) × (numberIn (A .calls .now) (6 * k + 2) 2 ≡ A .t) = λ k a o b. more-quiet (A .calls .now) (A .from) (A .awake) (A .t) i (L .inv .quiet) here k a b o in
+    record {
+      on = omega (arith, L .inv .on);
+      most = omega (arith, c .before .before .loop-test .taken);
+      sized = length-set (L .outcomes) i 0 ∙ L .inv .sized;
+      quiet = λ k a b. at k a (cmp k i) b;
+      stored = λ text out a b f e. store-turn out (L .outcomes) text i 0 (omega arith) (omega arith) (L .inv .stored text out (omega arith) (omega arith) (λ k x y. f k x (omega arith)) e) (sym (f i (L .inv .on) (omega arith)));
+    }
+  where
+    more-quiet : (calls : _) (from awake t i : ℕ) → ((k : ℕ) → from ≤ k → k < i → (awake ≡ 0) × (numberIn calls (6 * k) 2 ≡ 0) × (numberIn calls (6 * k + 2) 2 ≡ t)) → (awake ≡ 0) × (numberIn calls (6 * i) 2 ≡ 0) × (numberIn calls (6 * i + 2) 2 ≡ t) → (k : ℕ) → from ≤ k → k < i + 1 → Cmp k i → (awake ≡ 0) × (numberIn calls (6 * k) 2 ≡ 0) × (numberIn calls (6 * k + 2) 2 ≡ t)
+    more-quiet calls from awake t i q h k a b (less r) = q k a r
+    more-quiet calls from awake t i q h k a b (same r) = rw r h
+    more-quiet calls from awake t i q h k a b (more r) = absurd (omega arith)
+
+same-length-2 : tie.Need-same-length-2 Inv-loop μ-loop
+same-length-2 c = c .before .loop .inv .sized
+
+returns-3 : tie.Need-returns-3 Inv-loop μ-loop
+returns-3 c = c .before .loop .inv
+
+pub skip-spec : {M : Type 1} → statement M
+skip-spec =
+    tie.close
+    (tie.spec
+    Inv-loop
+    μ-loop
+    returns
+    loop-holds
+    mul-quiet-at
+    quiet-at-requires
+    same-length
+    returns-2
+    slice-write-outcomes
+    add-i
+    loop-less
+    loop-again
+    same-length-2
+    returns-3)

@@ -120,13 +120,7 @@ kept-rule d m g e u p = go (ltb u (d .«source_count»)) refl (eqb (fastestAt m 
         let r : (eqb (ageAt m u) 0 && eqb (fastestAt m u) 0) ≡ true = rw x at rule in
         absurd (not-both (and-right (eqb (ageAt m u) 0) _ r) y)
 
--- a tick that counts and does no more
-pub rested : (mask awake t peak : ℕ) → (eqb mask 0 && (eqb awake 0 && (leb 200 t && leb t peak))) ≡ true → (mask ≡ 0) × (awake ≡ 0) × (200 ≤ t) × (t ≤ peak)
-rested mask awake t peak e =
-    let f : (eqb awake 0 && (leb 200 t && leb t peak)) ≡ true = and-right (eqb mask 0) _ e in
-    let g : (leb 200 t && leb t peak) ≡ true = and-right (eqb awake 0) _ f in
-    (eqb-true mask 0 (and-left (eqb mask 0) _ e), eqb-true awake 0 (and-left (eqb awake 0) _ f), leb-true 200 t (and-left (leb 200 t) _ g), leb-true t peak (and-right (leb 200 t) _ g))
-
+-- a tempo up to the fastest given is on the knob
 pub rests-on : (t peak : ℕ) → 200 ≤ t → t ≤ peak → peak ≤ 3000 → onKnob t ≡ true
 rests-on t peak a b c = both (leb 200 t) (leb t 3000) (le-leb 200 t a) (le-leb t 3000 (omega arith))
 
@@ -374,6 +368,3 @@ answer-tracks d used since fastest r o w m p e q h =
 
 pub answer-tick : (r : Advanced) (o : Outcome) (w : Words) → r ≡ record { outcome = o; words = w } → r .words .tick ≡ w .tick
 answer-tick r o w e = ap (λ (x : Advanced). x .words .tick) e
-
-pub answer-words : (d : Description) (used since : List ℕ) (m : Machine) (r : Advanced) (o : Outcome) (w : Words) → r ≡ record { outcome = o; words = w } → Holds d w used since m → Holds d (r .words) used since m
-answer-words d used since m r o w e h = subst (λ (k : Words). Holds d k used since m) (sym (ap (λ (x : Advanced). x .words) e)) h

@@ -36,7 +36,7 @@ module _ (d : Description) (g : WellFormed d) (j : judge d ≡ Done) (bytes : Li
   before i = left d (idle d) (take i cs)
 
   -- one such call
-  module _ (w : Words) (i : ℕ) (h : i < length bytes / 6) (z : w .awake ≡ 0) (e : numberIn bytes (6 * i) 2 ≡ 0) (t : numberIn bytes (6 * i + 2) 2 ≡ w .peak) (R : Tracks d w used since fastest (before i)) where
+  module _ (w : Words) (i : ℕ) (h : i < length bytes / 6) (z : w .awake ≡ 0) (e : numberIn bytes (6 * i) 2 ≡ 0) (s : 200 ≤ numberIn bytes (6 * i + 2) 2) (t : numberIn bytes (6 * i + 2) 2 ≤ w .peak) (R : Tracks d w used since fastest (before i)) where
     abbrev c : Call
     c = callIn bytes i
 
@@ -44,7 +44,7 @@ module _ (d : Description) (g : WellFormed d) (j : judge d ≡ Done) (bytes : Li
     mask = numberIn bytes (6 * i) 2
 
     on : onKnob (c .tempo) ≡ true
-    on = rests-on (c .tempo) (w .peak) (omega (arith, t, R .keeps .least)) (omega (arith, t)) (R .keeps .high)
+    on = rests-on (c .tempo) (w .peak) s t (R .keeps .high)
 
     done : record { outcome = Done; machine = stepped d (c .tempo) (marksIn mask) (c .finish) (before i) } ≡ plainTick d (c .tempo) (before i) (record { marks = marksIn mask }) (c .finish)
     done = tick-done d (c .tempo) mask (before i) (c .finish) (judged-at d (c .tempo) j on) (kept d (take i cs) (before i) g refl) (sym (end-none d (c .tempo) mask (before i) (strangers-none d mask (silent-known d mask g e)) (silent-soon d (c .tempo) mask (before i) g e)))
@@ -69,7 +69,7 @@ module _ (d : Description) (g : WellFormed d) (j : judge d ≡ Done) (bytes : Li
   -- k of them
   module _ (w : Words) (from : ℕ) (z : w .awake ≡ 0) (R : Tracks d w used since fastest (before from)) where
     abbrev Quiet : ℕ → Type 0
-    Quiet k = (i : ℕ) → from ≤ i → i < from + k → (numberIn bytes (6 * i) 2 ≡ 0) × (numberIn bytes (6 * i + 2) 2 ≡ w .peak)
+    Quiet k = (i : ℕ) → from ≤ i → i < from + k → (numberIn bytes (6 * i) 2 ≡ 0) × (200 ≤ numberIn bytes (6 * i + 2) 2) × (numberIn bytes (6 * i + 2) 2 ≤ w .peak)
 
     pub some-on : (k : ℕ) → from + k ≤ length bytes / 6 → Quiet k → Tracks d (laterBy k w) used since fastest (before (from + k))
     some-on zero h q =
@@ -84,7 +84,7 @@ module _ (d : Description) (g : WellFormed d) (j : judge d ≡ Done) (bytes : Li
         let b : w .tick + k + 1 ≡ w .tick + suc k = omega arith in
         let ih : Tracks d (laterBy k w) used since fastest (before (from + k)) = some-on k (omega arith) (λ i x y. q i x (omega arith)) in
         let s = q (from + k) (omega arith) (omega arith) in
-        subst (λ n. Tracks d (at n) used since fastest (before (from + suc k))) b (subst (λ n. Tracks d (laterBy 1 (laterBy k w)) used since fastest (before n)) a (one-on (laterBy k w) (from + k) (omega arith) z (s .0) (s .1) ih))
+        subst (λ n. Tracks d (at n) used since fastest (before (from + suc k))) b (subst (λ n. Tracks d (laterBy 1 (laterBy k w)) used since fastest (before n)) a (one-on (laterBy k w) (from + k) (omega arith) z (s .0) (s .1) (s .2) ih))
       where
         at : ℕ → Words
         at n = record { awake = w .awake; waiting = w .waiting; dropped = w .dropped; tick = n; low = w .low; peak = w .peak }
@@ -94,10 +94,10 @@ module _ (d : Description) (g : WellFormed d) (j : judge d ≡ Done) (bytes : Li
         let n : ℕ = i - from in
         let a : from + n ≡ i = omega arith in
         let s = q i x y in
-        one-code (laterBy n w) i (omega arith) z (s .0) (s .1) (subst (λ v. Tracks d (laterBy n w) used since fastest (before v)) a (some-on n (omega arith) (λ l u v. q l u (omega arith))))
+        one-code (laterBy n w) i (omega arith) z (s .0) (s .1) (s .2) (subst (λ v. Tracks d (laterBy n w) used since fastest (before v)) a (some-on n (omega arith) (λ l u v. q l u (omega arith))))
 
 -- the calls from i + 1 up to r are passed
-pub passed-on : (d : Description) → WellFormed d → judge d ≡ Done → (bytes used since fastest : List ℕ) (w : Words) (i r : ℕ) → i + 1 ≤ r → r ≤ length bytes / 6 → ((k : ℕ) → i + 1 ≤ k → k < r → (w .awake ≡ 0) × (numberIn bytes (6 * k) 2 ≡ 0) × (numberIn bytes (6 * k + 2) 2 ≡ w .peak)) → Tracks d w used since fastest (left d (idle d) (take (i + 1) (callsIn bytes)))
+pub passed-on : (d : Description) → WellFormed d → judge d ≡ Done → (bytes used since fastest : List ℕ) (w : Words) (i r : ℕ) → i + 1 ≤ r → r ≤ length bytes / 6 → ((k : ℕ) → i + 1 ≤ k → k < r → (w .awake ≡ 0) × (numberIn bytes (6 * k) 2 ≡ 0) × (200 ≤ numberIn bytes (6 * k + 2) 2) × (numberIn bytes (6 * k + 2) 2 ≤ w .peak)) → Tracks d w used since fastest (left d (idle d) (take (i + 1) (callsIn bytes)))
     → Tracks d (laterBy (r - i - 1) w) used since fastest (left d (idle d) (take r (callsIn bytes))) × ((k : ℕ) → i + 1 ≤ k → k < r → getD (page d (callsIn bytes)) k 0 ≡ 0)
 passed-on d g j bytes used since fastest w i r h most q R = go (cmp (i + 1) r)
   where
@@ -107,8 +107,8 @@ passed-on d g j bytes used since fastest w i r h most q R = go (cmp (i + 1) r)
     to : i + 1 + n ≡ r
     to = omega arith
 
-    quiet : (k : ℕ) → i + 1 ≤ k → k < i + 1 + n → (numberIn bytes (6 * k) 2 ≡ 0) × (numberIn bytes (6 * k + 2) 2 ≡ w .peak)
-    quiet k a b = let s = q k a (omega (arith, to)) in (s .1, s .2)
+    quiet : (k : ℕ) → i + 1 ≤ k → k < i + 1 + n → (numberIn bytes (6 * k) 2 ≡ 0) × (200 ≤ numberIn bytes (6 * k + 2) 2) × (numberIn bytes (6 * k + 2) 2 ≤ w .peak)
+    quiet k a b = let s = q k a (omega (arith, to)) in (s .1, s .2, s .3)
 
     some : w .awake ≡ 0 → Tracks d (laterBy (r - i - 1) w) used since fastest (left d (idle d) (take r (callsIn bytes))) × ((k : ℕ) → i + 1 ≤ k → k < r → getD (page d (callsIn bytes)) k 0 ≡ 0)
     some z = (subst (λ x. Tracks d (laterBy n w) used since fastest (left d (idle d) (take x (callsIn bytes)))) to (some-on d g j bytes used since fastest w (i + 1) z R n (omega (arith, to)) quiet), λ k a b. some-code d g j bytes used since fastest w (i + 1) z R n (omega (arith, to)) quiet k a (omega (arith, to)))

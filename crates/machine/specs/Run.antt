@@ -17,12 +17,12 @@ use Rattle.spacings.specs.declared.Sources.{Sources}
 use Rattle.spacings.specs.Sources.{SourcesOf}
 use Rattle.spacings.specs.Gaps.{GapsOf}
 
--- calls that are passed: no task is awake, nothing comes, the tempo is t, and their codes are 0
-pub record Skips (calls : List ℕ) (from n awake t : ℕ) (outcomes : List ℕ) (r : ℕ) (outcomes′ : List ℕ) : Type 0 where
+-- calls that are passed: no task is awake, nothing comes, the tempo is one of the knob up to the fastest given, and their codes are 0
+pub record Skips (calls : List ℕ) (from n awake peak : ℕ) (outcomes : List ℕ) (r : ℕ) (outcomes′ : List ℕ) : Type 0 where
   pub on : from ≤ r
   pub most : r ≤ n
   pub sized : length outcomes′ ≡ length outcomes
-  pub quiet : (k : ℕ) → from ≤ k → k < r → (awake ≡ 0) × (numberIn calls (6 * k) 2 ≡ 0) × (numberIn calls (6 * k + 2) 2 ≡ t)
+  pub quiet : (k : ℕ) → from ≤ k → k < r → (awake ≡ 0) × (numberIn calls (6 * k) 2 ≡ 0) × (200 ≤ numberIn calls (6 * k + 2) 2) × (numberIn calls (6 * k + 2) 2 ≤ peak)
   pub stored : (text out₀ : List ℕ) → r ≤ length text → r ≤ length out₀ → ((k : ℕ) → from ≤ k → k < r → getD text k 0 ≡ 0)
       → outcomes ≡ take from text ++ drop from out₀ → outcomes′ ≡ take r text ++ drop r out₀
 

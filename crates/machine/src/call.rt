@@ -12,9 +12,8 @@ use steps::step::work;
 use steps::words::Words;
 ghost use mathlib.Core.Path.{_≡_};
 ghost use Prim.Native.Nat.{_+_, _≤_, _<_, _/_, _^_};
-ghost use mathlib.Core.Bool.{_&&_};
-ghost use lib.Dec.{ltb, leb, eqb};
-ghost use Rattle.model.specs.declared.Outcome.the-variants.{Done, Refused};
+ghost use lib.Dec.{ltb};
+ghost use Rattle.model.specs.declared.Outcome.the-variants.{Refused};
 ghost use Rattle.steps.specs.Words.{Workable};
 ghost use Rattle.machine.specs.Calls.{Timed, SoonIs, RunsOn, Going, Advances};
 
@@ -84,21 +83,6 @@ fn refused(why: Refusal, words: Words) -> Advanced
     Advanced { outcome, words }
 }
 
-// A call that is done leaves other words.
-fn done(words: Words) -> Advanced
-    ensures { λ r. ⌜ r ≡ record { outcome = Done; words = words } ⌝ }
-{
-    let outcome = Outcome::Done;
-    Advanced { outcome, words }
-}
-
-// Whether nothing comes, no task is awake, and the tempo is one of the knob up to the fastest given: such a tick counts and does no more.
-fn rests(mask: u64, awake: u64, t: u32, peak: u32) -> bool
-    ensures { λ r. ⌜ r ≡ (eqb mask 0 && (eqb awake 0 && (leb 200 t && leb t peak))) ⌝ }
-{
-    mask == 0 && (awake == 0 && (200 <= t && t <= peak))
-}
-
 // Steps 2 to 4 at tempo t, once the arrivals have fired.
 fn run_on<'a>(
     rows: &'a [u64; 576],
@@ -112,7 +96,9 @@ fn run_on<'a>(
     ensures { λ r. ⌜ RunsOn (now (rows .entry)) (now (runs .entry)) t finish w (now (used .entry)) r (now (used .exit)) ⌝ }
 {
     let worked = work(rows, runs, finish, w, used);
-    done(pass(t, worked))
+    let words = pass(t, worked);
+    let outcome = Outcome::Done;
+    Advanced { outcome, words }
 }
 
 // 11, 15 and 14 in this order, or else a tick. The record keeps the rules, so that 16 is not looked for.
@@ -136,9 +122,6 @@ pub fn advance<'a>(
     let mask = call.mask;
     let t = call.tempo;
     let finish = call.finish;
-    if rests(mask, w.awake, t, w.peak) {
-        return done(pass(t, w));
-    }
     if !on_knob(t) {
         return refused(Refusal::OffKnob, w);
     }

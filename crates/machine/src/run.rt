@@ -24,7 +24,7 @@ ghost use mathlib.Core.Path.{_≡_};
 ghost use mathlib.Core.Bool.{_&&_};
 ghost use Prim.Native.Nat.{_+_, _*_, _≤_, _<_, _^_};
 ghost use lib.ListN.{length};
-ghost use lib.Dec.{eqb};
+ghost use lib.Dec.{leb, eqb};
 ghost use Rattle.model.specs.Field.{numberIn};
 ghost use Rattle.model.specs.declared.Outcome.the-variants.{Done};
 ghost use Rattle.model.specs.File.{judge};
@@ -58,28 +58,30 @@ fn tempo_of(t: u16) -> u32
     t as u32
 }
 
-// Whether nothing comes in a call, and its tempo is t.
-fn quiet_at(calls: &[u8], at: usize, t: u32) -> bool
+// Whether nothing comes in a call, and its tempo is one of the knob up to the fastest given.
+fn quiet_at(calls: &[u8], at: usize, peak: u32) -> bool
     requires { ⌜ at + 4 ≤ length (now calls) ⌝ }
-    ensures { λ r. ⌜ r ≡ (eqb (numberIn (now (calls .entry)) at 2) 0 && eqb (numberIn (now (calls .entry)) (at + 2) 2) t) ⌝ }
+    ensures { λ r. ⌜ r ≡ (eqb (numberIn (now (calls .entry)) at 2) 0 && (leb 200 (numberIn (now (calls .entry)) (at + 2) 2) && leb (numberIn (now (calls .entry)) (at + 2) 2) peak)) ⌝ }
 {
     if half_at(calls, at) != 0 {
         return false;
     }
-    tempo_of(half_at(calls, at + 2)) == t
+    let t = tempo_of(half_at(calls, at + 2));
+    200 <= t && t <= peak
 }
 
-// Where no task is awake, passes the calls from a place on in which nothing comes at tempo t: their codes are 0. The place of the first other one.
-fn skip(calls: &[u8], from: usize, n: usize, awake: u64, t: u32, outcomes: &mut [u8]) -> usize
+// Where no task is awake, passes the calls from a place on in which nothing comes and no faster tempo is given: each is a tick that only counts, and
+// its code is 0. The place of the first other one.
+fn skip(calls: &[u8], from: usize, n: usize, awake: u64, peak: u32, outcomes: &mut [u8]) -> usize
     requires { ⌜ (from ≤ n) × (6 * n ≤ length (now calls)) × (n ≤ length (now outcomes)) ⌝ }
-    ensures { λ r. ⌜ Skips (now (calls .entry)) from n awake t (now (outcomes .entry)) r (now (outcomes .exit)) ⌝ }
+    ensures { λ r. ⌜ Skips (now (calls .entry)) from n awake peak (now (outcomes .entry)) r (now (outcomes .exit)) ⌝ }
 {
     let mut i = from;
     if awake != 0 {
         return i;
     }
     while i < n {
-        if !quiet_at(calls, 6 * i, t) {
+        if !quiet_at(calls, 6 * i, peak) {
             return i;
         }
         outcomes[i] = 0;

@@ -1,4 +1,4 @@
--- `advance` meets its contract: a tick that only counts, a tempo off the knob, a tick without arrivals, a stranger, a source that comes too soon, or arrivals and the steps after them.
+-- `advance` meets its contract: a tempo off the knob, a tick without arrivals, a stranger, a source that comes too soon, or arrivals and the steps after them.
 -- Assumes nothing.
 use Prim.Native.Nat.{_≤_}
 use mathlib.Core.Path.{_≡_, sym, ap, subst, _∙_}
@@ -7,58 +7,48 @@ use native.Mathlib.Omega.{arith}
 use borrow.Author.Tests.{not-true, not-false}
 use Rattle.model.specs.declared.Machine.{Machine}
 use Rattle.model.specs.declared.Ticked.{Ticked}
-use Rattle.model.specs.declared.Outcome.the-variants.{Done, Refused}
+use Rattle.model.specs.declared.Outcome.the-variants.{Refused}
 use Rattle.model.specs.declared.Refusal.the-variants.{OffKnob, TooSoon, Stranger}
 use Rattle.model.specs.Verdicts.{onKnob}
 use Rattle.model.specs.Machine.{arrive, ageAll}
 use Rattle.model.specs.Run.{marksIn}
 use Rattle.lemmas.proofs.Tests.{within}
 use Rattle.steps.specs.Words.{Holds, worked}
-use Rattle.steps.proofs.StepLaws.{work-none}
-use Rattle.machine.specs.declared.call.Advanced.{Advanced}
 use Rattle.machine.specs.Calls.{Tracks}
-use Rattle.machine.proofs.CallLaws.{known, strangers-none, strangers-some, workable, timed, judged-at, tick-off, tick-refused, tick-done, end-stranger, end-soon, end-none, silent-known, silent-soon, silent-arrive, silent-keeps, arrived-keeps, tracked, answer-ends, answer-tracks, answer-tick, answer-words, rested, rests-on}
+use Rattle.machine.proofs.CallLaws.{known, strangers-none, strangers-some, workable, timed, judged-at, tick-off, tick-refused, tick-done, end-stranger, end-soon, end-none, silent-known, silent-soon, silent-arrive, silent-keeps, arrived-keeps, tracked, answer-ends, answer-tracks, answer-tick}
 use borrow.Author.Needs.{needs}
 use Rattle.machine.proofs.call.advance.Statement.{statement}
 use Rattle.machine.proofs.call.advance.Tie as tie
-
-rests-requires : tie.Need-rests-requires
-rests-requires c κs = search needs
-
-pass-requires : tie.Need-pass-requires
-pass-requires c κs = c .before .before .pre .early
-
-done-requires : tie.Need-done-requires
-done-requires c κs = search needs
-
-returns : tie.Need-returns
-returns c =
-    let A = c .before .before .before .before .args in
-    let w = A .w in
-    let t = A .call .tempo in
-    let mask = A .call .mask in
-    let finish = A .call .finish in
-    let v = c .before .pass in
-    let r = c .done in
-    let still = rested mask (w .awake) t (w .peak) (sym (c .before .before .before .rests .ensures) ∙ c .before .before .if1 .taken) in
-    let e : mask ≡ 0 = still .0 in
-    let on : onKnob t ≡ true = rests-on t (w .peak) (still .2) (still .3) (c .before .before .before .before .pre .tracks .keeps .high) in
-    let then = answer-tick (r .result) Done (v .result) (r .ensures) in
-    record {
-      ends = λ d m T j l R. ap (λ (x : Advanced). x .outcome) (r .ensures) ∙ ap (λ (x : Ticked). x .outcome) (tick-done d t mask m finish (judged-at d t j on) l (sym (end-none d t mask m (strangers-none d mask (silent-known d mask (T .formed) e)) (silent-soon d t mask m (T .formed) e))));
-      leaves = λ d m T j l R.
-          subst (λ (k : Machine). Tracks d (r .result .words) (A .used .now) (A .since .now) (A .fastest .now) k) (ap (λ (x : Ticked). x .machine) (tick-done d t mask m finish (judged-at d t j on) l (sym (end-none d t mask m (strangers-none d mask (silent-known d mask (T .formed) e)) (silent-soon d t mask m (T .formed) e)))))
-          (tracked d t mask finish w w (r .result .words) (A .used .now) (A .used .now) (A .since .now) (A .since .now) (A .fastest .now) (A .fastest .now) m (T .formed) (within 200 t 3000 on .1) R (silent-keeps t mask w (A .fastest .now) m e (R .keeps)) (ap (λ (x : Advanced). x .words .low) (r .ensures) ∙ v .ensures .low) (ap (λ (x : Advanced). x .words .peak) (r .ensures) ∙ v .ensures .peak)
-          (subst (λ (k : Machine). Holds d (r .result .words) (A .used .now) (A .since .now) (ageAll d (worked d finish k))) (silent-arrive d mask m (T .formed) e) (answer-words d (A .used .now) (A .since .now) (ageAll d (worked d finish m)) (r .result) Done (v .result) (r .ensures) (v .ensures .passed d (A .used .now) (A .since .now) (worked d finish m) (T .formed) (work-none d w (A .used .now) (A .since .now) finish m (still .1) (R .holds))))));
-      asked = c .before .before .before .before .pre .asked;
-      soon = omega (arith, then, v .ensures .then);
-    }
 
 on-knob-requires : tie.Need-on-knob-requires
 on-knob-requires c κs = search needs
 
 refused-requires : tie.Need-refused-requires
 refused-requires c κs = search needs
+
+returns : tie.Need-returns
+returns c =
+    let A = c .before .before .before .args in
+    let w = A .w in
+    let t = A .call .tempo in
+    let mask = A .call .mask in
+    let finish = A .call .finish in
+    let r = c .refused in
+    let off : onKnob t ≡ false = sym (c .before .before .on-knob .ensures) ∙ not-true (c .before .before .on-knob .result) (c .before .if1 .taken) in
+    let soon = answer-tick (r .result) (Refused OffKnob 0) w (r .ensures) in
+    record {
+      ends = λ d m T j l R. answer-ends (r .result) (Refused OffKnob 0) w m _ (r .ensures) (tick-off d t m (record { marks = marksIn mask }) finish j off);
+      leaves = λ d m T j l R. answer-tracks d (A .used .now) (A .since .now) (A .fastest .now) (r .result) (Refused OffKnob 0) w m _ (r .ensures) (tick-off d t m (record { marks = marksIn mask }) finish j off) R;
+      asked = c .before .before .before .pre .asked;
+      soon = omega (arith, soon);
+    }
+
+run-on-requires : tie.Need-run-on-requires
+run-on-requires c κs =
+    let A = c .before .before .before .before .args in
+    let p = c .before .before .before .before .pre in
+    let H = p .tracks .holds in
+    (workable (p .description) (A .w) (A .w) (A .used .now) (A .since .now) (A .since .now) (p .machine) (p .machine) (p .tables .formed) (p .keeps) H H, p .early)
 
 returns-2 : tie.Need-returns-2
 returns-2 c =
@@ -67,33 +57,9 @@ returns-2 c =
     let t = A .call .tempo in
     let mask = A .call .mask in
     let finish = A .call .finish in
-    let r = c .refused in
-    let off : onKnob t ≡ false = sym (c .before .before .on-knob .ensures) ∙ not-true (c .before .before .on-knob .result) (c .before .if2 .taken) in
-    let soon = answer-tick (r .result) (Refused OffKnob 0) w (r .ensures) in
-    record {
-      ends = λ d m T j l R. answer-ends (r .result) (Refused OffKnob 0) w m _ (r .ensures) (tick-off d t m (record { marks = marksIn mask }) finish j off);
-      leaves = λ d m T j l R. answer-tracks d (A .used .now) (A .since .now) (A .fastest .now) (r .result) (Refused OffKnob 0) w m _ (r .ensures) (tick-off d t m (record { marks = marksIn mask }) finish j off) R;
-      asked = c .before .before .before .before .before .pre .asked;
-      soon = omega (arith, soon);
-    }
-
-run-on-requires : tie.Need-run-on-requires
-run-on-requires c κs =
-    let A = c .before .before .before .before .before .before .args in
-    let p = c .before .before .before .before .before .before .pre in
-    let H = p .tracks .holds in
-    (workable (p .description) (A .w) (A .w) (A .used .now) (A .since .now) (A .since .now) (p .machine) (p .machine) (p .tables .formed) (p .keeps) H H, p .early)
-
-returns-3 : tie.Need-returns-3
-returns-3 c =
-    let A = c .before .before .before .before .before .before .before .args in
-    let w = A .w in
-    let t = A .call .tempo in
-    let mask = A .call .mask in
-    let finish = A .call .finish in
     let v = c .run-on in
-    let e : mask ≡ 0 = c .before .before .if3 .taken in
-    let on : onKnob t ≡ true = sym (c .before .before .before .before .on-knob .ensures) ∙ not-false (c .before .before .before .before .on-knob .result) (c .before .before .before .if2 .left) in
+    let e : mask ≡ 0 = c .before .before .if2 .taken in
+    let on : onKnob t ≡ true = sym (c .before .before .before .before .on-knob .ensures) ∙ not-false (c .before .before .before .before .on-knob .result) (c .before .before .before .if1 .left) in
     let used = v .last .1 .1 .1 .1 .1 .0 in
     record {
       ends = λ d m T j l R. v .ensures .done ∙ ap (λ (x : Ticked). x .outcome) (tick-done d t mask m finish (judged-at d t j on) l (sym (end-none d t mask m (strangers-none d mask (silent-known d mask (T .formed) e)) (silent-soon d t mask m (T .formed) e))));
@@ -101,31 +67,31 @@ returns-3 c =
           subst (λ (k : Machine). Tracks d (v .result .words) used (A .since .now) (A .fastest .now) k) (ap (λ (x : Ticked). x .machine) (tick-done d t mask m finish (judged-at d t j on) l (sym (end-none d t mask m (strangers-none d mask (silent-known d mask (T .formed) e)) (silent-soon d t mask m (T .formed) e)))))
           (tracked d t mask finish w w (v .result .words) (A .used .now) used (A .since .now) (A .since .now) (A .fastest .now) (A .fastest .now) m (T .formed) (within 200 t 3000 on .1) R (silent-keeps t mask w (A .fastest .now) m e (R .keeps)) (v .ensures .low) (v .ensures .peak)
           (subst (λ (k : Machine). Holds d (v .result .words) used (A .since .now) (ageAll d (worked d finish k))) (silent-arrive d mask m (T .formed) e) (v .ensures .ran d (A .since .now) m (T .formed) (T .rowed) (T .same-runs) (R .holds))));
-      asked = c .before .before .before .before .before .before .before .pre .asked;
+      asked = c .before .before .before .before .before .pre .asked;
       soon = omega (arith, v .ensures .then);
     }
 
 above-requires : tie.Need-above-requires
-above-requires c κs = omega (arith, c .before .before .before .before .before .pre .tables .as-wide, c .before .before .before .before .before .pre .tables .formed .fields .few-sources)
+above-requires c κs = omega (arith, c .before .before .before .pre .tables .as-wide, c .before .before .before .pre .tables .formed .fields .few-sources)
 
 refused-requires-2 : tie.Need-refused-requires-2
 refused-requires-2 c κs = search needs
 
-returns-4 : tie.Need-returns-4
-returns-4 c =
-    let A = c .before .before .before .before .before .before .before .before .args in
+returns-3 : tie.Need-returns-3
+returns-3 c =
+    let A = c .before .before .before .before .before .before .args in
     let w = A .w in
     let t = A .call .tempo in
     let mask = A .call .mask in
     let finish = A .call .finish in
-    let few : A .sources ≤ 16 = omega (arith, c .before .before .before .before .before .before .before .before .pre .tables .as-wide, c .before .before .before .before .before .before .before .before .pre .tables .formed .fields .few-sources) in
+    let few : A .sources ≤ 16 = omega (arith, c .before .before .before .before .before .before .pre .tables .as-wide, c .before .before .before .before .before .before .pre .tables .formed .fields .few-sources) in
     let r = c .refused2 in
-    let on : onKnob t ≡ true = sym (c .before .before .before .before .before .on-knob .ensures) ∙ not-false (c .before .before .before .before .before .on-knob .result) (c .before .before .before .before .if2 .left) in
+    let on : onKnob t ≡ true = sym (c .before .before .before .before .before .on-knob .ensures) ∙ not-false (c .before .before .before .before .before .on-knob .result) (c .before .before .before .before .if1 .left) in
     let soon = answer-tick (r .result) (Refused Stranger 0) w (r .ensures) in
     record {
-      ends = λ d m T j l R. answer-ends (r .result) (Refused Stranger 0) w m _ (r .ensures) (tick-refused d t mask m finish Stranger 0 (judged-at d t j on) l (sym (end-stranger d t mask m (strangers-some d mask (A .sources) (T .as-wide) few (c .before .before .before .before .before .before .before .before .pre .fits) (c .before .before .before .before .before .before .before .before .pre .sourced) (λ z. c .before .if4 .taken (c .before .before .above .ensures ∙ z))))));
-      leaves = λ d m T j l R. answer-tracks d (A .used .now) (A .since .now) (A .fastest .now) (r .result) (Refused Stranger 0) w m _ (r .ensures) (tick-refused d t mask m finish Stranger 0 (judged-at d t j on) l (sym (end-stranger d t mask m (strangers-some d mask (A .sources) (T .as-wide) few (c .before .before .before .before .before .before .before .before .pre .fits) (c .before .before .before .before .before .before .before .before .pre .sourced) (λ z. c .before .if4 .taken (c .before .before .above .ensures ∙ z)))))) R;
-      asked = c .before .before .before .before .before .before .before .before .pre .asked;
+      ends = λ d m T j l R. answer-ends (r .result) (Refused Stranger 0) w m _ (r .ensures) (tick-refused d t mask m finish Stranger 0 (judged-at d t j on) l (sym (end-stranger d t mask m (strangers-some d mask (A .sources) (T .as-wide) few (c .before .before .before .before .before .before .pre .fits) (c .before .before .before .before .before .before .pre .sourced) (λ z. c .before .if3 .taken (c .before .before .above .ensures ∙ z))))));
+      leaves = λ d m T j l R. answer-tracks d (A .used .now) (A .since .now) (A .fastest .now) (r .result) (Refused Stranger 0) w m _ (r .ensures) (tick-refused d t mask m finish Stranger 0 (judged-at d t j on) l (sym (end-stranger d t mask m (strangers-some d mask (A .sources) (T .as-wide) few (c .before .before .before .before .before .before .pre .fits) (c .before .before .before .before .before .before .pre .sourced) (λ z. c .before .if3 .taken (c .before .before .above .ensures ∙ z)))))) R;
+      asked = c .before .before .before .before .before .before .pre .asked;
       soon = omega (arith, soon);
     }
 
@@ -134,76 +100,76 @@ larger-requires c κs = search needs
 
 too-soon-requires : tie.Need-too-soon-requires
 too-soon-requires c κs =
-    let A = c .before .before .before .before .before .before .before .before .before .before .before .before .args in
+    let A = c .before .before .before .before .before .before .before .before .before .before .args in
     let w = A .w in
     let t = A .call .tempo in
     let mask = A .call .mask in
     let finish = A .call .finish in
-    let p = c .before .before .before .before .before .before .before .before .before .before .before .before .pre in
-    let few : A .sources ≤ 16 = omega (arith, c .before .before .before .before .before .before .before .before .before .before .before .before .pre .tables .as-wide, c .before .before .before .before .before .before .before .before .before .before .before .before .pre .tables .formed .fields .few-sources) in
-    let on : onKnob t ≡ true = sym (c .before .before .before .before .before .before .before .before .before .on-knob .ensures) ∙ not-false (c .before .before .before .before .before .before .before .before .before .on-knob .result) (c .before .before .before .before .before .before .before .before .if2 .left) in
-    timed (p .description) t mask (c .before .before .before .before .larger .result) (A .sources) w (A .rows .now) (A .runs .now) (A .ticks .now) (A .pulses .now) (A .used .now) (A .since .now) (A .fastest .now) (A .tempos .now) (A .gaps .now) (p .machine) (p .tables) (p .tracks) (p .keeps) (p .early) (p .asked) (p .sourced) (known (p .description) mask (A .sources) (c .before .before .before .before .before .before .above .result) (p .tables .as-wide) few (c .before .before .before .before .before .before .above .ensures) (c .before .before .before .before .before .if4 .left)) on (c .before .before .before .before .larger .ensures)
+    let p = c .before .before .before .before .before .before .before .before .before .before .pre in
+    let few : A .sources ≤ 16 = omega (arith, c .before .before .before .before .before .before .before .before .before .before .pre .tables .as-wide, c .before .before .before .before .before .before .before .before .before .before .pre .tables .formed .fields .few-sources) in
+    let on : onKnob t ≡ true = sym (c .before .before .before .before .before .before .before .before .before .on-knob .ensures) ∙ not-false (c .before .before .before .before .before .before .before .before .before .on-knob .result) (c .before .before .before .before .before .before .before .before .if1 .left) in
+    timed (p .description) t mask (c .before .before .before .before .larger .result) (A .sources) w (A .rows .now) (A .runs .now) (A .ticks .now) (A .pulses .now) (A .used .now) (A .since .now) (A .fastest .now) (A .tempos .now) (A .gaps .now) (p .machine) (p .tables) (p .tracks) (p .keeps) (p .early) (p .asked) (p .sourced) (known (p .description) mask (A .sources) (c .before .before .before .before .before .before .above .result) (p .tables .as-wide) few (c .before .before .before .before .before .before .above .ensures) (c .before .before .before .before .before .if3 .left)) on (c .before .before .before .before .larger .ensures)
 
 refused-requires-3 : tie.Need-refused-requires-3
 refused-requires-3 c κs = search needs
 
-returns-5 : tie.Need-returns-5
-returns-5 c =
-    let A = c .before .before .before .before .before .before .before .before .before .before .before .before .before .before .before .args in
+returns-4 : tie.Need-returns-4
+returns-4 c =
+    let A = c .before .before .before .before .before .before .before .before .before .before .before .before .before .args in
     let w = A .w in
     let t = A .call .tempo in
     let mask = A .call .mask in
     let finish = A .call .finish in
-    let few : A .sources ≤ 16 = omega (arith, c .before .before .before .before .before .before .before .before .before .before .before .before .before .before .before .pre .tables .as-wide, c .before .before .before .before .before .before .before .before .before .before .before .before .before .before .before .pre .tables .formed .fields .few-sources) in
+    let few : A .sources ≤ 16 = omega (arith, c .before .before .before .before .before .before .before .before .before .before .before .before .before .pre .tables .as-wide, c .before .before .before .before .before .before .before .before .before .before .before .before .before .pre .tables .formed .fields .few-sources) in
     let r = c .refused3 in
-    let on : onKnob t ≡ true = sym (c .before .before .before .before .before .before .before .before .before .before .before .before .on-knob .ensures) ∙ not-false (c .before .before .before .before .before .before .before .before .before .before .before .before .on-knob .result) (c .before .before .before .before .before .before .before .before .before .before .before .if2 .left) in
+    let on : onKnob t ≡ true = sym (c .before .before .before .before .before .before .before .before .before .before .before .before .on-knob .ensures) ∙ not-false (c .before .before .before .before .before .before .before .before .before .before .before .before .on-knob .result) (c .before .before .before .before .before .before .before .before .before .before .before .if1 .left) in
     let soon = answer-tick (r .result) (Refused TooSoon 0) w (r .ensures) in
     record {
       ends = λ d m T j l R.
-          let K = known d mask (A .sources) (c .before .before .before .before .before .before .before .before .before .above .result) (T .as-wide) few (c .before .before .before .before .before .before .before .before .before .above .ensures) (c .before .before .before .before .before .before .before .before .if4 .left) in
-          answer-ends (r .result) (Refused TooSoon 0) w m _ (r .ensures) (tick-refused d t mask m finish TooSoon 0 (judged-at d t j on) l (sym (end-soon d t mask m (strangers-none d mask K) (sym (c .before .before .too-soon .ensures .told d t (A .sources) w m (T .formed) (T .same-sources) K l (R .holds .ages) (R .keeps) (c .before .before .before .before .before .before .before .larger .ensures) (within 200 t 3000 on .0)) ∙ c .before .if5 .taken))));
+          let K = known d mask (A .sources) (c .before .before .before .before .before .before .before .before .before .above .result) (T .as-wide) few (c .before .before .before .before .before .before .before .before .before .above .ensures) (c .before .before .before .before .before .before .before .before .if3 .left) in
+          answer-ends (r .result) (Refused TooSoon 0) w m _ (r .ensures) (tick-refused d t mask m finish TooSoon 0 (judged-at d t j on) l (sym (end-soon d t mask m (strangers-none d mask K) (sym (c .before .before .too-soon .ensures .told d t (A .sources) w m (T .formed) (T .same-sources) K l (R .holds .ages) (R .keeps) (c .before .before .before .before .before .before .before .larger .ensures) (within 200 t 3000 on .0)) ∙ c .before .if4 .taken))));
       leaves = λ d m T j l R.
-          let K = known d mask (A .sources) (c .before .before .before .before .before .before .before .before .before .above .result) (T .as-wide) few (c .before .before .before .before .before .before .before .before .before .above .ensures) (c .before .before .before .before .before .before .before .before .if4 .left) in
-          answer-tracks d (A .used .now) (A .since .now) (A .fastest .now) (r .result) (Refused TooSoon 0) w m _ (r .ensures) (tick-refused d t mask m finish TooSoon 0 (judged-at d t j on) l (sym (end-soon d t mask m (strangers-none d mask K) (sym (c .before .before .too-soon .ensures .told d t (A .sources) w m (T .formed) (T .same-sources) K l (R .holds .ages) (R .keeps) (c .before .before .before .before .before .before .before .larger .ensures) (within 200 t 3000 on .0)) ∙ c .before .if5 .taken)))) R;
+          let K = known d mask (A .sources) (c .before .before .before .before .before .before .before .before .before .above .result) (T .as-wide) few (c .before .before .before .before .before .before .before .before .before .above .ensures) (c .before .before .before .before .before .before .before .before .if3 .left) in
+          answer-tracks d (A .used .now) (A .since .now) (A .fastest .now) (r .result) (Refused TooSoon 0) w m _ (r .ensures) (tick-refused d t mask m finish TooSoon 0 (judged-at d t j on) l (sym (end-soon d t mask m (strangers-none d mask K) (sym (c .before .before .too-soon .ensures .told d t (A .sources) w m (T .formed) (T .same-sources) K l (R .holds .ages) (R .keeps) (c .before .before .before .before .before .before .before .larger .ensures) (within 200 t 3000 on .0)) ∙ c .before .if4 .taken)))) R;
       asked = c .before .before .too-soon .ensures .asked;
       soon = omega (arith, soon);
     }
 
 arrive-requires : tie.Need-arrive-requires
-arrive-requires c κs = let p = c .before .before .before .before .before .before .before .before .before .before .before .before .before .before .before .before .pre in (p .sourced, p .tracks .holds .ages .many, p .tracks .keeps .many)
+arrive-requires c κs = let p = c .before .before .before .before .before .before .before .before .before .before .before .before .before .before .pre in (p .sourced, p .tracks .holds .ages .many, p .tracks .keeps .many)
 
 run-on-requires-2 : tie.Need-run-on-requires-2
 run-on-requires-2 c κs =
-    let A = c .before .before .before .before .before .before .before .before .before .before .before .before .before .before .before .before .before .before .args in
-    let p = c .before .before .before .before .before .before .before .before .before .before .before .before .before .before .before .before .before .before .pre in
+    let A = c .before .before .before .before .before .before .before .before .before .before .before .before .before .before .before .before .args in
+    let p = c .before .before .before .before .before .before .before .before .before .before .before .before .before .before .before .before .pre in
     let mask = A .call .mask in
-    let few : A .sources ≤ 16 = omega (arith, c .before .before .before .before .before .before .before .before .before .before .before .before .before .before .before .before .before .before .pre .tables .as-wide, c .before .before .before .before .before .before .before .before .before .before .before .before .before .before .before .before .before .before .pre .tables .formed .fields .few-sources) in
+    let few : A .sources ≤ 16 = omega (arith, c .before .before .before .before .before .before .before .before .before .before .before .before .before .before .before .before .pre .tables .as-wide, c .before .before .before .before .before .before .before .before .before .before .before .before .before .before .before .before .pre .tables .formed .fields .few-sources) in
     let d = p .description in
     let T = p .tables in
     let a = c .before .arrive in
-    (workable d (A .w) (a .result) (A .used .now) (A .since .now) (a .last .1 .1 .1 .1 .1 .0) (p .machine) (arrive d (marksIn mask) (p .machine)) (T .formed) (p .keeps) (p .tracks .holds) (a .ensures .arrived d (A .used .now) (p .machine) (T .formed) (T .rowed) (known d mask (A .sources) (c .before .before .before .before .before .before .before .before .before .before .before .before .above .result) (T .as-wide) few (c .before .before .before .before .before .before .before .before .before .before .before .before .above .ensures) (c .before .before .before .before .before .before .before .before .before .before .before .if4 .left)) (p .tracks .holds)), omega (arith, p .early, a .ensures .then))
+    (workable d (A .w) (a .result) (A .used .now) (A .since .now) (a .last .1 .1 .1 .1 .1 .0) (p .machine) (arrive d (marksIn mask) (p .machine)) (T .formed) (p .keeps) (p .tracks .holds) (a .ensures .arrived d (A .used .now) (p .machine) (T .formed) (T .rowed) (known d mask (A .sources) (c .before .before .before .before .before .before .before .before .before .before .before .before .above .result) (T .as-wide) few (c .before .before .before .before .before .before .before .before .before .before .before .before .above .ensures) (c .before .before .before .before .before .before .before .before .before .before .before .if3 .left)) (p .tracks .holds)), omega (arith, p .early, a .ensures .then))
 
-returns-6 : tie.Need-returns-6
-returns-6 c =
-    let A = c .before .before .before .before .before .before .before .before .before .before .before .before .before .before .before .before .before .before .before .args in
+returns-5 : tie.Need-returns-5
+returns-5 c =
+    let A = c .before .before .before .before .before .before .before .before .before .before .before .before .before .before .before .before .before .args in
     let w = A .w in
     let t = A .call .tempo in
     let mask = A .call .mask in
     let finish = A .call .finish in
-    let few : A .sources ≤ 16 = omega (arith, c .before .before .before .before .before .before .before .before .before .before .before .before .before .before .before .before .before .before .before .pre .tables .as-wide, c .before .before .before .before .before .before .before .before .before .before .before .before .before .before .before .before .before .before .before .pre .tables .formed .fields .few-sources) in
+    let few : A .sources ≤ 16 = omega (arith, c .before .before .before .before .before .before .before .before .before .before .before .before .before .before .before .before .before .pre .tables .as-wide, c .before .before .before .before .before .before .before .before .before .before .before .before .before .before .before .before .before .pre .tables .formed .fields .few-sources) in
     let a = c .before .before .arrive in
     let v = c .run-on2 in
-    let on : onKnob t ≡ true = sym (c .before .before .before .before .before .before .before .before .before .before .before .before .before .before .before .before .on-knob .ensures) ∙ not-false (c .before .before .before .before .before .before .before .before .before .before .before .before .before .before .before .before .on-knob .result) (c .before .before .before .before .before .before .before .before .before .before .before .before .before .before .before .if2 .left) in
+    let on : onKnob t ≡ true = sym (c .before .before .before .before .before .before .before .before .before .before .before .before .before .before .before .before .on-knob .ensures) ∙ not-false (c .before .before .before .before .before .before .before .before .before .before .before .before .before .before .before .before .on-knob .result) (c .before .before .before .before .before .before .before .before .before .before .before .before .before .before .before .if1 .left) in
     let since = a .last .1 .1 .1 .1 .1 .0 in
     let fastest = a .last .1 .1 .1 .1 .1 .1 .0 in
     let used′ = v .last .1 .1 .1 .1 .1 .0 in
     record {
       ends = λ d m T j l R.
-          let K = known d mask (A .sources) (c .before .before .before .before .before .before .before .before .before .before .before .before .before .above .result) (T .as-wide) few (c .before .before .before .before .before .before .before .before .before .before .before .before .before .above .ensures) (c .before .before .before .before .before .before .before .before .before .before .before .before .if4 .left) in
-          v .ensures .done ∙ ap (λ (x : Ticked). x .outcome) (tick-done d t mask m finish (judged-at d t j on) l (sym (end-none d t mask m (strangers-none d mask K) (sym (c .before .before .before .before .before .before .too-soon .ensures .told d t (A .sources) w m (T .formed) (T .same-sources) K l (R .holds .ages) (R .keeps) (c .before .before .before .before .before .before .before .before .before .before .before .larger .ensures) (within 200 t 3000 on .0)) ∙ c .before .before .before .before .before .if5 .left))));
+          let K = known d mask (A .sources) (c .before .before .before .before .before .before .before .before .before .before .before .before .before .above .result) (T .as-wide) few (c .before .before .before .before .before .before .before .before .before .before .before .before .before .above .ensures) (c .before .before .before .before .before .before .before .before .before .before .before .before .if3 .left) in
+          v .ensures .done ∙ ap (λ (x : Ticked). x .outcome) (tick-done d t mask m finish (judged-at d t j on) l (sym (end-none d t mask m (strangers-none d mask K) (sym (c .before .before .before .before .before .before .too-soon .ensures .told d t (A .sources) w m (T .formed) (T .same-sources) K l (R .holds .ages) (R .keeps) (c .before .before .before .before .before .before .before .before .before .before .before .larger .ensures) (within 200 t 3000 on .0)) ∙ c .before .before .before .before .before .if4 .left))));
       leaves = λ d m T j l R.
-          let K = known d mask (A .sources) (c .before .before .before .before .before .before .before .before .before .before .before .before .before .above .result) (T .as-wide) few (c .before .before .before .before .before .before .before .before .before .before .before .before .before .above .ensures) (c .before .before .before .before .before .before .before .before .before .before .before .before .if4 .left) in
-          subst (λ (k : Machine). Tracks d (v .result .words) used′ since fastest k) (ap (λ (x : Ticked). x .machine) (tick-done d t mask m finish (judged-at d t j on) l (sym (end-none d t mask m (strangers-none d mask K) (sym (c .before .before .before .before .before .before .too-soon .ensures .told d t (A .sources) w m (T .formed) (T .same-sources) K l (R .holds .ages) (R .keeps) (c .before .before .before .before .before .before .before .before .before .before .before .larger .ensures) (within 200 t 3000 on .0)) ∙ c .before .before .before .before .before .if5 .left)))))
+          let K = known d mask (A .sources) (c .before .before .before .before .before .before .before .before .before .before .before .before .before .above .result) (T .as-wide) few (c .before .before .before .before .before .before .before .before .before .before .before .before .before .above .ensures) (c .before .before .before .before .before .before .before .before .before .before .before .before .if3 .left) in
+          subst (λ (k : Machine). Tracks d (v .result .words) used′ since fastest k) (ap (λ (x : Ticked). x .machine) (tick-done d t mask m finish (judged-at d t j on) l (sym (end-none d t mask m (strangers-none d mask K) (sym (c .before .before .before .before .before .before .too-soon .ensures .told d t (A .sources) w m (T .formed) (T .same-sources) K l (R .holds .ages) (R .keeps) (c .before .before .before .before .before .before .before .before .before .before .before .larger .ensures) (within 200 t 3000 on .0)) ∙ c .before .before .before .before .before .if4 .left)))))
           (tracked d t mask finish w (a .result) (v .result .words) (A .used .now) used′ (A .since .now) since (A .fastest .now) fastest m (T .formed) (within 200 t 3000 on .1) R (arrived-keeps t mask (c .before .before .before .before .before .before .before .before .before .before .before .larger .result) w (a .result) (A .fastest .now) fastest m (within 200 t 3000 on .0) (within 200 t 3000 on .1) (c .before .before .before .before .before .before .before .before .before .before .before .larger .ensures) (a .ensures .knob) (R .keeps) (a .ensures .many) (a .ensures .fired) (a .ensures .others)) (v .ensures .low) (v .ensures .peak)
           (v .ensures .ran d since (arrive d (marksIn mask) m) (T .formed) (T .rowed) (T .same-runs) (a .ensures .arrived d (A .used .now) m (T .formed) (T .rowed) K (R .holds))));
       asked = c .before .before .before .before .before .before .too-soon .ensures .asked;
@@ -214,22 +180,18 @@ pub advance-spec : {M : Type 1} → statement M
 advance-spec =
     tie.close
     (tie.spec
-    rests-requires
-    pass-requires
-    done-requires
-    returns
     on-knob-requires
     refused-requires
-    returns-2
+    returns
     run-on-requires
-    returns-3
+    returns-2
     above-requires
     refused-requires-2
-    returns-4
+    returns-3
     larger-requires
     too-soon-requires
     refused-requires-3
-    returns-5
+    returns-4
     arrive-requires
     run-on-requires-2
-    returns-6)
+    returns-5)

@@ -2,10 +2,11 @@
 use Prim.Native.Nat.{ℕ, _+_, _*_, _-_, _≤_, _<_}
 use mathlib.Core.Path.{_≡_, refl, sym, _∙_}
 use mathlib.Core.Bool.{true, _&&_}
+use mathlib.Core.List.{List}
 use native.Mathlib.Omega.{arith}
 use lib.ListN.{length, length-set}
-use lib.Dec.{eqb}
-use borrow.Author.Tests.{eqb-true, not-false}
+use lib.Dec.{eqb, leb}
+use borrow.Author.Tests.{eqb-true, leb-true, not-false}
 use Rattle.model.specs.Field.{numberIn}
 use Rattle.lemmas.proofs.Tests.{Cmp, less, same, more, cmp, and-left, and-right}
 use Rattle.machine.specs.Run.{Skips}
@@ -14,11 +15,20 @@ use borrow.Author.Needs.{needs}
 use Rattle.machine.proofs.run.skip.Statement.{statement}
 use Rattle.machine.proofs.run.skip.Tie as tie
 
+-- a call that is passed
+abbrev Quiet : List ℕ → ℕ → ℕ → ℕ → Type 0
+Quiet calls awake peak k = (awake ≡ 0) × (numberIn calls (6 * k) 2 ≡ 0) × (200 ≤ numberIn calls (6 * k + 2) 2) × (numberIn calls (6 * k + 2) 2 ≤ peak)
+
+more-quiet : (calls : List ℕ) (from awake peak i : ℕ) → ((k : ℕ) → from ≤ k → k < i → Quiet calls awake peak k) → Quiet calls awake peak i → (k : ℕ) → from ≤ k → k < i + 1 → Cmp k i → Quiet calls awake peak k
+more-quiet calls from awake peak i q h k a b (less r) = q k a r
+more-quiet calls from awake peak i q h k a b (same r) = rw r h
+more-quiet calls from awake peak i q h k a b (more r) = absurd (omega arith)
+
 abbrev Inv-loop : tie.InvT-loop
-Inv-loop calls from n awake t outcomes₀ i₀ outcomes i = Skips calls from n awake t outcomes₀ i outcomes
+Inv-loop calls from n awake peak outcomes₀ i₀ outcomes i = Skips calls from n awake peak outcomes₀ i outcomes
 
 abbrev μ-loop : tie.MeasureT-loop
-μ-loop calls from n awake t outcomes₀ i₀ outcomes i = n - i
+μ-loop calls from n awake peak outcomes₀ i₀ outcomes i = n - i
 
 returns : tie.Need-returns Inv-loop μ-loop
 returns c = record {
@@ -64,21 +74,17 @@ loop-again c =
     let A = c .before .before .before .before .before .before .before .args in
     let L = c .before .before .before .loop in
     let i = L .i in
-    let both : (eqb (numberIn (A .calls .now) (6 * i) 2) 0 && eqb (numberIn (A .calls .now) (6 * i + 2) 2) (A .t)) ≡ true = sym (c .before .quiet-at .ensures) ∙ not-false _ (c .if2 .left) in
-    let here : (A .awake ≡ 0) × (numberIn (A .calls .now) (6 * i) 2 ≡ 0) × (numberIn (A .calls .now) (6 * i + 2) 2 ≡ A .t) = (c .before .before .before .before .if1 .left, eqb-true _ 0 (and-left _ _ both), eqb-true _ (A .t) (and-right (eqb (numberIn (A .calls .now) (6 * i) 2) 0) _ both)) in
-    let at : (k : ℕ) → A .from ≤ k → Cmp k i → k < i + 1 → (A .awake ≡ 0) × (numberIn (A .calls .now) (6 * k) 2 ≡ 0) × (numberIn (A .calls .now) (6 * k + 2) 2 ≡ A .t) = λ k a o b. more-quiet (A .calls .now) (A .from) (A .awake) (A .t) i (L .inv .quiet) here k a b o in
+    let t = numberIn (A .calls .now) (6 * i + 2) 2 in
+    let both : (eqb (numberIn (A .calls .now) (6 * i) 2) 0 && (leb 200 t && leb t (A .peak))) ≡ true = sym (c .before .quiet-at .ensures) ∙ not-false _ (c .if2 .left) in
+    let on : (leb 200 t && leb t (A .peak)) ≡ true = and-right (eqb (numberIn (A .calls .now) (6 * i) 2) 0) _ both in
+    let here : Quiet (A .calls .now) (A .awake) (A .peak) i = (c .before .before .before .before .if1 .left, eqb-true _ 0 (and-left _ _ both), leb-true 200 t (and-left (leb 200 t) _ on), leb-true t (A .peak) (and-right (leb 200 t) _ on)) in
     record {
       on = omega (arith, L .inv .on);
       most = omega (arith, c .before .before .loop-test .taken);
       sized = length-set (L .outcomes) i 0 ∙ L .inv .sized;
-      quiet = λ k a b. at k a (cmp k i) b;
+      quiet = λ k a b. more-quiet (A .calls .now) (A .from) (A .awake) (A .peak) i (L .inv .quiet) here k a b (cmp k i);
       stored = λ text out a b f e. store-turn out (L .outcomes) text i 0 (omega arith) (omega arith) (L .inv .stored text out (omega arith) (omega arith) (λ k x y. f k x (omega arith)) e) (sym (f i (L .inv .on) (omega arith)));
     }
-  where
-    more-quiet : (calls : _) (from awake t i : ℕ) → ((k : ℕ) → from ≤ k → k < i → (awake ≡ 0) × (numberIn calls (6 * k) 2 ≡ 0) × (numberIn calls (6 * k + 2) 2 ≡ t)) → (awake ≡ 0) × (numberIn calls (6 * i) 2 ≡ 0) × (numberIn calls (6 * i + 2) 2 ≡ t) → (k : ℕ) → from ≤ k → k < i + 1 → Cmp k i → (awake ≡ 0) × (numberIn calls (6 * k) 2 ≡ 0) × (numberIn calls (6 * k + 2) 2 ≡ t)
-    more-quiet calls from awake t i q h k a b (less r) = q k a r
-    more-quiet calls from awake t i q h k a b (same r) = rw r h
-    more-quiet calls from awake t i q h k a b (more r) = absurd (omega arith)
 
 same-length-2 : tie.Need-same-length-2 Inv-loop μ-loop
 same-length-2 c = c .before .loop .inv .sized

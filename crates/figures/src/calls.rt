@@ -87,28 +87,21 @@ pub fn writes(t: Tally, d: Description, page: &mut [u8], number: usize, value: u
 }
 
 // A run of calls whose outcomes go to a buffer is done, number 0, or refused with a number.
-pub fn runs(
-    t: Tally,
-    d: Description,
-    tempo: u32,
-    calls: &[u8],
-    outcomes: &mut [u8],
-    number: usize,
-) -> Tally {
-    let ran = ticks::run(d, tempo, calls, outcomes);
+pub fn runs(t: Tally, d: Description, calls: &[u8], outcomes: &mut [u8], number: usize) -> Tally {
+    let ran = ticks::run(d, calls, outcomes);
     let outcome = ran.outcome;
     counted(t, is_outcome(outcome, number, 0))
 }
 
-// A start is done, number 0, or refused with a number; its first source has an age, and no task is awake.
-pub fn starts(t: Tally, d: Description, tempo: u32, number: usize, age: u32) -> Tally {
-    let s = ticks::start(d, tempo);
+// A start is done, number 0, or refused with a number; its first source has an age and no kept tempo, and no task is awake.
+pub fn starts(t: Tally, d: Description, number: usize, age: u32) -> Tally {
+    let s = ticks::start(d);
     let outcome = s.outcome;
     let m = s.machine;
     let asleep = !m.awake[0] && !m.awake[1];
     counted(
         t,
-        is_outcome(outcome, number, 0) && m.ages[0] == age && asleep,
+        is_outcome(outcome, number, 0) && m.ages[0] == age && m.fastest[0] == 0 && asleep,
     )
 }
 
@@ -134,15 +127,21 @@ pub fn ticks_once(
     counted(t, is_outcome(outcome, number, 0))
 }
 
-// A record one tick later.
+// A record after a tick at 20.0.
 pub fn later(d: Description, m: Machine, a: Arrivals, finish: bool) -> Machine {
     let r = ticks::advanced(d, 200, m, a, finish);
     r.machine
 }
 
-// The record after a start at 20.0.
+// A record after a tick at a tempo.
+pub fn later_at(d: Description, tempo: u32, m: Machine, a: Arrivals) -> Machine {
+    let r = ticks::advanced(d, tempo, m, a, false);
+    r.machine
+}
+
+// The record after a start.
 pub fn idle(d: Description) -> Machine {
-    let s = ticks::start(d, 200);
+    let s = ticks::start(d);
     s.machine
 }
 
@@ -152,4 +151,14 @@ pub fn shows(t: Tally, m: Machine, used: u32, age: u32, awake: bool) -> Tally {
         t,
         m.used[0] == used && m.ages[0] == age && m.awake[0] == awake,
     )
+}
+
+// Of a record the first two sources' ages.
+pub fn ages(t: Tally, m: Machine, first: u32, second: u32) -> Tally {
+    counted(t, m.ages[0] == first && m.ages[1] == second)
+}
+
+// Of a record the first two sources' kept tempos.
+pub fn keeps(t: Tally, m: Machine, first: u32, second: u32) -> Tally {
+    counted(t, m.fastest[0] == first && m.fastest[1] == second)
 }

@@ -193,12 +193,12 @@ pub fn longest(t: Tally, size: usize, number: usize) -> Tally {
     fills_front(t, &page, 1872, size, number)
 }
 
-// After a run of calls, four bytes each, the link at a place counted from 1 is dropped, or not.
+// After a run of calls, six bytes each, the link at a place counted from 1 is dropped, or not.
 pub fn drops(t: Tally, file: &[u8], calls: &[u8], place: usize, expected: bool) -> Tally {
     let r = files::read(file);
     let d = r.description;
     let mut outcomes = [0u8; 64];
-    let ran = ticks::run(d, 200, calls, &mut outcomes);
+    let ran = ticks::run(d, calls, &mut outcomes);
     let m = ran.machine;
     if place < 1 {
         return counted(t, false);
@@ -214,7 +214,7 @@ pub fn ticks(t: Tally, file: &[u8], calls: &[u8], k: usize, number: u8) -> Tally
     let r = files::read(file);
     let d = r.description;
     let mut outcomes = [255u8; 64];
-    ticks::run(d, 200, calls, &mut outcomes);
+    ticks::run(d, calls, &mut outcomes);
     if 64 <= k {
         return counted(t, false);
     }

@@ -1,6 +1,7 @@
 // The figures of document 01 and its change requests, document 000's printed example and published response times, run and compared. A line for each group says how many agree.
 
 use cases::Tally;
+use knob::Turn;
 use libc::STDOUT_FILENO;
 use model::Description;
 use model::Link;
@@ -11,6 +12,7 @@ use model::SourceSlot;
 mod build;
 mod calls;
 mod cases;
+mod knob;
 
 // Document 01's Box.
 const BOX: [u8; 57] =
@@ -209,7 +211,7 @@ fn swung_box() -> Tally {
     let t = calls::takes_field(t, &SWUNG_BOX, 21, 27);
     let t = cases::doubtful(t, &SWUNG_BOX, 1213, 3, 700);
     let t = calls::quotes(t, d, 0, 1212);
-    let t = calls::starts(t, d, 1200, 0, 708);
+    let t = calls::starts(t, d, 0, 4250);
     let mut straight = d;
     straight.sources[0] = SourceSlot {
         source: Source::Swung(480, 50),
@@ -241,6 +243,7 @@ fn swung_ticks() -> Tally {
     let t = calls::shows(cases::none(), m, 0, 1562, false);
     let t = calls::ticks_once(t, d, 200, m, first_source, 0);
     m.ages[0] = 1561;
+    m.fastest[0] = 200;
     let t = calls::ticks_once(t, d, 200, m, first_source, 14);
     m.ages[0] = 1563;
     calls::ticks_once(t, d, 200, m, first_source, 16)
@@ -421,14 +424,14 @@ fn marked_drop() -> Tally {
     let t = cases::drops(
         t,
         &twin(7),
-        b"\x00\x01\x00\x00\x00\x00\x00\x00\x00\x00\x00\x00\x00\x00\x00\x00\x00\x00\x00\x00\x00\x00\x00\x00\x00\x00\x00\x00\x00\x01\x00\x00\x00\x00\x00\x00\x00\x00\x00\x00\x00\x00\x00\x00\x00\x00\x00\x00\x00\x00\x00\x00\x00\x00\x00\x00\x00\x01\x00\x00\x00\x00\x00\x00\x00\x00\x00\x00\x00\x00\x00\x00\x00\x00\x00\x00\x00\x00\x00\x00\x00\x00\x00\x00",
+        b"\x00\x01\x00\xc8\x00\x00\x00\x00\x00\xc8\x00\x00\x00\x00\x00\xc8\x00\x00\x00\x00\x00\xc8\x00\x00\x00\x00\x00\xc8\x00\x00\x00\x00\x00\xc8\x00\x00\x00\x00\x00\xc8\x00\x00\x00\x01\x00\xc8\x00\x00\x00\x00\x00\xc8\x00\x00\x00\x00\x00\xc8\x00\x00\x00\x00\x00\xc8\x00\x00\x00\x00\x00\xc8\x00\x00\x00\x00\x00\xc8\x00\x00\x00\x00\x00\xc8\x00\x00\x00\x01\x00\xc8\x00\x00\x00\x00\x00\xc8\x00\x00\x00\x00\x00\xc8\x00\x00\x00\x00\x00\xc8\x00\x00\x00\x00\x00\xc8\x00\x00\x00\x00\x00\xc8\x00\x00\x00\x00\x00\xc8\x00\x00",
         3,
         false,
     );
     cases::drops(
         t,
         &twin(7),
-        b"\x00\x01\x00\x00\x00\x00\x00\x00\x00\x00\x00\x00\x00\x00\x00\x00\x00\x00\x00\x00\x00\x00\x00\x00\x00\x00\x00\x00\x00\x01\x00\x00\x00\x00\x00\x00\x00\x00\x00\x00\x00\x00\x00\x00\x00\x00\x00\x00\x00\x00\x00\x00\x00\x00\x00\x00\x00\x01\x00\x00\x00\x00\x00\x00\x00\x00\x00\x00\x00\x00\x00\x00\x00\x00\x00\x00\x00\x00\x00\x00\x00\x00\x00\x00\x00\x01\x00\x00",
+        b"\x00\x01\x00\xc8\x00\x00\x00\x00\x00\xc8\x00\x00\x00\x00\x00\xc8\x00\x00\x00\x00\x00\xc8\x00\x00\x00\x00\x00\xc8\x00\x00\x00\x00\x00\xc8\x00\x00\x00\x00\x00\xc8\x00\x00\x00\x01\x00\xc8\x00\x00\x00\x00\x00\xc8\x00\x00\x00\x00\x00\xc8\x00\x00\x00\x00\x00\xc8\x00\x00\x00\x00\x00\xc8\x00\x00\x00\x00\x00\xc8\x00\x00\x00\x00\x00\xc8\x00\x00\x00\x01\x00\xc8\x00\x00\x00\x00\x00\xc8\x00\x00\x00\x00\x00\xc8\x00\x00\x00\x00\x00\xc8\x00\x00\x00\x00\x00\xc8\x00\x00\x00\x00\x00\xc8\x00\x00\x00\x00\x00\xc8\x00\x00\x00\x01\x00\xc8\x00\x00",
         3,
         true,
     )
@@ -440,28 +443,28 @@ fn marked_ticks() -> Tally {
     let t = cases::ticks(
         t,
         b"\x01\x00\x04\x00\x00\x00\x01\x02\x00\x04\x00\x00\x00\x05",
-        b"\x00\x01\x00\x00\x00\x00\x00\x00\x00\x00\x00\x00\x00\x00\x00\x00\x00\x01\x00\x00",
+        b"\x00\x01\x00\xc8\x00\x00\x00\x00\x00\xc8\x00\x00\x00\x00\x00\xc8\x00\x00\x00\x00\x00\xc8\x00\x00\x00\x01\x00\xc8\x00\x00",
         0,
         0,
     );
     let t = cases::ticks(
         t,
         b"\x01\x00\x04\x00\x00\x00\x01\x02\x00\x04\x00\x00\x00\x05",
-        b"\x00\x01\x00\x00\x00\x00\x00\x00\x00\x00\x00\x00\x00\x00\x00\x00\x00\x01\x00\x00",
+        b"\x00\x01\x00\xc8\x00\x00\x00\x00\x00\xc8\x00\x00\x00\x00\x00\xc8\x00\x00\x00\x00\x00\xc8\x00\x00\x00\x01\x00\xc8\x00\x00",
         4,
         14,
     );
     let t = cases::ticks(
         t,
         b"\x01\x00\x04\x00\x00\x00\x01\x02\x00\x04\x00\x00\x00\x05",
-        b"\x00\x01\x00\x00\x00\x00\x00\x00\x00\x00\x00\x00\x00\x00\x00\x00\x00\x00\x00\x00\x00\x01\x00\x00",
+        b"\x00\x01\x00\xc8\x00\x00\x00\x00\x00\xc8\x00\x00\x00\x00\x00\xc8\x00\x00\x00\x00\x00\xc8\x00\x00\x00\x00\x00\xc8\x00\x00\x00\x01\x00\xc8\x00\x00",
         0,
         0,
     );
     cases::ticks(
         t,
         b"\x01\x00\x04\x00\x00\x00\x01\x02\x00\x04\x00\x00\x00\x05",
-        b"\x00\x01\x00\x00\x00\x00\x00\x00\x00\x00\x00\x00\x00\x00\x00\x00\x00\x00\x00\x00\x00\x01\x00\x00",
+        b"\x00\x01\x00\xc8\x00\x00\x00\x00\x00\xc8\x00\x00\x00\x00\x00\xc8\x00\x00\x00\x00\x00\xc8\x00\x00\x00\x00\x00\xc8\x00\x00\x00\x01\x00\xc8\x00\x00",
         5,
         0,
     )
@@ -555,29 +558,67 @@ fn buffers() -> Tally {
     let t = calls::writes(cases::none(), d, &mut whole, 0, 57);
     let t = calls::writes(t, d, &mut short, 13, 0);
     let t = calls::writes(t, calls::described(b""), &mut short, 8, 0);
-    let t = calls::runs(t, d, 200, b"\x00\x00\x00\x00\x00\x00\x00\x00", &mut two, 0);
-    calls::runs(t, d, 200, b"\x00\x00\x00\x00\x00\x00\x00\x00", &mut one, 13)
+    let t = calls::runs(
+        t,
+        d,
+        b"\x00\x00\x00\xc8\x00\x00\x00\x00\x00\xc8\x00\x00",
+        &mut two,
+        0,
+    );
+    calls::runs(
+        t,
+        d,
+        b"\x00\x00\x00\xc8\x00\x00\x00\x00\x00\xc8\x00\x00",
+        &mut one,
+        13,
+    )
 }
 
-// 11 of a start, a tick and a run; ages equal the spacings at the start, and beside a refusal they are 0.
+// 11 of a tick, and of a call in a run, which alone is refused; ages equal the spacings at 20.0 at the start, and beside a refusal they are 0.
 fn knobs() -> Tally {
     let d = calls::described(&BOX);
+    let blank = calls::described(b"");
     let m = calls::idle(d);
     let still = calls::arriving(false, false);
     let mut none = [0u8; 1];
-    let t = calls::starts(cases::none(), d, 199, 11, 0);
-    let t = calls::starts(t, d, 200, 0, 6250);
-    let t = calls::starts(t, d, 1200, 0, 1041);
-    let t = calls::starts(t, d, 3000, 0, 416);
-    let t = calls::starts(t, d, 3001, 11, 0);
-    let t = calls::starts(t, calls::described(b""), 200, 8, 0);
+    let t = calls::starts(cases::none(), d, 0, 6250);
+    let t = calls::starts(t, blank, 8, 0);
+    let t = calls::ages(t, m, 6250, 2000);
     let t = calls::ticks_once(t, d, 199, m, still, 11);
     let t = calls::ticks_once(t, d, 200, m, still, 0);
+    let t = calls::ticks_once(t, d, 3000, m, still, 0);
     let t = calls::ticks_once(t, d, 3001, m, still, 11);
-    let t = calls::runs(t, d, 199, b"", &mut none, 11);
-    let t = calls::runs(t, d, 200, b"", &mut none, 0);
-    let t = calls::runs(t, d, 3000, b"", &mut none, 0);
-    calls::runs(t, d, 3001, b"", &mut none, 11)
+    let t = calls::runs(t, d, b"", &mut none, 0);
+    let t = calls::runs(t, blank, b"", &mut none, 8);
+    let t = calls::runs(t, d, b"\x00\x00\x00\xc7\x00\x00", &mut none, 0);
+    let t = cases::ticks(
+        t,
+        &BOX,
+        b"\x00\x00\x00\xc7\x00\x00\x00\x00\x00\xc8\x00\x00",
+        0,
+        11,
+    );
+    let t = cases::ticks(
+        t,
+        &BOX,
+        b"\x00\x00\x00\xc7\x00\x00\x00\x00\x00\xc8\x00\x00",
+        1,
+        0,
+    );
+    let t = cases::ticks(
+        t,
+        &BOX,
+        b"\x00\x00\x0b\xb8\x00\x00\x00\x00\x0b\xb9\x00\x00",
+        0,
+        0,
+    );
+    cases::ticks(
+        t,
+        &BOX,
+        b"\x00\x00\x0b\xb8\x00\x00\x00\x00\x0b\xb9\x00\x00",
+        1,
+        11,
+    )
 }
 
 // Three ticks of a run, one that ends early, and the refusals of an arrival, which leave the record as it was.
@@ -649,6 +690,178 @@ fn rules() -> Tally {
     calls::ticks_once(t, d, 200, m, still, 0)
 }
 
+// A task of run 1, the swiftest paced source there is, a fixed source of 3, and a link from the first to the task.
+const SWIFT: [u8; 26] =
+    *b"\x01\x00\x04\x00\x00\x00\x01\x03\x00\x03\x03\xc0\x4b\x02\x00\x04\x00\x00\x00\x03\x04\x00\x03\x21\x01\x00";
+
+// The knob at 300.0 in one call, and the last call of the run.
+fn up(call: usize, last: usize) -> Turn {
+    Turn {
+        call,
+        tempo: 3000,
+        comes: false,
+        last,
+    }
+}
+
+// The knob left at 20.0.
+fn level(last: usize) -> Turn {
+    Turn {
+        call: 1,
+        tempo: 200,
+        comes: false,
+        last,
+    }
+}
+
+// The codes of a run of a source of 960 pulses with a swing of 75.
+fn turns(t: Tally, turn: Turn, at_turn: u8, at_last: u8) -> Tally {
+    knob::codes(t, &swung(960, 75), turn, at_turn, at_last)
+}
+
+// C-13: why the fastest tempo is kept. A source of 960 pulses with a swing of 75 has the spacing 1,562 at 20.0 and 104 at 300.0. It fires in call 0; with the
+// knob at 300.0 in call 1 only it may come in call 104, at 20.0, and not before.
+fn turned_knob() -> Tally {
+    let t = cases::none();
+    let t = turns(t, up(1, 104), 0, 0);
+    let t = turns(t, up(1, 103), 0, 14);
+    let t = turns(t, level(104), 0, 14);
+    let t = turns(t, level(1561), 0, 14);
+    let t = turns(t, level(1562), 0, 0);
+    // the tick of its firing
+    let t = turns(t, up(0, 104), 0, 0);
+    let t = turns(t, up(0, 103), 0, 14);
+    // its present tick
+    let t = turns(t, up(104, 104), 0, 0);
+    let t = turns(t, up(103, 103), 0, 14);
+    // before its first firing it is free, and in the next call it is too soon
+    let t = turns(t, level(0), 0, 0);
+    let t = turns(t, level(1), 0, 14);
+    // a refused call is no tick and its tempo is not given: 104 ticks after the firing the source is too soon at 20.0
+    let refused = Turn {
+        call: 1,
+        tempo: 3000,
+        comes: true,
+        last: 105,
+    };
+    let t = turns(t, refused, 14, 14);
+    let off = Turn {
+        call: 1,
+        tempo: 3001,
+        comes: false,
+        last: 105,
+    };
+    let t = turns(t, off, 11, 14);
+    let below = Turn {
+        call: 1,
+        tempo: 199,
+        comes: false,
+        last: 105,
+    };
+    let t = turns(t, below, 11, 14);
+    turns(t, up(1, 105), 0, 0)
+}
+
+// Box with the knob between 20.0 and its quote, 178.3, both sources trying to come in each round: no critical link is dropped, and no tempo above the
+// quote is kept. Up to 300.0 its third link is dropped.
+fn moving_knob() -> Tally {
+    let r = knob::rounds(&BOX, 1783);
+    let m = r.machine;
+    let t = cases::none();
+    let t = cases::counted(t, !m.dropped[1]);
+    let t = cases::counted(t, !m.dropped[2]);
+    let t = cases::counted(t, !m.dropped[3]);
+    let t = cases::counted(t, m.fastest[0] <= 1783);
+    let t = cases::counted(t, m.fastest[1] <= 1783);
+    let t = cases::counted(t, r.first == 3);
+    let t = cases::counted(t, r.second == 2);
+    let t = cases::counted(t, r.still == 2048);
+    let fast = knob::rounds(&BOX, 3000);
+    let m = fast.machine;
+    let t = cases::counted(t, m.dropped[2]);
+    cases::counted(t, 1783 < m.fastest[0])
+}
+
+// What a record keeps: this tick's tempo at a firing, the larger one afterwards, 0 before the first firing; a refused tick's tempo is not kept. Ages rise up to the
+// spacing at 20.0 at any tempo.
+fn kept_tempos() -> Tally {
+    let d = calls::described(&SWIFT);
+    let still = calls::arriving(false, false);
+    let first_source = calls::arriving(true, false);
+    let second_source = calls::arriving(false, true);
+    let idle = calls::idle(d);
+    let t = calls::keeps(cases::none(), idle, 0, 0);
+    let t = calls::ages(t, idle, 1562, 3);
+    let quiet = calls::later_at(d, 3000, idle, still);
+    let t = calls::keeps(t, quiet, 0, 0);
+    let t = calls::ages(t, quiet, 1562, 3);
+    let fired = calls::later_at(d, 1200, idle, first_source);
+    let t = calls::keeps(t, fired, 1200, 0);
+    let t = calls::ages(t, fired, 1, 3);
+    let raised = calls::later_at(d, 3000, fired, still);
+    let t = calls::keeps(t, raised, 3000, 0);
+    let lowered = calls::later_at(d, 200, raised, still);
+    let t = calls::keeps(t, lowered, 3000, 0);
+    let t = calls::ages(t, lowered, 3, 3);
+    let other = calls::later_at(d, 200, lowered, second_source);
+    let t = calls::keeps(t, other, 3000, 200);
+    let t = calls::ages(t, other, 4, 1);
+    let refused = calls::later_at(d, 3000, fired, first_source);
+    let t = calls::keeps(t, refused, 1200, 0);
+    let off = calls::later_at(d, 3001, fired, still);
+    let t = calls::keeps(t, off, 1200, 0);
+    let mut old = lowered;
+    old.ages[0] = 104;
+    let aged = calls::later_at(d, 3000, old, still);
+    let t = calls::ages(t, aged, 105, 3);
+    let again = calls::later_at(d, 200, old, first_source);
+    let t = calls::keeps(t, again, 200, 0);
+    let t = calls::ages(t, again, 1, 3);
+    let mut oldest = old;
+    oldest.ages[0] = 1562;
+    let same = calls::later_at(d, 3000, oldest, still);
+    calls::ages(t, same, 1562, 3)
+}
+
+// 16 by the rules of ages and kept tempos: an age up to the spacing at 20.0; a kept tempo 0, with that age, or 200 to 3,000; both 0 for an absent source.
+fn kept_rules() -> Tally {
+    let d = calls::described(&SWIFT);
+    let still = calls::arriving(false, false);
+    let idle = calls::idle(d);
+    let t = calls::ticks_once(cases::none(), d, 200, idle, still, 0);
+    let mut m = idle;
+    m.ages[0] = 1561;
+    let t = calls::ticks_once(t, d, 200, m, still, 16);
+    m.fastest[0] = 200;
+    let t = calls::ticks_once(t, d, 200, m, still, 0);
+    let t = calls::ticks_once(t, d, 3000, m, still, 0);
+    m.fastest[0] = 199;
+    let t = calls::ticks_once(t, d, 200, m, still, 16);
+    m.fastest[0] = 3000;
+    let t = calls::ticks_once(t, d, 200, m, still, 0);
+    m.fastest[0] = 3001;
+    let t = calls::ticks_once(t, d, 200, m, still, 16);
+    m.fastest[0] = 3000;
+    m.ages[0] = 1562;
+    let t = calls::ticks_once(t, d, 200, m, still, 0);
+    m.ages[0] = 1563;
+    let t = calls::ticks_once(t, d, 200, m, still, 16);
+    m.ages[0] = 0;
+    let t = calls::ticks_once(t, d, 200, m, still, 0);
+    m.fastest[0] = 0;
+    let t = calls::ticks_once(t, d, 200, m, still, 16);
+    let mut m = idle;
+    m.fastest[2] = 200;
+    let t = calls::ticks_once(t, d, 200, m, still, 16);
+    let t = calls::ticks_once(t, d, 199, m, still, 11);
+    let mut m = idle;
+    m.ages[2] = 1;
+    let t = calls::ticks_once(t, d, 200, m, still, 16);
+    let mut m = idle;
+    m.fastest[15] = 200;
+    calls::ticks_once(t, d, 200, m, calls::arriving(true, true), 16)
+}
+
 fn print_group(name: &[u8], t: Tally) {
     io::write_all(STDOUT_FILENO, name);
     io::write_all(STDOUT_FILENO, b": ");
@@ -691,4 +904,8 @@ fn main() {
     print_group(b"C-11, Box", swung_box());
     print_group(b"C-11, ticks", swung_ticks());
     print_group(b"C-12, Box with a pulse of each kind", alike());
+    print_group(b"C-13, the knob", turned_knob());
+    print_group(b"C-13, Box with the knob moving", moving_knob());
+    print_group(b"C-13, kept tempos", kept_tempos());
+    print_group(b"C-13, rules of the record", kept_rules());
 }

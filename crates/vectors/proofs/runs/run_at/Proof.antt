@@ -7,86 +7,14 @@ use Rattle.vectors.proofs.runs.run_at.Tie as tie
 part-at-requires : tie.Need-part-at-requires
 part-at-requires c κs = search needs
 
-sub-if1 : tie.Need-sub-if1
-sub-if1 c = search needs
+part-at-requires-2 : tie.Need-part-at-requires-2
+part-at-requires-2 c κs = search needs
 
-returns : tie.Need-returns
-returns c = search needs
+part-at-requires-3 : tie.Need-part-at-requires-3
+part-at-requires-3 c κs = search needs
 
-shared-slice-read-wide : tie.Need-shared-slice-read-wide
-shared-slice-read-wide c = search needs
-
-wide-requires : tie.Need-wide-requires
-wide-requires c κs = search needs
-
-mul-tempo : tie.Need-mul-tempo
-mul-tempo c = search needs
-
-add-wide : tie.Need-add-wide
-add-wide c = search needs
-
-shared-slice-read-wide-2 : tie.Need-shared-slice-read-wide-2
-shared-slice-read-wide-2 c = search needs
-
-wide-requires-2 : tie.Need-wide-requires-2
-wide-requires-2 c κs = search needs
-
-add-tempo : tie.Need-add-tempo
-add-tempo c = search needs
-
-cast-tempo : tie.Need-cast-tempo
-cast-tempo c = search needs
-
-add-wide-2 : tie.Need-add-wide-2
-add-wide-2 c = search needs
-
-shared-slice-read-wide-3 : tie.Need-shared-slice-read-wide-3
-shared-slice-read-wide-3 c = search needs
-
-wide-requires-3 : tie.Need-wide-requires-3
-wide-requires-3 c κs = search needs
-
-mul-count : tie.Need-mul-count
-mul-count c = search needs
-
-add-wide-3 : tie.Need-add-wide-3
-add-wide-3 c = search needs
-
-shared-slice-read-wide-4 : tie.Need-shared-slice-read-wide-4
-shared-slice-read-wide-4 c = search needs
-
-wide-requires-4 : tie.Need-wide-requires-4
-wide-requires-4 c κs = search needs
-
-add-count : tie.Need-add-count
-add-count c = search needs
-
-add-begin : tie.Need-add-begin
-add-begin c = search needs
-
-sub-if2 : tie.Need-sub-if2
-sub-if2 c = search needs
-
-mul-if2 : tie.Need-mul-if2
-mul-if2 c = search needs
-
-returns-2 : tie.Need-returns-2
-returns-2 c = search needs
-
-mul-after : tie.Need-mul-after
-mul-after c = search needs
-
-add-after : tie.Need-add-after
-add-after c = search needs
-
-sub-if3 : tie.Need-sub-if3
-sub-if3 c = search needs
-
-returns-3 : tie.Need-returns-3
-returns-3 c = search needs
-
-add-end : tie.Need-add-end
-add-end c = search needs
+part-at-requires-4 : tie.Need-part-at-requires-4
+part-at-requires-4 c κs = search needs
 
 sub-agrees : tie.Need-sub-agrees
 sub-agrees c = search needs
@@ -115,12 +43,21 @@ part-agrees-start-3 c = search needs
 part-agrees-end-3 : tie.Need-part-agrees-end-3
 part-agrees-end-3 c = search needs
 
+sub-agrees-4 : tie.Need-sub-agrees-4
+sub-agrees-4 c = search needs
+
+part-agrees-start-4 : tie.Need-part-agrees-start-4
+part-agrees-start-4 c = search needs
+
+part-agrees-end-4 : tie.Need-part-agrees-end-4
+part-agrees-end-4 c = search needs
+
 agrees-requires : tie.Need-agrees-requires
 agrees-requires c κs = search needs
 
-returns-4 : tie.Need-returns-4
-returns-4 c =
-    let p = c .before .before .before .before .before .before .before .before .before .before .before .before .before .before .before .part-at .ensures in
+returns : tie.Need-returns
+returns c =
+    let p = c .before .before .before .before .before .before .before .before .part-at .ensures in
     (omega arith, λ h. omega (arith, p .3 h))
 
 pub run-at-spec : {M : Type 1} → statement M
@@ -128,33 +65,9 @@ run-at-spec =
     tie.close
     (tie.spec
     part-at-requires
-    sub-if1
-    returns
-    shared-slice-read-wide
-    wide-requires
-    mul-tempo
-    add-wide
-    shared-slice-read-wide-2
-    wide-requires-2
-    add-tempo
-    cast-tempo
-    add-wide-2
-    shared-slice-read-wide-3
-    wide-requires-3
-    mul-count
-    add-wide-3
-    shared-slice-read-wide-4
-    wide-requires-4
-    add-count
-    add-begin
-    sub-if2
-    mul-if2
-    returns-2
-    mul-after
-    add-after
-    sub-if3
-    returns-3
-    add-end
+    part-at-requires-2
+    part-at-requires-3
+    part-at-requires-4
     sub-agrees
     part-agrees-start
     part-agrees-end
@@ -164,5 +77,8 @@ run-at-spec =
     sub-agrees-3
     part-agrees-start-3
     part-agrees-end-3
+    sub-agrees-4
+    part-agrees-start-4
+    part-agrees-end-4
     agrees-requires
-    returns-4)
+    returns)

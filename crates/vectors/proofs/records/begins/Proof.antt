@@ -1,0 +1,55 @@
+-- `records::begins` is safe and ends. The measure is the number of bytes left. Assumes nothing.
+use Prim.Native.Nat.{_≤_, _-_}
+use native.Mathlib.Omega.{arith}
+use borrow.Author.Needs.{needs}
+use Rattle.vectors.proofs.records.begins.Statement.{statement}
+use Rattle.vectors.proofs.records.begins.Tie as tie
+
+abbrev Inv-loop : tie.InvT-loop
+Inv-loop m recorded n k₀ k = k ≤ n
+
+abbrev μ-loop : tie.MeasureT-loop
+μ-loop m recorded n k₀ k = n - k
+
+returns : tie.Need-returns Inv-loop μ-loop
+returns c = search needs
+
+loop-holds : tie.Need-loop-holds Inv-loop μ-loop
+loop-holds c = omega arith
+
+record-byte-requires : tie.Need-record-byte-requires Inv-loop μ-loop
+record-byte-requires c κs = omega arith
+
+shared-slice-read-if2 : tie.Need-shared-slice-read-if2 Inv-loop μ-loop
+shared-slice-read-if2 c = omega arith
+
+returns-2 : tie.Need-returns-2 Inv-loop μ-loop
+returns-2 c = search needs
+
+add-k : tie.Need-add-k Inv-loop μ-loop
+add-k c = omega arith
+
+loop-less : tie.Need-loop-less Inv-loop μ-loop
+loop-less c = omega arith
+
+loop-again : tie.Need-loop-again Inv-loop μ-loop
+loop-again c = omega arith
+
+returns-3 : tie.Need-returns-3 Inv-loop μ-loop
+returns-3 c = search needs
+
+pub begins-spec : {M : Type 1} → statement M
+begins-spec =
+    tie.close
+    (tie.spec
+    Inv-loop
+    μ-loop
+    returns
+    loop-holds
+    record-byte-requires
+    shared-slice-read-if2
+    returns-2
+    add-k
+    loop-less
+    loop-again
+    returns-3)

@@ -2,7 +2,7 @@
 //! agree. Without the proved archive, plain Rust is compared with the recorded answers alone.
 
 use compare::generate::{self, Random, Run};
-use compare::vectors::{self, RunVector, SteadyVector};
+use compare::vectors::{self, RunVector};
 use compare::{CALL_BYTES, LONGEST_REPORT, RECORD_BYTES, Side, library, plain};
 use std::fmt;
 use std::ops::Range;
@@ -79,8 +79,8 @@ fn check_vectors(side: &Side) -> Result<(), Difference> {
         check_run(side, vector, |record| record)?;
     }
     let steady_runs = vectors::steady_runs();
-    for SteadyVector { tempo, run } in &steady_runs {
-        check_run(side, run, |record| vectors::at_one_tempo(record, run.file, *tempo))?;
+    for vector in &steady_runs {
+        check_run(side, vector, |record| vectors::at_one_tempo(record, vector))?;
     }
     println!(
         "{} and the recorded answers: {} reports, {} runs and {} runs at one tempo agree",
@@ -94,8 +94,8 @@ fn check_vectors(side: &Side) -> Result<(), Difference> {
 
 /// One side against a recorded run. `terms` puts the record that the side left as the recorded one is.
 fn check_run(side: &Side, vector: &RunVector, terms: impl Fn(Vec<u8>) -> Vec<u8>) -> Result<(), Difference> {
-    let recorded = Ran { code: 0, outcomes: vector.outcomes.clone(), record: vector.record.clone() };
-    let run = Run { file: vector.file.to_vec(), calls: vector.calls.clone() };
+    let recorded = Ran { code: 0, outcomes: vector.outcomes.to_vec(), record: vector.record.to_vec() };
+    let run = Run { file: vector.file.to_vec(), calls: vector.calls.to_vec() };
     let mut answer = ticks(side, &run, vector.outcomes.len(), RECORD_BYTES);
     answer.record = terms(answer.record);
     same(|| run_words(&run), ("recorded", recorded), (side.name, answer))

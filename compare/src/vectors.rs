@@ -1,6 +1,5 @@
 //! The recorded answers of another implementation of document 01 and its change requests: the data of the crate `vectors`.
 
-use crate::RECORD_BYTES;
 use crate::plain::Plan;
 use std::ops::Range;
 
@@ -11,11 +10,10 @@ static REPORTS: [&[u8]; 2] = [
 ];
 /// Runs with a tempo in each call (C-13), and document 01's, each at one tempo.
 static KNOB_RUNS: &[u8] = include_bytes!("../../crates/vectors/data/knob-runs.bin");
-static STEADY_RUNS: &[u8] = include_bytes!("../../crates/vectors/data/runs.bin");
+static STEADY_RUNS: &[u8] = include_bytes!("../../crates/vectors/data/steady-runs.bin");
 
-/// The ages of a record and the fastest tempos, which document 01's record lacks.
+/// The ages of a record; behind them are the fastest tempos.
 const AGES: Range<usize> = 672..736;
-const FASTEST: Range<usize> = 736..RECORD_BYTES;
 
 /// A file and its report.
 pub struct ReportVector {
@@ -26,15 +24,9 @@ pub struct ReportVector {
 /// A file, the tick calls from the idle start, and what came of them.
 pub struct RunVector {
     pub file: &'static [u8],
-    pub calls: Vec<u8>,
-    pub outcomes: Vec<u8>,
-    pub record: Vec<u8>,
-}
-
-/// A run of document 01, with its tempo in each call, and its record as [`at_one_tempo`] tells it.
-pub struct SteadyVector {
-    pub tempo: u16,
-    pub run: RunVector,
+    pub calls: &'static [u8],
+    pub outcomes: &'static [u8],
+    pub record: &'static [u8],
 }
 
 /// All recorded reports: repeatedly length, file, length, report.
@@ -49,57 +41,48 @@ pub fn reports() -> Vec<ReportVector> {
     vectors
 }
 
-/// All recorded runs with a tempo in each call: repeatedly file, calls, outcomes and the record
-/// after the last call, each with its length before it.
+/// All recorded runs with a tempo in each call.
 pub fn knob_runs() -> Vec<RunVector> {
-    let mut bytes = Cursor(KNOB_RUNS);
+    runs(KNOB_RUNS)
+}
+
+/// All runs of document 01, each with its tempo in every call; the record is as [`at_one_tempo`]
+/// tells it.
+pub fn steady_runs() -> Vec<RunVector> {
+    runs(STEADY_RUNS)
+}
+
+/// Repeatedly file, calls, outcomes and the record after the last call, each with its length
+/// before it.
+fn runs(recorded: &'static [u8]) -> Vec<RunVector> {
+    let mut bytes = Cursor(recorded);
     let mut vectors = Vec::new();
     while !bytes.0.is_empty() {
         vectors.push(RunVector {
             file: bytes.sized(),
-            calls: bytes.sized().to_vec(),
-            outcomes: bytes.sized().to_vec(),
-            record: bytes.sized().to_vec(),
+            calls: bytes.sized(),
+            outcomes: bytes.sized(),
+            record: bytes.sized(),
         });
     }
     vectors
 }
 
-/// All recorded runs at one tempo: repeatedly length, file, tempo, count of calls, each call's
-/// mask, finish and outcome, and the record after the last.
-pub fn steady_runs() -> Vec<SteadyVector> {
-    let mut bytes = Cursor(STEADY_RUNS);
-    let mut vectors = Vec::new();
-    while !bytes.0.is_empty() {
-        let file = bytes.sized();
-        let tempo = bytes.number() as u16;
-        let [high, low] = tempo.to_be_bytes();
-        let mut calls = Vec::new();
-        let mut outcomes = Vec::new();
-        for _ in 0..bytes.number() {
-            let call = bytes.take(4);
-            calls.extend([call[0], call[1], high, low, call[2], 0]);
-            outcomes.push(call[3]);
-        }
-        let mut record = bytes.take(FASTEST.start).to_vec();
-        record.resize(RECORD_BYTES, 0);
-        vectors.push(SteadyVector { tempo, run: RunVector { file, calls, outcomes, record } });
-    }
-    vectors
-}
-
-/// A record, left by a run at one tempo, in the terms of document 01: ages up to the spacings at
-/// that tempo, and 0 in place of it where it is kept as the fastest.
-pub fn at_one_tempo(mut record: Vec<u8>, file: &[u8], tempo: u16) -> Vec<u8> {
-    let spacings = Plan::read(file).map_or([0; 16], |plan| plan.description.spacings(tempo.into()));
+/// A record, left by a run of document 01, as the recorded one is: ages are up to the spacings at
+/// the run's tempo, which stands behind them if no other is kept.
+pub fn at_one_tempo(mut record: Vec<u8>, run: &RunVector) -> Vec<u8> {
+    let tempo = [run.record[AGES.end], run.record[AGES.end + 1]];
+    let tenths = u16::from_be_bytes(tempo).into();
+    let spacings = Plan::read(run.file).map_or([0; 16], |plan| plan.description.spacings(tenths));
     for (age, spacing) in record[AGES].chunks_exact_mut(4).zip(spacings) {
         // Bytes are in the order of the numbers, the high byte first.
         if *age > spacing.to_be_bytes()[..] {
             age.copy_from_slice(&spacing.to_be_bytes());
         }
     }
-    for kept in record[FASTEST].chunks_exact_mut(2).filter(|kept| **kept == tempo.to_be_bytes()) {
-        kept.fill(0);
+    if record[AGES.end..].chunks_exact(2).all(|kept| kept == [0; 2] || kept == tempo) {
+        record.truncate(AGES.end);
+        record.extend(tempo);
     }
     record
 }
@@ -127,8 +110,8 @@ impl Cursor {
 #[cfg(test)]
 mod tests {
     use super::*;
-    use crate::LONGEST_REPORT;
     use crate::plain::SIDE;
+    use crate::{LONGEST_REPORT, RECORD_BYTES};
 
     #[test]
     fn plain_reports_agree() {
@@ -145,7 +128,7 @@ mod tests {
     fn record_left(run: &RunVector) -> Vec<u8> {
         let mut outcomes = vec![0; run.outcomes.len()];
         let mut record = vec![0; RECORD_BYTES];
-        assert_eq!((SIDE.run)(run.file, &run.calls, &mut outcomes, &mut record), 0);
+        assert_eq!((SIDE.run)(run.file, run.calls, &mut outcomes, &mut record), 0);
         assert_eq!(outcomes, run.outcomes, "{:02x?}", run.file);
         record
     }
@@ -163,8 +146,8 @@ mod tests {
     fn plain_steady_runs_agree() {
         let vectors = steady_runs();
         assert_eq!(vectors.len(), 150);
-        for SteadyVector { tempo, run } in vectors {
-            assert_eq!(at_one_tempo(record_left(&run), run.file, tempo), run.record, "{:02x?}", run.file);
+        for run in vectors {
+            assert_eq!(at_one_tempo(record_left(&run), &run), run.record, "{:02x?}", run.file);
         }
     }
 }

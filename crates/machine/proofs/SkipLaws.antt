@@ -22,7 +22,7 @@ use Rattle.assurance.proofs.Replay.{callAt}
 use Rattle.steps.specs.declared.words.Words.{Words}
 use Rattle.steps.specs.Words.{Holds, worked}
 use Rattle.steps.proofs.StepLaws.{work-none, passes}
-use Rattle.lemmas.proofs.Tests.{Cmp, less, same, more, cmp, within}
+use Rattle.lemmas.proofs.Tests.{within}
 use Rattle.machine.specs.Calls.{Tracks}
 use Rattle.machine.specs.Run.{laterBy}
 use Rattle.machine.proofs.CallLaws.{judged-at, rests-on, strangers-none, silent-known, silent-soon, silent-arrive, silent-keeps, end-none, tick-done, tracked}
@@ -97,9 +97,10 @@ module _ (d : Description) (g : WellFormed d) (j : judge d ≡ Done) (bytes : Li
         one-code (laterBy n w) i (omega arith) z (s .0) (s .1) (s .2) (subst (λ v. Tracks d (laterBy n w) used since fastest (before v)) a (some-on n (omega arith) (λ l u v. q l u (omega arith))))
 
 -- the calls from i + 1 up to r are passed
-pub passed-on : (d : Description) → WellFormed d → judge d ≡ Done → (bytes used since fastest : List ℕ) (w : Words) (i r : ℕ) → i + 1 ≤ r → r ≤ length bytes / 6 → ((k : ℕ) → i + 1 ≤ k → k < r → (w .awake ≡ 0) × (numberIn bytes (6 * k) 2 ≡ 0) × (200 ≤ numberIn bytes (6 * k + 2) 2) × (numberIn bytes (6 * k + 2) 2 ≤ w .peak)) → Tracks d w used since fastest (left d (idle d) (take (i + 1) (callsIn bytes)))
+pub passed-on : (d : Description) → WellFormed d → judge d ≡ Done → (bytes used since fastest : List ℕ) (w : Words) (i r : ℕ) → w .awake ≡ 0 → i + 1 ≤ r → r ≤ length bytes / 6 → ((k : ℕ) → i + 1 ≤ k → k < r → (numberIn bytes (6 * k) 2 ≡ 0) × (200 ≤ numberIn bytes (6 * k + 2) 2) × (numberIn bytes (6 * k + 2) 2 ≤ w .peak)) → Tracks d w used since fastest (left d (idle d) (take (i + 1) (callsIn bytes)))
     → Tracks d (laterBy (r - i - 1) w) used since fastest (left d (idle d) (take r (callsIn bytes))) × ((k : ℕ) → i + 1 ≤ k → k < r → getD (page d (callsIn bytes)) k 0 ≡ 0)
-passed-on d g j bytes used since fastest w i r h most q R = go (cmp (i + 1) r)
+passed-on d g j bytes used since fastest w i r z h most q R =
+    (subst (λ x. Tracks d (laterBy n w) used since fastest (left d (idle d) (take x (callsIn bytes)))) to (some-on d g j bytes used since fastest w (i + 1) z R n (omega (arith, to)) quiet), λ k a b. some-code d g j bytes used since fastest w (i + 1) z R n (omega (arith, to)) quiet k a (omega (arith, to)))
   where
     n : ℕ
     n = r - i - 1
@@ -108,18 +109,4 @@ passed-on d g j bytes used since fastest w i r h most q R = go (cmp (i + 1) r)
     to = omega arith
 
     quiet : (k : ℕ) → i + 1 ≤ k → k < i + 1 + n → (numberIn bytes (6 * k) 2 ≡ 0) × (200 ≤ numberIn bytes (6 * k + 2) 2) × (numberIn bytes (6 * k + 2) 2 ≤ w .peak)
-    quiet k a b = let s = q k a (omega (arith, to)) in (s .1, s .2, s .3)
-
-    some : w .awake ≡ 0 → Tracks d (laterBy (r - i - 1) w) used since fastest (left d (idle d) (take r (callsIn bytes))) × ((k : ℕ) → i + 1 ≤ k → k < r → getD (page d (callsIn bytes)) k 0 ≡ 0)
-    some z = (subst (λ x. Tracks d (laterBy n w) used since fastest (left d (idle d) (take x (callsIn bytes)))) to (some-on d g j bytes used since fastest w (i + 1) z R n (omega (arith, to)) quiet), λ k a b. some-code d g j bytes used since fastest w (i + 1) z R n (omega (arith, to)) quiet k a (omega (arith, to)))
-
-    -- none is passed: the words are as they were
-    none : i + 1 ≡ r → Tracks d (laterBy (r - i - 1) w) used since fastest (left d (idle d) (take r (callsIn bytes)))
-    none e =
-        let b : w .tick ≡ w .tick + (r - i - 1) = omega arith in
-        subst (λ x. Tracks d (record { awake = w .awake; waiting = w .waiting; dropped = w .dropped; tick = x; low = w .low; peak = w .peak }) used since fastest (left d (idle d) (take r (callsIn bytes)))) b (subst (λ x. Tracks d w used since fastest (left d (idle d) (take x (callsIn bytes)))) e R)
-
-    go : Cmp (i + 1) r → Tracks d (laterBy (r - i - 1) w) used since fastest (left d (idle d) (take r (callsIn bytes))) × ((k : ℕ) → i + 1 ≤ k → k < r → getD (page d (callsIn bytes)) k 0 ≡ 0)
-    go (less e) = some (q (i + 1) (omega arith) e .0)
-    go (same e) = (none e, λ k a b. absurd (omega arith))
-    go (more e) = absurd (omega arith)
+    quiet k a b = q k a (omega (arith, to))

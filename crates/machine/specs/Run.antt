@@ -1,5 +1,5 @@
 -- What a run of tick calls ensures once its description is judged.
-use Prim.Native.Nat.{ℕ, _+_, _*_, _≤_, _<_}
+use Prim.Native.Nat.{ℕ, _+_, _*_, _/_, _%_, _≤_, _<_}
 use mathlib.Core.List.{List, _++_}
 use mathlib.Core.Path.{_≡_}
 use lib.ListN.{length, getD, take, drop}
@@ -17,12 +17,17 @@ use Rattle.spacings.specs.declared.Sources.{Sources}
 use Rattle.spacings.specs.Sources.{SourcesOf}
 use Rattle.spacings.specs.Gaps.{GapsOf}
 
--- calls that are passed: no task is awake, nothing comes, the tempo is one of the knob up to the fastest given, and their codes are 0
-pub record Skips (calls : List ℕ) (from n awake peak : ℕ) (outcomes : List ℕ) (r : ℕ) (outcomes′ : List ℕ) : Type 0 where
+-- the mask and the tempo of the call at a place, as one number
+pub record Head (calls : List ℕ) (at head : ℕ) : Type 0 where
+  pub mask : head / 65536 ≡ numberIn calls at 2
+  pub tempo : head % 65536 ≡ numberIn calls (at + 2) 2
+
+-- calls that are passed: nothing comes, the tempo is one of the knob up to the fastest given, and their codes are 0
+pub record Skips (calls : List ℕ) (from n peak : ℕ) (outcomes : List ℕ) (r : ℕ) (outcomes′ : List ℕ) : Type 0 where
   pub on : from ≤ r
   pub most : r ≤ n
   pub sized : length outcomes′ ≡ length outcomes
-  pub quiet : (k : ℕ) → from ≤ k → k < r → (awake ≡ 0) × (numberIn calls (6 * k) 2 ≡ 0) × (200 ≤ numberIn calls (6 * k + 2) 2) × (numberIn calls (6 * k + 2) 2 ≤ peak)
+  pub quiet : (k : ℕ) → from ≤ k → k < r → (numberIn calls (6 * k) 2 ≡ 0) × (200 ≤ numberIn calls (6 * k + 2) 2) × (numberIn calls (6 * k + 2) 2 ≤ peak)
   pub stored : (text out₀ : List ℕ) → r ≤ length text → r ≤ length out₀ → ((k : ℕ) → from ≤ k → k < r → getD text k 0 ≡ 0)
       → outcomes ≡ take from text ++ drop from out₀ → outcomes′ ≡ take r text ++ drop r out₀
 

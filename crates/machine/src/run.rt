@@ -22,7 +22,7 @@ use wiring::Wiring;
 use wiring::wiring_of;
 ghost use mathlib.Core.Path.{_≡_};
 ghost use mathlib.Core.Bool.{_&&_};
-ghost use Prim.Native.Nat.{_+_, _*_, _≤_, _<_, _^_};
+ghost use Prim.Native.Nat.{_+_, _*_, _/_, _%_, _≤_, _<_, _^_};
 ghost use lib.ListN.{length};
 ghost use lib.Dec.{leb, eqb};
 ghost use Rattle.model.specs.Field.{numberIn};
@@ -32,7 +32,7 @@ ghost use Rattle.theory.proofs.WellFormed.{WellFormed};
 ghost use Rattle.machine.specs.Calls.{Accepted};
 ghost use Rattle.model.specs.Refusals.{ofOutcome};
 ghost use Rattle.model.specs.Run.{callsIn};
-ghost use Rattle.machine.specs.Run.{Skips, laterBy, RunIs, RunOf};
+ghost use Rattle.machine.specs.Run.{Head, Skips, laterBy, RunIs, RunOf};
 
 // A call's end as a byte: the refusal's number, or 0.
 fn code(end: Outcome) -> u8
@@ -44,42 +44,63 @@ fn code(end: Outcome) -> u8
     }
 }
 
-// A mask as a word.
-fn bits(mask: u16) -> u64
-    ensures { λ r. ⌜ (r ≡ mask) × (r < 2 ^ 16) ⌝ }
-{
-    mask as u64
-}
-
-// A tempo of two bytes.
-fn tempo_of(t: u16) -> u32
-    ensures { λ r. ⌜ r ≡ t ⌝ }
-{
-    t as u32
-}
-
-// Whether nothing comes in a call, and its tempo is one of the knob up to the fastest given.
-fn quiet_at(calls: &[u8], at: usize, peak: u32) -> bool
+// A call's mask and tempo as one number of four bytes.
+fn head_at(calls: &[u8], at: usize) -> u32
     requires { ⌜ at + 4 ≤ length (now calls) ⌝ }
-    ensures { λ r. ⌜ r ≡ (eqb (numberIn (now (calls .entry)) at 2) 0 && (leb 200 (numberIn (now (calls .entry)) (at + 2) 2) && leb (numberIn (now (calls .entry)) (at + 2) 2) peak)) ⌝ }
+    ensures { λ r. ⌜ Head (now (calls .entry)) at r ⌝ }
 {
-    if half_at(calls, at) != 0 {
+    let mask = half_at(calls, at);
+    let tempo = half_at(calls, at + 2);
+    mask as u32 * 65536 + tempo as u32
+}
+
+// The same of call i of n; behind the last, nothing.
+fn peek(calls: &[u8], i: usize, n: usize) -> u32
+    requires { ⌜ 6 * n ≤ length (now calls) ⌝ }
+    ensures { λ r. ⌜ (i < n → Head (now (calls .entry)) (6 * i) r) ⌝ }
+{
+    if i < n {
+        return head_at(calls, 6 * i);
+    }
+    0
+}
+
+// The mask as a word.
+fn mask_in(head: u32) -> u64
+    ensures { λ r. ⌜ (r ≡ head / 65536) × (r < 2 ^ 16) ⌝ }
+{
+    (head / 65536) as u64
+}
+
+// And the tempo.
+fn tempo_in(head: u32) -> u32
+    ensures { λ r. ⌜ r ≡ head % 65536 ⌝ }
+{
+    head % 65536
+}
+
+// Whether nothing comes in a call, and its tempo is one of the knob up to the fastest given, which is below 65536.
+fn quiet_at(calls: &[u8], at: usize, peak: u32) -> bool
+    requires { ⌜ (at + 4 ≤ length (now calls)) × (200 ≤ peak) × (peak ≤ 3000) ⌝ }
+    ensures { λ r. ⌜ r ≡ (eqb (numberIn (now (calls .entry)) at 2) 0 && (leb (numberIn (now (calls .entry)) (at + 2) 2) peak && leb 200 (numberIn (now (calls .entry)) (at + 2) 2))) ⌝ }
+{
+    let head = head_at(calls, at);
+    if head == peak {
+        return true;
+    }
+    if peak < head {
         return false;
     }
-    let t = tempo_of(half_at(calls, at + 2));
-    200 <= t && t <= peak
+    200 <= head
 }
 
 // Where no task is awake, passes the calls from a place on in which nothing comes and no faster tempo is given: each is a tick that only counts, and
 // its code is 0. The place of the first other one.
-fn skip(calls: &[u8], from: usize, n: usize, awake: u64, peak: u32, outcomes: &mut [u8]) -> usize
-    requires { ⌜ (from ≤ n) × (6 * n ≤ length (now calls)) × (n ≤ length (now outcomes)) ⌝ }
-    ensures { λ r. ⌜ Skips (now (calls .entry)) from n awake peak (now (outcomes .entry)) r (now (outcomes .exit)) ⌝ }
+fn skip(calls: &[u8], from: usize, n: usize, peak: u32, outcomes: &mut [u8]) -> usize
+    requires { ⌜ (from ≤ n) × (6 * n ≤ length (now calls)) × (n ≤ length (now outcomes)) × (200 ≤ peak) × (peak ≤ 3000) ⌝ }
+    ensures { λ r. ⌜ Skips (now (calls .entry)) from n peak (now (outcomes .entry)) r (now (outcomes .exit)) ⌝ }
 {
     let mut i = from;
-    if awake != 0 {
-        return i;
-    }
     while i < n {
         if !quiet_at(calls, 6 * i, peak) {
             return i;
@@ -108,7 +129,7 @@ fn later(w: Words, ticks: usize) -> Words
 }
 
 // The calls of a wiring from the start, six bytes each. Each call's refusal, or 0, goes to its place of the buffer; one that does
-// not hold them all is refused as too short (13).
+// not hold them all is refused as too short (13). Head is the next call's, read while its forerunner is worked out.
 pub fn run_wired(
     w: Wiring,
     s: Sources,
@@ -131,12 +152,13 @@ pub fn run_wired(
     let mut tempos = [0u32; 16];
     let mut gaps = [0u32; 16];
     let mut i: usize = 0;
+    let mut head = peek(calls, 0, n);
     while i < n {
-        let at = 6 * i;
+        let ahead = peek(calls, i + 1, n);
         let call = Call {
-            mask: bits(half_at(calls, at)),
-            tempo: tempo_of(half_at(calls, at + 2)),
-            finish: calls[at + 4] != 0,
+            mask: mask_in(head),
+            tempo: tempo_in(head),
+            finish: calls[6 * i + 4] != 0,
         };
         let done = advance(
             &w.rows,
@@ -155,9 +177,16 @@ pub fn run_wired(
         let outcome = done.outcome;
         outcomes[i] = code(outcome);
         let next = done.words;
-        let to = skip(calls, i + 1, n, next.awake, next.peak, &mut *outcomes);
+        if next.awake != 0 {
+            words = next;
+            i += 1;
+            head = ahead;
+            continue;
+        }
+        let to = skip(calls, i + 1, n, next.peak, &mut *outcomes);
         words = later(next, to - i - 1);
         i = to;
+        head = peek(calls, to, n);
     }
     raise(words.peak, &mut fastest);
     let machine = unpack(&longest, sources, words, used, &since, fastest);

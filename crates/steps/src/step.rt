@@ -80,12 +80,12 @@ pub fn raise(t: u32, fastest: &mut [u32; 16])
     }
 }
 
-// Kept tempos rise up to the fastest given, none being below low: if low is not below it, none is looked at.
-fn fold(peak: u32, low: u32, fastest: &mut [u32; 16])
+// Kept tempos rise up to the fastest given, none being below low. At a tempo t that stays none is looked at, if low is not below the fastest.
+fn fold(t: u32, peak: u32, low: u32, fastest: &mut [u32; 16])
     requires { ⌜ length (now fastest) ≡ 16 ⌝ }
     ensures { λ _. ⌜ Folds peak low (now (fastest .entry)) (now (fastest .exit)) ⌝ }
 {
-    if peak <= low {
+    if t == low && peak <= low {
         return;
     }
     raise(peak, fastest)
@@ -105,7 +105,7 @@ pub fn arrive(
     requires { ⌜ Sourced mask × (length (now since) ≡ 16) × (length (now fastest) ≡ 16) ⌝ }
     ensures { λ r. ⌜ Arrives (now (rows .entry)) t peak mask w (now (since .entry)) (now (fastest .entry)) r (now (since .exit)) (now (fastest .exit)) ⌝ }
 {
-    fold(peak, w.low, &mut *fastest);
+    fold(t, peak, w.low, &mut *fastest);
     let mut out = wide::none();
     let mut wakes: u64 = 0;
     let mut rest = mask;

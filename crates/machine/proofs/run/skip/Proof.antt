@@ -16,81 +16,72 @@ use Rattle.machine.proofs.run.skip.Statement.{statement}
 use Rattle.machine.proofs.run.skip.Tie as tie
 
 -- a call that is passed
-abbrev Quiet : List ℕ → ℕ → ℕ → ℕ → Type 0
-Quiet calls awake peak k = (awake ≡ 0) × (numberIn calls (6 * k) 2 ≡ 0) × (200 ≤ numberIn calls (6 * k + 2) 2) × (numberIn calls (6 * k + 2) 2 ≤ peak)
+abbrev Quiet : List ℕ → ℕ → ℕ → Type 0
+Quiet calls peak k = (numberIn calls (6 * k) 2 ≡ 0) × (200 ≤ numberIn calls (6 * k + 2) 2) × (numberIn calls (6 * k + 2) 2 ≤ peak)
 
-more-quiet : (calls : List ℕ) (from awake peak i : ℕ) → ((k : ℕ) → from ≤ k → k < i → Quiet calls awake peak k) → Quiet calls awake peak i → (k : ℕ) → from ≤ k → k < i + 1 → Cmp k i → Quiet calls awake peak k
-more-quiet calls from awake peak i q h k a b (less r) = q k a r
-more-quiet calls from awake peak i q h k a b (same r) = rw r h
-more-quiet calls from awake peak i q h k a b (more r) = absurd (omega arith)
+more-quiet : (calls : List ℕ) (from peak i : ℕ) → ((k : ℕ) → from ≤ k → k < i → Quiet calls peak k) → Quiet calls peak i → (k : ℕ) → from ≤ k → k < i + 1 → Cmp k i → Quiet calls peak k
+more-quiet calls from peak i q h k a b (less r) = q k a r
+more-quiet calls from peak i q h k a b (same r) = rw r h
+more-quiet calls from peak i q h k a b (more r) = absurd (omega arith)
 
 abbrev Inv-loop : tie.InvT-loop
-Inv-loop calls from n awake peak outcomes₀ i₀ outcomes i = Skips calls from n awake peak outcomes₀ i outcomes
+Inv-loop calls from n peak outcomes₀ i₀ outcomes i = Skips calls from n peak outcomes₀ i outcomes
 
 abbrev μ-loop : tie.MeasureT-loop
-μ-loop calls from n awake peak outcomes₀ i₀ outcomes i = n - i
-
-returns : tie.Need-returns Inv-loop μ-loop
-returns c = record {
-  on = omega arith;
-  most = c .before .before .before .pre .0;
-  sized = refl;
-  quiet = λ k a b. absurd (omega arith);
-  stored = λ text out a b f e. e;
-}
+μ-loop calls from n peak outcomes₀ i₀ outcomes i = n - i
 
 loop-holds : tie.Need-loop-holds Inv-loop μ-loop
 loop-holds c = record {
   on = omega arith;
-  most = c .before .before .before .pre .0;
+  most = c .before .before .pre .0;
   sized = refl;
   quiet = λ k a b. absurd (omega arith);
   stored = λ text out a b f e. e;
 }
 
 mul-quiet-at : tie.Need-mul-quiet-at Inv-loop μ-loop
-mul-quiet-at c = omega (arith, c .before .before .before .before .before .pre .1, c .loop-test .taken, c .before .before .before .before .before)
+mul-quiet-at c = omega (arith, c .before .before .before .before .pre .1, c .loop-test .taken, c .before .before .before .before)
 
 quiet-at-requires : tie.Need-quiet-at-requires Inv-loop μ-loop
-quiet-at-requires c κs = omega (arith, c .before .before .before .before .before .pre .1, c .loop-test .taken)
+quiet-at-requires c κs = (omega (arith, c .before .before .before .before .pre .1, c .loop-test .taken), c .before .before .before .before .pre .3, c .before .before .before .before .pre .4)
 
 same-length : tie.Need-same-length Inv-loop μ-loop
 same-length c = c .before .before .before .loop .inv .sized
 
-returns-2 : tie.Need-returns-2 Inv-loop μ-loop
-returns-2 c = c .before .before .before .loop .inv
+returns : tie.Need-returns Inv-loop μ-loop
+returns c = c .before .before .before .loop .inv
 
 slice-write-outcomes : tie.Need-slice-write-outcomes Inv-loop μ-loop
-slice-write-outcomes c = omega (arith, c .before .before .before .before .before .before .before .pre .2, c .before .before .loop-test .taken, c .before .before .before .loop .inv .sized)
+slice-write-outcomes c = omega (arith, c .before .before .before .before .before .before .pre .2, c .before .before .loop-test .taken, c .before .before .before .loop .inv .sized)
 
 add-i : tie.Need-add-i Inv-loop μ-loop
-add-i c = omega (arith, c .before .before .before .before .before .before .before .pre .1, c .before .before .loop-test .taken, c .before .before .before .before .before .before .before)
+add-i c = omega (arith, c .before .before .before .before .before .before .pre .1, c .before .before .loop-test .taken, c .before .before .before .before .before .before)
 
 loop-less : tie.Need-loop-less Inv-loop μ-loop
 loop-less c = omega (arith, c .before .before .loop-test .taken)
 
 loop-again : tie.Need-loop-again Inv-loop μ-loop
 loop-again c =
-    let A = c .before .before .before .before .before .before .before .args in
+    let A = c .before .before .before .before .before .before .args in
     let L = c .before .before .before .loop in
     let i = L .i in
     let t = numberIn (A .calls .now) (6 * i + 2) 2 in
-    let both : (eqb (numberIn (A .calls .now) (6 * i) 2) 0 && (leb 200 t && leb t (A .peak))) ≡ true = sym (c .before .quiet-at .ensures) ∙ not-false _ (c .if2 .left) in
-    let on : (leb 200 t && leb t (A .peak)) ≡ true = and-right (eqb (numberIn (A .calls .now) (6 * i) 2) 0) _ both in
-    let here : Quiet (A .calls .now) (A .awake) (A .peak) i = (c .before .before .before .before .if1 .left, eqb-true _ 0 (and-left _ _ both), leb-true 200 t (and-left (leb 200 t) _ on), leb-true t (A .peak) (and-right (leb 200 t) _ on)) in
+    let both : (eqb (numberIn (A .calls .now) (6 * i) 2) 0 && (leb t (A .peak) && leb 200 t)) ≡ true = sym (c .before .quiet-at .ensures) ∙ not-false _ (c .if1 .left) in
+    let on : (leb t (A .peak) && leb 200 t) ≡ true = and-right (eqb (numberIn (A .calls .now) (6 * i) 2) 0) _ both in
+    let here : Quiet (A .calls .now) (A .peak) i = (eqb-true _ 0 (and-left _ _ both), leb-true 200 t (and-right (leb t (A .peak)) _ on), leb-true t (A .peak) (and-left (leb t (A .peak)) _ on)) in
     record {
       on = omega (arith, L .inv .on);
       most = omega (arith, c .before .before .loop-test .taken);
       sized = length-set (L .outcomes) i 0 ∙ L .inv .sized;
-      quiet = λ k a b. more-quiet (A .calls .now) (A .from) (A .awake) (A .peak) i (L .inv .quiet) here k a b (cmp k i);
+      quiet = λ k a b. more-quiet (A .calls .now) (A .from) (A .peak) i (L .inv .quiet) here k a b (cmp k i);
       stored = λ text out a b f e. store-turn out (L .outcomes) text i 0 (omega arith) (omega arith) (L .inv .stored text out (omega arith) (omega arith) (λ k x y. f k x (omega arith)) e) (sym (f i (L .inv .on) (omega arith)));
     }
 
 same-length-2 : tie.Need-same-length-2 Inv-loop μ-loop
 same-length-2 c = c .before .loop .inv .sized
 
-returns-3 : tie.Need-returns-3 Inv-loop μ-loop
-returns-3 c = c .before .loop .inv
+returns-2 : tie.Need-returns-2 Inv-loop μ-loop
+returns-2 c = c .before .loop .inv
 
 pub skip-spec : {M : Type 1} → statement M
 skip-spec =
@@ -98,15 +89,14 @@ skip-spec =
     (tie.spec
     Inv-loop
     μ-loop
-    returns
     loop-holds
     mul-quiet-at
     quiet-at-requires
     same-length
-    returns-2
+    returns
     slice-write-outcomes
     add-i
     loop-less
     loop-again
     same-length-2
-    returns-3)
+    returns-2)

@@ -1,11 +1,14 @@
 -- `fold` meets its contract: no kept tempo is below the fastest given, or all are raised. Assumes nothing.
 use Rattle.steps.proofs.StepLaws.{not-below}
 use borrow.Author.Needs.{needs}
+use borrow.Author.Tests.{leb-true}
 use Rattle.steps.proofs.step.fold.Statement.{statement}
 use Rattle.steps.proofs.step.fold.Tie as tie
 
 returns : tie.Need-returns
-returns c = record { many = c .before .pre; raised = not-below (c .before .args .peak) (c .before .args .low) (c .before .args .fastest .now) (c .if1 .taken) }
+returns c =
+    let S = c .before .before in
+    record { many = S .pre; raised = not-below (S .args .peak) (S .args .low) (S .args .fastest .now) (leb-true (S .args .peak) (S .args .low) (c .if2 .taken)) }
 
 raise-requires : tie.Need-raise-requires
 raise-requires c κs = search needs

@@ -1,7 +1,10 @@
 -- The P figures hold: each row is computed. Assumes nothing.
-use Prim.Native.Nat.{ℕ}
-use mathlib.Core.Path.{refl}
-use Rattle.model.specs.Figures.{Figures, CallOrder}
+use Prim.Native.Nat.{ℕ, _%_}
+use mathlib.Core.Bool.{Bool, true, false}
+use mathlib.Core.List.{List}
+use mathlib.Core.Path.{_≡_, refl, ap}
+use lib.Dec.{eqb}
+use Rattle.model.specs.Figures.{twin, quick, callsWhere, history, Figures, CallOrder}
 use Rattle.model.specs.Basics.{sumN, topN, anyN, allN, upTo, tab, joined}
 use Rattle.model.specs.Field.{bytesOf, numberIn, bodyOf, fieldBytes, fieldIn, takeField, checkField, fieldOf}
 use Rattle.model.specs.Graph.{linked, system, walks, cyclic}
@@ -11,7 +14,7 @@ use Rattle.model.specs.Delays.{spacing, spacingOf, spacings, startOf, ro
 use Rattle.model.specs.Order.{visit, walk, inOrder}
 use Rattle.model.specs.Verdicts.{sourceVerdict, orderVerdict, verdictOf, verdictAt, allHeld, judgeAt, largestBelow, quoteOf}
 use Rattle.model.specs.Machine.{idle, lawful, fireLink, fire, arriveOne, arrive, highestIn, runTask, clearLink, clearInto, endRun, ageOne, ageAll, keep, stepped, strangers, tooSoon, judgeTick, plainTick}
-use Rattle.model.specs.History.{answers, left, observe, ticks, endsWithin, ticksUntil, servedBefore, waitOf}
+use Rattle.model.specs.History.{Tick, answers, left, observe, ticks, endsWithin, ticksUntil, servedBefore, waitOf}
 use Rattle.model.specs.Run.{codes}
 use Rattle.model.specs.Report.{digits, decimal, tempoText, tempoLine, verdictText, linkLine, linkLines, refusedLine, reportFor, reportOf}
 use Rattle.model.specs.Page.{linesOf, tempoWords, heldWords}
@@ -20,6 +23,28 @@ use Rattle.model.specs.Page.{linesOf, tempoWords, heldWords}
 unfoldable pub computing : ℕ
 unfolding sumN topN anyN allN upTo tab joined bytesOf numberIn bodyOf fieldBytes fieldIn takeField checkField fieldOf linked system walks cyclic workF work added load tooHeavy fileOf lastChecks parseFrom parseFile readFile overfull judge spacing spacingOf spacings startOf roundOf settle delayOf visit walk inOrder sourceVerdict orderVerdict verdictOf verdictAt allHeld judgeAt largestBelow quoteOf idle lawful fireLink fire arriveOne arrive highestIn runTask clearLink clearInto endRun ageOne ageAll keep stepped strangers tooSoon judgeTick plainTick answers left observe ticks endsWithin ticksUntil servedBefore waitOf codes digits decimal tempoText tempoLine verdictText linkLine linkLines refusedLine reportFor reportOf linesOf tempoWords heldWords
 computing = 0
+
+-- what is asked of one list of ticks is computed at once
+abbrev asked-served : List Tick → ℕ × ℕ × Bool × Bool
+asked-served h = (waitOf h 2 0, waitOf h 1 0, servedBefore h 1 0 6, servedBefore h 1 0 5)
+
+twin-served : asked-served (history (twin 9) (callsWhere 9 (λ x. eqb x 0))) ≡ (2, 6, true, false)
+unfolding computing
+twin-served = refl
+
+abbrev asked-cut : List Tick → ℕ × Bool
+asked-cut h = (waitOf h 1 0, servedBefore h 1 0 4)
+
+twin-cut : asked-cut (history (twin 9) (callsWhere 4 (λ x. eqb x 0))) ≡ (4, false)
+unfolding computing
+twin-cut = refl
+
+abbrev asked-quick : List Tick → ℕ × ℕ × ℕ
+asked-quick h = (waitOf h 1 2, waitOf h 1 4, waitOf h 1 8)
+
+quick-served : asked-quick (history quick (callsWhere 9 (λ x. eqb (x % 2) 0))) ≡ (2, 4, 1)
+unfolding computing
+quick-served = refl
 
 pub figures : Figures
 unfolding computing
@@ -53,15 +78,15 @@ figures = record {
   p9-pass = refl;
   p10-twice = refl;
   numbers = refl;
-  waits-second = refl;
-  waits-first = refl;
-  served = refl;
-  not-yet-served = refl;
-  waits-to-last = refl;
-  not-served-in-list = refl;
-  waits-part-done = refl;
-  waits-next-run = refl;
-  waits-last-tick = refl;
+  waits-second = ap (λ x. x .0) twin-served;
+  waits-first = ap (λ x. x .1) twin-served;
+  served = ap (λ x. x .2) twin-served;
+  not-yet-served = ap (λ x. x .3) twin-served;
+  waits-to-last = ap (λ x. x .0) twin-cut;
+  not-served-in-list = ap (λ x. x .1) twin-cut;
+  waits-part-done = ap (λ x. x .0) quick-served;
+  waits-next-run = ap (λ x. x .1) quick-served;
+  waits-last-tick = ap (λ x. x .2) quick-served;
   page-box = refl;
   page-box-lines = refl;
   page-box-tempo = refl;

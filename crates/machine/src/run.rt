@@ -44,7 +44,7 @@ fn code(end: Outcome) -> u8
     }
 }
 
-// A call's mask and tempo as one number of four bytes.
+// A call's mask and tempo as one number of four bytes: where nothing comes, it is the tempo.
 fn head_at(calls: &[u8], at: usize) -> u32
     requires { ⌜ at + 4 ≤ length (now calls) ⌝ }
     ensures { λ r. ⌜ Head (now (calls .entry)) at r ⌝ }
@@ -54,7 +54,7 @@ fn head_at(calls: &[u8], at: usize) -> u32
     mask as u32 * 65536 + tempo as u32
 }
 
-// The same of call i of n; behind the last, nothing.
+// The same of call i of n. What it is behind the last does not matter.
 fn peek(calls: &[u8], i: usize, n: usize) -> u32
     requires { ⌜ 6 * n ≤ length (now calls) ⌝ }
     ensures { λ r. ⌜ (i < n → Head (now (calls .entry)) (6 * i) r) ⌝ }
@@ -79,7 +79,7 @@ fn tempo_in(head: u32) -> u32
     head % 65536
 }
 
-// Whether nothing comes in a call, and its tempo is one of the knob up to the fastest given, which is below 65536.
+// Whether nothing comes in a call, and its tempo is one of the knob up to the fastest given.
 fn quiet_at(calls: &[u8], at: usize, peak: u32) -> bool
     requires { ⌜ (at + 4 ≤ length (now calls)) × (200 ≤ peak) × (peak ≤ 3000) ⌝ }
     ensures { λ r. ⌜ r ≡ (eqb (numberIn (now (calls .entry)) at 2) 0 && (leb (numberIn (now (calls .entry)) (at + 2) 2) peak && leb 200 (numberIn (now (calls .entry)) (at + 2) 2))) ⌝ }
@@ -129,7 +129,8 @@ fn later(w: Words, ticks: usize) -> Words
 }
 
 // The calls of a wiring from the start, six bytes each. Each call's refusal, or 0, goes to its place of the buffer; one that does
-// not hold them all is refused as too short (13). Head is the next call's, read while its forerunner is worked out.
+// not hold them all is refused as too short (13). A call's head is read while the one before is worked out, so that nothing waits
+// for it.
 pub fn run_wired(
     w: Wiring,
     s: Sources,

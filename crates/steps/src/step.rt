@@ -80,7 +80,7 @@ pub fn raise(t: u32, fastest: &mut [u32; 16])
     }
 }
 
-// Kept tempos rise up to the fastest given, none being below low. At a tempo t that stays none is looked at, if low is not below the fastest.
+// Kept tempos rise up to the fastest given, none being below low. With the knob at rest (t is low, and nothing was faster) none is looked at.
 fn fold(t: u32, peak: u32, low: u32, fastest: &mut [u32; 16])
     requires { ⌜ length (now fastest) ≡ 16 ⌝ }
     ensures { λ _. ⌜ Folds peak low (now (fastest .entry)) (now (fastest .exit)) ⌝ }

@@ -13,7 +13,7 @@
  * No call allocates, keeps a pointer, reads or writes anything but its arguments, or fails otherwise than by its number. There is
  * no state outside the arguments, so calls may run at once in several threads and in a handler that interrupts another call.
  *
- * Stack: the most that was seen is 160,512 bytes in bench_report, 144,416 in bench_quote and 27,120 in bench_run, on a thread whose
+ * Stack: the most that was seen is 160,512 bytes in bench_report, 144,416 in bench_quote and 27,136 in bench_run, on a thread whose
  * stack was filled with a pattern beforehand: the first two over the samples, where a level that takes more than 256 rounds needs a
  * table of 131,072 bytes. No recursion is deeper than the file has tasks. Allow 256 KB.
  *

@@ -100,3 +100,9 @@ getD-set l i v d k h = go (eqb k i) refl
     go : (b : Bool) → eqb k i ≡ b → getD (set l i v) k d ≡ cond (eqb k i) v (getD l k d)
     go true e = let q : k ≡ i = eqb-true k i e in rw e (rw q (getD-set-same l i v d h))
     go false e = rw e (getD-set-other l i k v d (eqb-false k i e))
+
+-- of two stores at one place the later counts
+pub set-twice : {A : Type 0} (l : List A) (i : ℕ) (a b : A) → set (set l i a) i b ≡ set l i b
+set-twice [] i a b = refl
+set-twice (x ∷ l) zero a b = refl
+set-twice {A} (x ∷ l) (suc i) a b = ap (λ (k : List A). x ∷ k) (set-twice l i a b)

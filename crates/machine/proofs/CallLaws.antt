@@ -1,11 +1,11 @@
 -- One call by the tests that lead to each of its answers: strangers, sources that come too soon, and the four steps. Assumes nothing.
-use Prim.Native.Nat.{ℕ, zero, suc, _+_, _-_, _/_, _%_, _^_, _≤_, _<_, min, max}
+use Prim.Native.Nat.{ℕ, zero, suc, _+_, _-_, _*_, _/_, _%_, _^_, _≤_, _<_, min, max}
 use mathlib.Core.Path.{_≡_, refl, sym, ap, subst, _∙_}
 use mathlib.Core.Bool.{Bool, true, false, _||_, _&&_, not, cond}
 use mathlib.Core.List.{List}
 use mathlib.Core.Logic.{_⊎_, inl, inr}
 use native.Mathlib.Omega.{arith}
-use native.Mathlib.Nat.{div-div-eq-div-mul, div-eq-of-lt, pow-suc, zero-div}
+use native.Mathlib.Nat.{div-div-eq-div-mul, div-eq-of-lt, div-add-mod, mod-lt, pow-suc, zero-div}
 use native.Mathlib.Numerals.{add-one}
 use lib.ListN.{getD, length}
 use lib.Seq.{ext-getD}
@@ -32,8 +32,8 @@ use Rattle.theory.proofs.WellFormed.{WellFormed}
 use Rattle.theory.proofs.Spacing.{gap-anti}
 use Rattle.assurance.proofs.Stepping.{overAt, Stepped, step}
 use Rattle.sets.specs.Sets.{member}
-use Rattle.spacings.specs.Sources.{spacingBy, sourcesWith, SourcesOf}
-use Rattle.spacings.specs.Gaps.{Asked}
+use Rattle.spacings.specs.Sources.{sourcesWith, SourcesOf}
+use Rattle.spacings.specs.Gaps.{Asked, GapsOf}
 use Rattle.spacings.proofs.SourceLaws.{plain-pulses}
 use Rattle.spacings.proofs.GapLaws.{gap-of}
 use Rattle.steps.specs.declared.words.Words.{Words}
@@ -42,11 +42,14 @@ use Rattle.steps.specs.Words.{Ages, Holds, Keeps, Workable, worked, Above, rais
 use Rattle.steps.proofs.MaskLaws.{none-above, mark-in, heard-under}
 use Rattle.steps.proofs.StepLaws.{arrive-none, ages-same}
 use Rattle.machine.specs.declared.call.Advanced.{Advanced}
-use Rattle.machine.specs.Calls.{TablesOf, Tracks, Timed, KeepsAfter, arrivalsEnd}
+use Rattle.machine.specs.Calls.{TablesOf, Tracks, dueBy, Timed, KeepsAfter, arrivalsEnd}
 
--- a mask with nothing left above s sources
-pub known : (d : Description) (mask s a : ℕ) → d .«source_count» ≡ s → s ≤ 16 → a ≡ mask / 2 ^ s → a ≡ 0 → Known d mask
-known d mask s a q few e z = (omega arith, ap (λ n. mask / 2 ^ n) q ∙ sym e ∙ z)
+-- a mask up to that of all sources, and one above it
+pub known : (d : Description) (mask all : ℕ) → WellFormed d → all + 1 ≡ 2 ^ d .«source_count» → mask ≤ all → Known d mask
+known d mask all g w h = (g .fields .few-sources, div-eq-of-lt (omega (arith, w)))
+
+above-all : (mask n p : ℕ) → mask / n ≡ 0 → p + 1 ≡ n → mask ≤ p
+above-all mask n p e w = omega (arith, mod-lt mask {m = n} (omega arith), sym (div-add-mod mask n) ∙ ap (λ k. n * k + mask % n) e)
 
 -- a mask with no bit above the first s has nothing left there
 halved : (mask u rest : ℕ) → rest ≡ mask / 2 ^ u → rest / 2 ≡ mask / 2 ^ (u + 1)
@@ -72,10 +75,13 @@ strangers-none d mask z = any-none (λ u. getD (marksIn mask) u false && leb (d 
     go k h true f = and-false-left (getD (marksIn mask) k false) (leb (d .«source_count») k) (mark-in mask k h ∙ none-above mask (d .«source_count») k (z .1) (leb-true (d .«source_count») k f))
     go k h false f = and-false-right (getD (marksIn mask) k false) (leb (d .«source_count») k) f
 
-pub strangers-some : (d : Description) (mask s : ℕ) → d .«source_count» ≡ s → s ≤ 16 → mask < 2 ^ 64 → Sourced mask → (mask / 2 ^ s ≡ 0 → ⊥) → strangers d (marksIn mask) ≡ true
+pub strangers-some : (d : Description) (mask all : ℕ) → WellFormed d → all + 1 ≡ 2 ^ d .«source_count» → mask < 2 ^ 64 → Sourced mask → all < mask → strangers d (marksIn mask) ≡ true
 unfolding strangers
-strangers-some d mask s q few w n some = rw q (true-of (anyN (λ u. getD (marksIn mask) u false && leb s u) 0 16) (λ e. some (nothing-above mask w (64 - s) s (omega arith) (λ k a. false-of (heard mask k) (λ f. not-both f (silent e k a (n k f)))))))
+strangers-some d mask all g whole w n some = true-of (anyN (λ u. getD (marksIn mask) u false && leb s u) 0 16) (λ e. omega (arith, above-all mask (2 ^ s) all (nothing-above mask w (64 - s) s (omega (arith, g .fields .few-sources)) (λ k a. false-of (heard mask k) (λ f. not-both f (silent e k a (n k f))))) whole))
   where
+    s : ℕ
+    s = d .«source_count»
+
     and-false-of : (a b : Bool) → b ≡ true → (a && b) ≡ false → a ≡ false
     and-false-of true b e f = sym e ∙ f
     and-false-of false b e f = refl
@@ -125,9 +131,9 @@ pub rests-on : (t peak : ℕ) → 200 ≤ t → t ≤ peak → peak ≤ 3000 →
 rests-on t peak a b c = both (leb 200 t) (leb t 3000) (le-leb 200 t a) (le-leb t 3000 (omega arith))
 
 -- an arrival that is too soon, and none that is
-module _ (d : Description) (t mask peak tick sources : ℕ) (ticks pulses since fastest : List ℕ) (w : Words) (m : Machine) (g : WellFormed d) (s : SourcesOf d (sourcesWith sources ticks pulses)) (k : Known d mask) (l : lawful d m ≡ true) (a : Ages d tick since m) (K : Keeps w fastest m) (q : peak ≡ max (w .peak) t) (low : 200 ≤ t) where
+module _ (d : Description) (t mask peak tick sources : ℕ) (ticks pulses longest since fastest : List ℕ) (w : Words) (m : Machine) (g : WellFormed d) (s : SourcesOf d (sourcesWith sources ticks pulses)) (G : GapsOf d 200 longest) (k : Known d mask) (l : lawful d m ≡ true) (a : Ages d tick since m) (K : Keeps w fastest m) (q : peak ≡ max (w .peak) t) (low : 200 ≤ t) where
   abbrev due : ℕ → ℕ
-  due u = spacingBy (getD ticks u 0) (getD pulses u 0) (max (getD fastest u 0) peak)
+  due u = dueBy ticks pulses fastest peak u
 
   abbrev dueIn : ℕ → ℕ
   dueIn u = spacingOf d (max (fastestAt m u) t) (33 + u)
@@ -167,16 +173,17 @@ module _ (d : Description) (t mask peak tick sources : ℕ) (ticks pulses since 
       young (inl e) = omega (arith, h, a .here u z, a .before u z)
       young (inr e) = absurd (omega (arith, h, due-gap u z, most u (max (getD fastest u 0) peak) z (omega arith), a .here u z, a .before u z))
 
-  pub soon-none : ((u : ℕ) → heard mask u ≡ true → getD since u 0 + due u ≤ tick) → false ≡ tooSoon d t (marksIn mask) m
+  pub soon-none : ((u : ℕ) → heard mask u ≡ true → (getD since u 0 + due u ≤ tick) ⊎ (getD since u 0 + getD longest u 0 ≤ tick)) → false ≡ tooSoon d t (marksIn mask) m
   unfolding tooSoon
   soon-none past = sym (any-none (λ u. getD (marksIn mask) u false && ltb (ageAt m u) (dueIn u)) 0 (d .«source_count») (λ u x y. go u (omega arith) (heard mask u) refl))
     where
-      old : (u : ℕ) → u < d .«source_count» → heard mask u ≡ true → (due u ≡ dueIn u) ⊎ (ageAt m u ≡ longestGap d u) → dueIn u ≤ ageAt m u
-      old u h f (inl e) = omega (arith, past u f, most u (max (fastestAt m u) t) h (omega arith), a .here u h)
-      old u h f (inr e) = omega (arith, most u (max (fastestAt m u) t) h (omega arith))
+      old : (u : ℕ) → u < d .«source_count» → (getD since u 0 + due u ≤ tick) ⊎ (getD since u 0 + getD longest u 0 ≤ tick) → (due u ≡ dueIn u) ⊎ (ageAt m u ≡ longestGap d u) → dueIn u ≤ ageAt m u
+      old u h (inl p) (inl e) = omega (arith, p, most u (max (fastestAt m u) t) h (omega arith), a .here u h)
+      old u h (inr p) (inl e) = omega (arith, p, G .at u h, most u (max (fastestAt m u) t) h (omega arith), a .here u h)
+      old u h p (inr e) = omega (arith, most u (max (fastestAt m u) t) h (omega arith))
 
       go : (u : ℕ) → u < d .«source_count» → (b : Bool) → heard mask u ≡ b → (getD (marksIn mask) u false && ltb (ageAt m u) (dueIn u)) ≡ false
-      go u h true f = and-false-right (getD (marksIn mask) u false) (ltb (ageAt m u) (dueIn u)) (le-ltb (ageAt m u) (dueIn u) (old u h f (fired-or-not u h)))
+      go u h true f = and-false-right (getD (marksIn mask) u false) (ltb (ageAt m u) (dueIn u)) (le-ltb (ageAt m u) (dueIn u) (old u h (past u f) (fired-or-not u h)))
       go u h false f = and-false-left (getD (marksIn mask) u false) (ltb (ageAt m u) (dueIn u)) (mark-in mask u (omega (arith, k .0)) ∙ f)
 
 -- in a lawful record a tick more fits what each task has used
@@ -224,12 +231,12 @@ kept-most d w fastest m g e K u p = go (getD fastest u 0) refl
         omega (arith, within 200 (fastestAt m u) 3000 o .1)
 
 -- so that the spacings of arriving sources can be worked out
-pub timed : (d : Description) (t mask peak sources : ℕ) (w : Words) (rows runs ticks pulses used since fastest tempos gaps : List ℕ) (m : Machine) → TablesOf d rows runs ticks pulses sources → Tracks d w used since fastest m → lawful d m ≡ true → w .tick < 2 ^ 63 → Asked ticks pulses tempos gaps → Sourced mask → Known d mask → onKnob t ≡ true → peak ≡ max (w .peak) t → Timed mask peak ticks pulses since fastest tempos gaps
-timed d t mask peak sources w rows runs ticks pulses used since fastest tempos gaps m T R l early asked sourced k knob q = record {
+pub timed : (d : Description) (t mask peak all : ℕ) (w : Words) (rows runs ticks pulses longest used since fastest tempos gaps : List ℕ) (m : Machine) → TablesOf d rows runs ticks pulses longest all → Tracks d w used since fastest m → lawful d m ≡ true → w .tick < 2 ^ 63 → Asked ticks pulses tempos gaps → Sourced mask → Known d mask → onKnob t ≡ true → peak ≡ max (w .peak) t → Timed mask peak ticks pulses since fastest tempos gaps
+timed d t mask peak all w rows runs ticks pulses longest used since fastest tempos gaps m T R l early asked sourced k knob q = record {
   sourced = sourced;
   low = omega (arith, within 200 t 3000 knob .0);
   high = omega (arith, within 200 t 3000 knob .1, R .keeps .high);
-  few = λ u e. plain-pulses (T .same-sources .at u (omega (arith, under u e, T .as-wide)));
+  few = λ u e. plain-pulses (T .same-sources .at u (under u e));
   kept = λ u e. kept-most d w fastest m (T .formed) l (R .keeps) u (under u e);
   early = λ u e. omega (arith, R .holds .ages .before u (under u e));
   asked = asked;

@@ -3,6 +3,7 @@ use Prim.Native.Nat.{ℕ, _+_, _^_, _≤_, _<_, max}
 use mathlib.Core.Bool.{Bool, true, false, cond}
 use mathlib.Core.List.{List}
 use mathlib.Core.Path.{_≡_}
+use mathlib.Core.Logic.{_⊎_}
 use lib.ListN.{getD, length}
 use Rattle.model.specs.declared.Description.{Description}
 use Rattle.model.specs.declared.Machine.{Machine}
@@ -20,7 +21,7 @@ use Rattle.theory.proofs.WellFormed.{WellFormed}
 use Rattle.wiring.specs.declared.Wiring.{Wiring}
 use Rattle.wiring.specs.Rows.{RowsOf, WiringOf}
 use Rattle.spacings.specs.declared.Sources.{Sources}
-use Rattle.spacings.specs.Sources.{sourcesWith, SourcesOf}
+use Rattle.spacings.specs.Sources.{spacingBy, sourcesWith, SourcesOf}
 use Rattle.spacings.specs.Gaps.{Asked, GapsOf}
 use Rattle.steps.specs.declared.words.Words.{Words}
 use Rattle.steps.specs.Parts.{Known, Sourced}
@@ -29,19 +30,40 @@ use Rattle.machine.specs.declared.call.Call.{Call}
 use Rattle.machine.specs.declared.call.Advanced.{Advanced}
 
 -- the tables of an accepted description
-pub record TablesOf (d : Description) (rows runs ticks pulses : List ℕ) (sources : ℕ) : Type 0 where
+pub record TablesOf (d : Description) (rows runs ticks pulses longest : List ℕ) (all : ℕ) : Type 0 where
   pub formed : WellFormed d
   pub rowed : RowsOf d (d .«link_count») rows
   pub same-runs : runs ≡ d .runs
-  pub as-wide : d .«source_count» ≡ sources
-  pub same-sources : SourcesOf d (sourcesWith sources ticks pulses)
+  pub same-sources : SourcesOf d (sourcesWith (d .«source_count») ticks pulses)
+  pub spaced : GapsOf d 200 longest
+  pub whole : all + 1 ≡ 2 ^ d .«source_count»
 
 -- the words and tables that hold a whole record
 pub record Tracks (d : Description) (w : Words) (used since fastest : List ℕ) (m : Machine) : Type 0 where
   pub holds : Holds d w used since m
   pub keeps : Keeps w fastest m
 
--- the numbers of every arriving source are such that its spacing can be worked out
+-- a source's numbers are such that its spacing can be worked out
+pub record TimedAt (u peak : ℕ) (ticks pulses since fastest tempos gaps : List ℕ) : Type 0 where
+  pub here : u < 16
+  pub low : 200 ≤ peak
+  pub high : peak ≤ 3000
+  pub few : getD pulses u 0 ≤ 960
+  pub kept : getD fastest u 0 ≤ 3000
+  pub early : getD since u 0 < 2 ^ 63
+  pub asked : Asked ticks pulses tempos gaps
+
+-- its spacing at the fastest tempo given
+abbrev pub dueBy : List ℕ → List ℕ → List ℕ → ℕ → ℕ → ℕ
+dueBy ticks pulses fastest peak u = spacingBy (getD ticks u 0) (getD pulses u 0) (max (getD fastest u 0) peak)
+
+-- whether it comes too soon: that spacing has not passed, or else it has or the longest has
+pub record SoonAt (u peak : ℕ) (ticks pulses longest since fastest : List ℕ) (tick : ℕ) (r : Bool) (tempos′ gaps′ : List ℕ) : Type 0 where
+  pub soon : r ≡ true → tick < getD since u 0 + dueBy ticks pulses fastest peak u
+  pub late : r ≡ false → (getD since u 0 + dueBy ticks pulses fastest peak u ≤ tick) ⊎ (getD since u 0 + getD longest u 0 ≤ tick)
+  pub asked : Asked ticks pulses tempos′ gaps′
+
+-- the same of every arriving source
 pub record Timed (mask peak : ℕ) (ticks pulses since fastest tempos gaps : List ℕ) : Type 0 where
   pub sourced : Sourced mask
   pub low : 200 ≤ peak
@@ -52,19 +74,18 @@ pub record Timed (mask peak : ℕ) (ticks pulses since fastest tempos gaps : Lis
   pub asked : Asked ticks pulses tempos gaps
 
 -- whether an arriving source comes too soon, peak being the fastest tempo given since the last arrival
-pub record SoonIs (mask peak : ℕ) (ticks pulses since fastest : List ℕ) (tick : ℕ) (r : Bool) (tempos′ gaps′ : List ℕ) : Type 0 where
-  pub told : (d : Description) (t sources : ℕ) (w : Words) (m : Machine) → WellFormed d → SourcesOf d (sourcesWith sources ticks pulses) → Known d mask → lawful d m ≡ true
+pub record SoonIs (mask peak : ℕ) (ticks pulses longest since fastest : List ℕ) (tick : ℕ) (r : Bool) (tempos′ gaps′ : List ℕ) : Type 0 where
+  pub told : (d : Description) (t sources : ℕ) (w : Words) (m : Machine) → WellFormed d → SourcesOf d (sourcesWith sources ticks pulses) → GapsOf d 200 longest → Known d mask → lawful d m ≡ true
       → Ages d tick since m → Keeps w fastest m → peak ≡ max (w .peak) t → 200 ≤ t → r ≡ tooSoon d t (marksIn mask) m
   pub asked : Asked ticks pulses tempos′ gaps′
 
--- steps 2 to 4 are made at tempo t
-pub record RunsOn (rows runs : List ℕ) (t : ℕ) (finish : Bool) (w : Words) (used : List ℕ) (r : Advanced) (used′ : List ℕ) : Type 0 where
+-- steps 2 to 4 are made
+pub record RunsOn (rows runs : List ℕ) (finish : Bool) (w : Words) (used : List ℕ) (r : Advanced) (used′ : List ℕ) : Type 0 where
   pub done : r .outcome ≡ Done
   pub ran : (d : Description) (since : List ℕ) (m : Machine) → WellFormed d → RowsOf d (d .«link_count») rows → runs ≡ d .runs
       → Holds d w used since m → Holds d (r .words) used′ since (ageAll d (worked d finish m))
   pub then : r .words .tick ≡ w .tick + 1
-  pub low : r .words .low ≡ w .low
-  pub peak : r .words .peak ≡ max (w .peak) t
+  pub knob : (r .words .low ≡ w .low) × (r .words .peak ≡ w .peak)
 
 -- the sources of a mask have fired at tempo t: what a record's kept tempos are to become
 pub record KeepsAfter (t mask : ℕ) (w : Words) (fastest : List ℕ) (m : Machine) : Type 0 where
@@ -82,10 +103,10 @@ arrivalsEnd d t mask m =
     Done)
 
 -- a call may be made: its tables are those of some accepted description, and the words hold a record that keeps the rules
-pub record Going (rows runs ticks pulses : List ℕ) (sources mask : ℕ) (w : Words) (used since fastest tempos gaps : List ℕ) : Type 0 where
+pub record Going (rows runs ticks pulses longest : List ℕ) (all mask : ℕ) (w : Words) (used since fastest tempos gaps : List ℕ) : Type 0 where
   pub description : Description
   pub machine : Machine
-  pub tables : TablesOf description rows runs ticks pulses sources
+  pub tables : TablesOf description rows runs ticks pulses longest all
   pub tracks : Tracks description w used since fastest machine
   pub keeps : lawful description machine ≡ true
   pub sourced : Sourced mask
@@ -98,10 +119,10 @@ abbrev pub plainAnswer : Description → Machine → Call → Ticked
 plainAnswer d m call = plainCall d m (callOf (call .mask) (call .tempo) (call .finish))
 
 -- the call ends as the plain machine's, and its words hold the record which that leaves
-pub record Advances (rows runs ticks pulses : List ℕ) (sources : ℕ) (call : Call) (w : Words) (used since fastest : List ℕ) (r : Advanced) (used′ since′ fastest′ tempos′ gaps′ : List ℕ) : Type 0 where
-  pub ends : (d : Description) (m : Machine) → TablesOf d rows runs ticks pulses sources → judge d ≡ Done → lawful d m ≡ true → Tracks d w used since fastest m
+pub record Advances (rows runs ticks pulses longest : List ℕ) (all : ℕ) (call : Call) (w : Words) (used since fastest : List ℕ) (r : Advanced) (used′ since′ fastest′ tempos′ gaps′ : List ℕ) : Type 0 where
+  pub ends : (d : Description) (m : Machine) → TablesOf d rows runs ticks pulses longest all → judge d ≡ Done → lawful d m ≡ true → Tracks d w used since fastest m
       → r .outcome ≡ plainAnswer d m call .outcome
-  pub leaves : (d : Description) (m : Machine) → TablesOf d rows runs ticks pulses sources → judge d ≡ Done → lawful d m ≡ true → Tracks d w used since fastest m
+  pub leaves : (d : Description) (m : Machine) → TablesOf d rows runs ticks pulses longest all → judge d ≡ Done → lawful d m ≡ true → Tracks d w used since fastest m
       → Tracks d (r .words) used′ since′ fastest′ (plainAnswer d m call .machine)
   pub asked : Asked ticks pulses tempos′ gaps′
   pub soon : r .words .tick ≤ w .tick + 1

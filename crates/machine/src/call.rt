@@ -5,17 +5,18 @@ use model::Refusal;
 use spacings::gap_at;
 use spacings::on_knob;
 use steps::step::arrive;
+use steps::step::at_tempos;
 use steps::step::larger;
 use steps::step::long;
 use steps::step::pass;
 use steps::step::work;
 use steps::words::Words;
 ghost use mathlib.Core.Path.{_≡_};
-ghost use Prim.Native.Nat.{_+_, _≤_, _<_, _/_, _^_};
+ghost use Prim.Native.Nat.{_+_, _≤_, _<_, _^_};
 ghost use lib.Dec.{ltb};
 ghost use Rattle.model.specs.declared.Outcome.the-variants.{Refused};
 ghost use Rattle.steps.specs.Words.{Workable};
-ghost use Rattle.machine.specs.Calls.{Timed, SoonIs, RunsOn, Going, Advances};
+ghost use Rattle.machine.specs.Calls.{TimedAt, SoonAt, Timed, SoonIs, RunsOn, Going, Advances};
 
 // What a caller brings to a tick: the arrivals, whose bit u is source 33 + u, the tempo, and finish.
 pub struct Call {
@@ -30,12 +31,19 @@ pub struct Advanced {
     pub words: Words,
 }
 
-// 15: what is left of a mask above the sources that exist.
-fn above(mask: u64, sources: usize) -> u64
+// The mask of all sources that exist.
+pub fn all_of(sources: usize) -> u64
     requires { ⌜ sources ≤ 16 ⌝ }
-    ensures { λ r. ⌜ r ≡ mask / 2 ^ sources ⌝ }
+    ensures { λ r. ⌜ r + 1 ≡ 2 ^ sources ⌝ }
 {
-    mask >> sources
+    (1 << sources) - 1
+}
+
+// 15: a mask has a source above those that exist.
+fn above(mask: u64, all: u64) -> bool
+    ensures { λ r. ⌜ r ≡ ltb all mask ⌝ }
+{
+    all < mask
 }
 
 // Whether a spacing has not passed since some tick.
@@ -46,13 +54,38 @@ fn young(since: u64, gap: u32, tick: u64) -> bool
     tick < since + long(gap)
 }
 
-// 14: the age of an arriving source is below its spacing at the fastest tempo given since it last fired. Peak is the fastest of those since the last
-// arrival, this tick's included.
+// Whether the age of source 33 + u is below its spacing at the fastest tempo given since it last fired. Peak is the fastest of those since the last
+// arrival, this tick's included. Where its longest spacing has passed, no other is worked out.
+fn soon_at<'a>(
+    u: usize,
+    peak: u32,
+    ticks: &'a [u32; 16],
+    pulses: &'a [u32; 16],
+    longest: &'a [u32; 16],
+    since: &[u64; 16],
+    fastest: &[u32; 16],
+    tick: u64,
+    tempos: &mut [u32; 16],
+    gaps: &mut [u32; 16],
+) -> bool
+    requires { ⌜ TimedAt u peak (now ticks) (now pulses) (now since) (now fastest) (now tempos) (now gaps) ⌝ }
+    ensures { λ r. ⌜ SoonAt u peak (now (ticks .entry)) (now (pulses .entry)) (now (longest .entry)) (now (since .entry)) (now (fastest .entry)) tick r (now (tempos .exit)) (now (gaps .exit)) ⌝ }
+{
+    if !young(since[u], longest[u], tick) {
+        return false;
+    }
+    let tempo = larger(fastest[u], peak);
+    let gap = gap_at(ticks, pulses, u, tempo, tempos, gaps);
+    young(since[u], gap, tick)
+}
+
+// 14: the age of an arriving source is below its spacing.
 fn too_soon<'a>(
     mask: u64,
     peak: u32,
     ticks: &'a [u32; 16],
     pulses: &'a [u32; 16],
+    longest: &'a [u32; 16],
     since: &[u64; 16],
     fastest: &[u32; 16],
     tick: u64,
@@ -60,14 +93,23 @@ fn too_soon<'a>(
     gaps: &mut [u32; 16],
 ) -> bool
     requires { ⌜ Timed mask peak (now ticks) (now pulses) (now since) (now fastest) (now tempos) (now gaps) ⌝ }
-    ensures { λ r. ⌜ SoonIs mask peak (now (ticks .entry)) (now (pulses .entry)) (now (since .entry)) (now (fastest .entry)) tick r (now (tempos .exit)) (now (gaps .exit)) ⌝ }
+    ensures { λ r. ⌜ SoonIs mask peak (now (ticks .entry)) (now (pulses .entry)) (now (longest .entry)) (now (since .entry)) (now (fastest .entry)) tick r (now (tempos .exit)) (now (gaps .exit)) ⌝ }
 {
     let mut rest = mask;
     while rest != 0 {
         let u = sets::first(rest);
-        let tempo = larger(fastest[u], peak);
-        let gap = gap_at(ticks, pulses, u, tempo, &mut *tempos, &mut *gaps);
-        if young(since[u], gap, tick) {
+        if soon_at(
+            u,
+            peak,
+            ticks,
+            pulses,
+            longest,
+            since,
+            fastest,
+            tick,
+            &mut *tempos,
+            &mut *gaps,
+        ) {
             return true;
         }
         rest = sets::rest(rest);
@@ -83,31 +125,32 @@ fn refused(why: Refusal, words: Words) -> Advanced
     Advanced { outcome, words }
 }
 
-// Steps 2 to 4 at tempo t, once the arrivals have fired.
+// Steps 2 to 4, once the arrivals have fired.
 fn run_on<'a>(
     rows: &'a [u64; 576],
     runs: &'a [u32; 32],
-    t: u32,
     finish: bool,
     w: Words,
     used: &mut [u32; 32],
 ) -> Advanced
     requires { ⌜ Workable w (now used) × (w .tick < 2 ^ 63) ⌝ }
-    ensures { λ r. ⌜ RunsOn (now (rows .entry)) (now (runs .entry)) t finish w (now (used .entry)) r (now (used .exit)) ⌝ }
+    ensures { λ r. ⌜ RunsOn (now (rows .entry)) (now (runs .entry)) finish w (now (used .entry)) r (now (used .exit)) ⌝ }
 {
     let worked = work(rows, runs, finish, w, used);
-    let words = pass(t, worked);
+    let words = pass(worked);
     let outcome = Outcome::Done;
     Advanced { outcome, words }
 }
 
-// 11, 15 and 14 in this order, or else a tick. The record keeps the rules, so that 16 is not looked for.
+// 11, 15 and 14 in this order, or else a tick. The record keeps the rules, so that 16 is not looked for. Whether a source comes is asked first: that is what
+// a processor foretells least.
 pub fn advance<'a>(
     rows: &'a [u64; 576],
     runs: &'a [u32; 32],
     ticks: &'a [u32; 16],
     pulses: &'a [u32; 16],
-    sources: usize,
+    longest: &'a [u32; 16],
+    all: u64,
     call: Call,
     w: Words,
     used: &mut [u32; 32],
@@ -116,19 +159,28 @@ pub fn advance<'a>(
     tempos: &mut [u32; 16],
     gaps: &mut [u32; 16],
 ) -> Advanced
-    requires { ⌜ Going (now rows) (now runs) (now ticks) (now pulses) sources (call .mask) w (now used) (now since) (now fastest) (now tempos) (now gaps) ⌝ }
-    ensures { λ r. ⌜ Advances (now (rows .entry)) (now (runs .entry)) (now (ticks .entry)) (now (pulses .entry)) sources call w (now (used .entry)) (now (since .entry)) (now (fastest .entry)) r (now (used .exit)) (now (since .exit)) (now (fastest .exit)) (now (tempos .exit)) (now (gaps .exit)) ⌝ }
+    requires { ⌜ Going (now rows) (now runs) (now ticks) (now pulses) (now longest) all (call .mask) w (now used) (now since) (now fastest) (now tempos) (now gaps) ⌝ }
+    ensures { λ r. ⌜ Advances (now (rows .entry)) (now (runs .entry)) (now (ticks .entry)) (now (pulses .entry)) (now (longest .entry)) all call w (now (used .entry)) (now (since .entry)) (now (fastest .entry)) r (now (used .exit)) (now (since .exit)) (now (fastest .exit)) (now (tempos .exit)) (now (gaps .exit)) ⌝ }
 {
     let mask = call.mask;
     let t = call.tempo;
     let finish = call.finish;
+    if mask == 0 {
+        if !on_knob(t) {
+            return refused(Refusal::OffKnob, w);
+        }
+        return run_on(
+            rows,
+            runs,
+            finish,
+            at_tempos(w.low, larger(w.peak, t), w),
+            used,
+        );
+    }
     if !on_knob(t) {
         return refused(Refusal::OffKnob, w);
     }
-    if mask == 0 {
-        return run_on(rows, runs, t, finish, w, used);
-    }
-    if above(mask, sources) != 0 {
+    if above(mask, all) {
         return refused(Refusal::Stranger, w);
     }
     let peak = larger(w.peak, t);
@@ -137,6 +189,7 @@ pub fn advance<'a>(
         peak,
         ticks,
         pulses,
+        longest,
         since,
         fastest,
         w.tick,
@@ -146,5 +199,5 @@ pub fn advance<'a>(
         return refused(Refusal::TooSoon, w);
     }
     let arrived = arrive(rows, t, peak, mask, w, since, fastest);
-    run_on(rows, runs, t, finish, arrived, used)
+    run_on(rows, runs, finish, arrived, used)
 }

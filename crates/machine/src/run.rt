@@ -2,6 +2,7 @@
 
 use crate::call::Call;
 use crate::call::advance;
+use crate::call::all_of;
 use crate::tick::refused;
 use fields::half_at;
 use model::Description;
@@ -32,15 +33,15 @@ ghost use Rattle.theory.proofs.WellFormed.{WellFormed};
 ghost use Rattle.machine.specs.Calls.{Accepted};
 ghost use Rattle.model.specs.Refusals.{ofOutcome};
 ghost use Rattle.model.specs.Run.{callsIn};
-ghost use Rattle.machine.specs.Run.{Head, Skips, laterBy, RunIs, RunOf};
+ghost use Rattle.machine.specs.Run.{Told, Head, Skips, laterBy, RunIs, RunOf};
 
-// A call's end as a byte: the refusal's number, or 0.
-fn code(end: Outcome) -> u8
-    ensures { λ r. ⌜ r ≡ ofOutcome end .number ⌝ }
+// A refused call's number at its place, where 0 is stored beforehand for work done.
+fn tell(end: Outcome, outcomes: &mut [u8], i: usize)
+    requires { ⌜ i < length (now outcomes) ⌝ }
+    ensures { λ _. ⌜ Told (ofOutcome end .number) i (now (outcomes .entry)) (now (outcomes .exit)) ⌝ }
 {
-    match end {
-        Outcome::Done => 0,
-        Outcome::Refused(why, _) => number_of(why) as u8,
+    if let Outcome::Refused(why, _) = end {
+        outcomes[i] = number_of(why) as u8;
     }
 }
 
@@ -146,6 +147,7 @@ pub fn run_wired(
         return refused(Refusal::ShortPage, blank_machine());
     }
     let sources = w.sources;
+    let all = all_of(sources);
     let mut words = begin();
     let mut used = [0u32; 32];
     let mut since = since_of(&longest);
@@ -161,12 +163,14 @@ pub fn run_wired(
             tempo: tempo_in(head),
             finish: calls[6 * i + 4] != 0,
         };
+        outcomes[i] = 0;
         let done = advance(
             &w.rows,
             &w.runs,
             &s.ticks,
             &s.pulses,
-            sources,
+            &longest,
+            all,
             call,
             words,
             &mut used,
@@ -176,7 +180,7 @@ pub fn run_wired(
             &mut gaps,
         );
         let outcome = done.outcome;
-        outcomes[i] = code(outcome);
+        tell(outcome, &mut *outcomes, i);
         let next = done.words;
         if next.awake != 0 {
             words = next;

@@ -21,10 +21,11 @@ use Rattle.sets.specs.Sets.{member, LastIn}
 use Rattle.sets.specs.Wide.{inside}
 use Rattle.steps.specs.declared.words.Words.{Words}
 use Rattle.model.specs.Run.{heard, marksIn}
-use Rattle.steps.specs.Words.{Marks, Ages, Holds, worked, Above, raisedTo, markedAt}
+use Rattle.steps.specs.Words.{Marks, Ages, Holds, worked, Above, raisedTo, atTempos}
 use Rattle.steps.proofs.MaskLaws.{mark-in}
 use Rattle.steps.proofs.MarkLaws.{marks-used, highest-is, highest-none}
 use Rattle.lemmas.proofs.Bools.{and-off}
+use Rattle.lemmas.proofs.Table.{set-twice}
 
 -- steps that change nothing from a place on
 upTo-rest : {A : Type 0} (l j : ℕ) (step : ℕ → A → A) (a : A) → ((k : ℕ) → l ≤ k → k < l + j → (x : A) → x ≡ step k x) → upTo l step a ≡ upTo (l + j) step a
@@ -101,7 +102,7 @@ module _ (d : Description) (w : Words) (used since runs : List ℕ) (finish : Bo
       })
 
   -- its run ends
-  pub work-over : (w₁ w₂ : Words) → (eqb more (getD runs (h - 1) 0) || finish) ≡ true → ((k : Machine) → Marks d w k → Marks d w₁ (clearInto d h (setAwake h false k))) → ((k : Machine) → Marks d w₁ k → Marks d w₂ (fire d h k)) → w₂ .tick ≡ w .tick → Holds d w₂ (set (set used (h - 1) more) (h - 1) 0) since (worked d finish m)
+  pub work-over : (w₁ w₂ : Words) → (eqb more (getD runs (h - 1) 0) || finish) ≡ true → ((k : Machine) → Marks d w k → Marks d w₁ (clearInto d h (setAwake h false k))) → ((k : Machine) → Marks d w₁ k → Marks d w₂ (fire d h k)) → w₂ .tick ≡ w .tick → Holds d w₂ (set used (h - 1) 0) since (worked d finish m)
   work-over w₁ w₂ f sleeps fires n =
       let m₁ : Machine = setUsed h 0 (setUsed h more m) in
       let m₂ : Machine = setAwake h false m₁ in
@@ -109,10 +110,10 @@ module _ (d : Description) (w : Words) (used since runs : List ℕ) (finish : Bo
       let z : Sized m₂ = record { awakes = length-set (m .awake) (h - 1) false ∙ H .marks .sized .awakes; useds = k₁ .sized .useds; waitings = H .marks .sized .waitings; droppeds = H .marks .sized .droppeds; ages = H .marks .sized .ages; fastests = H .marks .sized .fastests } in
       let c : Cleared d h (d .«link_count») m₂ (clearInto d h m₂) = cleared d g h m₂ z in
       let r : Fired d h (d .«link_count») (clearInto d h m₂) (fire d h (clearInto d h m₂)) = fired d g h (clearInto d h m₂) (c .sized) in
-      subst (λ (k : Machine). Holds d w₂ (set (set used (h - 1) more) (h - 1) 0) since k) (sym (work-is ∙ end-on d h finish (setUsed h more m) p (sym test-is ∙ f)))
+      subst (λ (k : Machine). Holds d w₂ (set used (h - 1) 0) since k) (sym (work-is ∙ end-on d h finish (setUsed h more m) p (sym test-is ∙ f)))
       (record {
         marks = fires (clearInto d h m₂) (sleeps m₁ k₁);
-        same-used = ap (λ (us : List ℕ). set (set us (h - 1) more) (h - 1) 0) (H .same-used) ∙ sym (r .used ∙ c .used);
+        same-used = ap (λ (us : List ℕ). set us (h - 1) 0) (H .same-used) ∙ sym (r .used ∙ c .used ∙ set-twice (m .used) (h - 1) more 0);
         ages = subst (λ i. Ages d i since (fire d h (clearInto d h m₂))) (sym n) (ages-same d (w .tick) since m (fire d h (clearInto d h m₂)) (r .ages ∙ c .ages) (H .ages));
       })
 
@@ -155,8 +156,8 @@ not-below peak low fastest h a u p = go (getD fastest u 0) (a u p)
     go (suc n) (inr e) = rw (ne-eqb (suc n) 0 (λ z. omega arith)) (let q : suc n ≡ max (suc n) peak = omega arith in q)
 
 -- words that say of tempos something else hold the same record
-pub marked-holds : (d : Description) (t : ℕ) (w w′ : Words) (used since : List ℕ) (m : Machine) → w′ ≡ markedAt t w → Holds d w used since m → Holds d w′ used since m
-marked-holds d t w w′ used since m e h = subst (λ (k : Words). Holds d k used since m) (sym e) (record {
+pub tempos-hold : (d : Description) (low peak : ℕ) (w w′ : Words) (used since : List ℕ) (m : Machine) → w′ ≡ atTempos low peak w → Holds d w used since m → Holds d w′ used since m
+tempos-hold d low peak w w′ used since m e h = subst (λ (k : Words). Holds d k used since m) (sym e) (record {
   marks = record {
     sized = h .marks .sized;
     no-zero = h .marks .no-zero;

@@ -87,9 +87,9 @@ pub record Folds (peak low : ℕ) (fastest fastest′ : List ℕ) : Type 0 where
   pub many : length fastest′ ≡ 16
   pub raised : Above low fastest → (u : ℕ) → u < 16 → getD fastest′ u 0 ≡ raisedTo peak (getD fastest u 0)
 
--- the words after an arrival at tempo t
-abbrev pub markedAt : ℕ → Words → Words
-markedAt t w = record { awake = w .awake; waiting = w .waiting; dropped = w .dropped; tick = w .tick; low = t; peak = t }
+-- the words with other tempos
+abbrev pub atTempos : ℕ → ℕ → Words → Words
+atTempos low peak w = record { awake = w .awake; waiting = w .waiting; dropped = w .dropped; tick = w .tick; low = low; peak = peak }
 
 -- the sources of a mask have arrived at tempo t, kept tempos being raised to the fastest given first
 pub record Arrives (rows : List ℕ) (t peak mask : ℕ) (w : Words) (since fastest : List ℕ) (w′ : Words) (since′ fastest′ : List ℕ) : Type 0 where
@@ -122,9 +122,8 @@ pub record Workable (w : Words) (used : List ℕ) : Type 0 where
   pub low : (k : ℕ) → member (w .awake) k ≡ true → (1 ≤ k) × (k ≤ 32)
   pub countable : (k : ℕ) → k < 32 → getD used k 0 + 1 < 2 ^ 32
 
--- one tick more has passed, at tempo t
-pub record Passes (t : ℕ) (w w′ : Words) : Type 0 where
+-- one tick more has passed
+pub record Passes (w w′ : Words) : Type 0 where
   pub passed : (d : Description) (used since : List ℕ) (m : Machine) → WellFormed d → Holds d w used since m → Holds d w′ used since (ageAll d m)
   pub then : w′ .tick ≡ w .tick + 1
-  pub low : w′ .low ≡ w .low
-  pub peak : w′ .peak ≡ max (w .peak) t
+  pub knob : (w′ .low ≡ w .low) × (w′ .peak ≡ w .peak)

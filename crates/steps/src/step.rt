@@ -9,7 +9,7 @@ ghost use Prim.Native.Nat.{ℕ, _+_, _<_, _^_, max};
 ghost use lib.ListN.{length, getD};
 ghost use lib.Dec.{eqb};
 ghost use Rattle.steps.specs.Parts.{Sourced};
-ghost use Rattle.steps.specs.Words.{wideAt, Sent, Fires, markedAt, Arrives, Sleeps, Works, Workable, raisedTo, Folds, Passes};
+ghost use Rattle.steps.specs.Words.{wideAt, Sent, Fires, atTempos, Arrives, Sleeps, Works, Workable, raisedTo, Folds, Passes};
 
 // The four words from place i on.
 fn row(rows: &[u64; 576], i: usize) -> Wide
@@ -80,12 +80,12 @@ pub fn raise(t: u32, fastest: &mut [u32; 16])
     }
 }
 
-// Kept tempos rise up to the fastest given, none being below low. With the knob at rest (t is low, and nothing was faster) none is looked at.
+// Kept tempos rise up to the fastest given, none being below low. With the knob at rest (peak, t and low are one) none is looked at.
 fn fold(t: u32, peak: u32, low: u32, fastest: &mut [u32; 16])
     requires { ⌜ length (now fastest) ≡ 16 ⌝ }
     ensures { λ _. ⌜ Folds peak low (now (fastest .entry)) (now (fastest .exit)) ⌝ }
 {
-    if t == low && peak <= low {
+    if peak == t && t == low {
         return;
     }
     raise(peak, fastest)
@@ -117,12 +117,12 @@ pub fn arrive(
         fastest[u] = t;
         rest = sets::rest(rest);
     }
-    marked(send(w, out, wakes), t)
+    at_tempos(t, t, send(w, out, wakes))
 }
 
-// The words after an arrival at tempo t.
-fn marked(w: Words, t: u32) -> Words
-    ensures { λ r. ⌜ r ≡ markedAt t w ⌝ }
+// The words with other tempos.
+pub fn at_tempos(low: u32, peak: u32, w: Words) -> Words
+    ensures { λ r. ⌜ r ≡ atTempos low peak w ⌝ }
 {
     let waiting = w.waiting;
     let dropped = w.dropped;
@@ -131,8 +131,8 @@ fn marked(w: Words, t: u32) -> Words
         waiting,
         dropped,
         tick: w.tick,
-        low: t,
-        peak: t,
+        low,
+        peak,
     }
 }
 
@@ -180,11 +180,11 @@ pub fn work<'a>(
     }
     let h = sets::last(w.awake);
     let more = used[h - 1] + 1;
-    used[h - 1] = more;
     if ends(more, runs[h - 1], finish) {
         used[h - 1] = 0;
         return fire(rows, h, sleep(rows, h, w));
     }
+    used[h - 1] = more;
     w
 }
 
@@ -198,10 +198,10 @@ pub fn larger(f: u32, t: u32) -> u32
     f
 }
 
-// Step 4 at tempo t: ages rise by one, up to the longest spacing, and kept tempos up to t.
-pub fn pass(t: u32, w: Words) -> Words
+// Step 4: ages rise by one, up to the longest spacing.
+pub fn pass(w: Words) -> Words
     requires { ⌜ w .tick < 2 ^ 63 ⌝ }
-    ensures { λ r. ⌜ Passes t w r ⌝ }
+    ensures { λ r. ⌜ Passes w r ⌝ }
 {
     let waiting = w.waiting;
     let dropped = w.dropped;
@@ -211,6 +211,6 @@ pub fn pass(t: u32, w: Words) -> Words
         dropped,
         tick: w.tick + 1,
         low: w.low,
-        peak: larger(w.peak, t),
+        peak: w.peak,
     }
 }

@@ -1,10 +1,10 @@
 -- `advance` meets its contract: a tempo off the knob, a tick without arrivals, a stranger, a source that comes too soon, or arrivals and the steps after them.
 -- Assumes nothing.
-use Prim.Native.Nat.{_≤_}
+use Prim.Native.Nat.{_≤_, max}
 use mathlib.Core.Path.{_≡_, sym, ap, subst, _∙_}
 use mathlib.Core.Bool.{true, false}
 use native.Mathlib.Omega.{arith}
-use borrow.Author.Tests.{not-true, not-false}
+use borrow.Author.Tests.{ltb-true, ltb-false, not-true, not-false}
 use Rattle.model.specs.declared.Machine.{Machine}
 use Rattle.model.specs.declared.Ticked.{Ticked}
 use Rattle.model.specs.declared.Outcome.the-variants.{Refused}
@@ -13,13 +13,16 @@ use Rattle.model.specs.Verdicts.{onKnob}
 use Rattle.model.specs.Machine.{arrive, ageAll}
 use Rattle.model.specs.Run.{marksIn}
 use Rattle.lemmas.proofs.Tests.{within}
+use Rattle.steps.specs.declared.words.Words.{Words}
 use Rattle.steps.specs.Words.{Holds, worked}
+use Rattle.steps.proofs.StepLaws.{tempos-hold}
 use Rattle.machine.specs.Calls.{Tracks}
 use Rattle.machine.proofs.CallLaws.{known, strangers-none, strangers-some, workable, timed, judged-at, tick-off, tick-refused, tick-done, end-stranger, end-soon, end-none, silent-known, silent-soon, silent-arrive, silent-keeps, arrived-keeps, tracked, answer-ends, answer-tracks, answer-tick}
 use borrow.Author.Needs.{needs}
 use Rattle.machine.proofs.call.advance.Statement.{statement}
 use Rattle.machine.proofs.call.advance.Tie as tie
 
+-- nothing comes
 on-knob-requires : tie.Need-on-knob-requires
 on-knob-requires c κs = search needs
 
@@ -28,109 +31,140 @@ refused-requires c κs = search needs
 
 returns : tie.Need-returns
 returns c =
-    let A = c .before .before .before .args in
+    let A = c .before .before .before .before .args in
     let w = A .w in
     let t = A .call .tempo in
     let mask = A .call .mask in
     let finish = A .call .finish in
     let r = c .refused in
-    let off : onKnob t ≡ false = sym (c .before .before .on-knob .ensures) ∙ not-true (c .before .before .on-knob .result) (c .before .if1 .taken) in
+    let off : onKnob t ≡ false = sym (c .before .before .on-knob .ensures) ∙ not-true (c .before .before .on-knob .result) (c .before .if2 .taken) in
     let soon = answer-tick (r .result) (Refused OffKnob 0) w (r .ensures) in
     record {
       ends = λ d m T j l R. answer-ends (r .result) (Refused OffKnob 0) w m _ (r .ensures) (tick-off d t m (record { marks = marksIn mask }) finish j off);
       leaves = λ d m T j l R. answer-tracks d (A .used .now) (A .since .now) (A .fastest .now) (r .result) (Refused OffKnob 0) w m _ (r .ensures) (tick-off d t m (record { marks = marksIn mask }) finish j off) R;
-      asked = c .before .before .before .pre .asked;
-      soon = omega (arith, soon);
-    }
-
-run-on-requires : tie.Need-run-on-requires
-run-on-requires c κs =
-    let A = c .before .before .before .before .args in
-    let p = c .before .before .before .before .pre in
-    let H = p .tracks .holds in
-    (workable (p .description) (A .w) (A .w) (A .used .now) (A .since .now) (A .since .now) (p .machine) (p .machine) (p .tables .formed) (p .keeps) H H, p .early)
-
-returns-2 : tie.Need-returns-2
-returns-2 c =
-    let A = c .before .before .before .before .before .args in
-    let w = A .w in
-    let t = A .call .tempo in
-    let mask = A .call .mask in
-    let finish = A .call .finish in
-    let v = c .run-on in
-    let e : mask ≡ 0 = c .before .before .if2 .taken in
-    let on : onKnob t ≡ true = sym (c .before .before .before .before .on-knob .ensures) ∙ not-false (c .before .before .before .before .on-knob .result) (c .before .before .before .if1 .left) in
-    let used = v .last .1 .1 .1 .1 .1 .0 in
-    record {
-      ends = λ d m T j l R. v .ensures .done ∙ ap (λ (x : Ticked). x .outcome) (tick-done d t mask m finish (judged-at d t j on) l (sym (end-none d t mask m (strangers-none d mask (silent-known d mask (T .formed) e)) (silent-soon d t mask m (T .formed) e))));
-      leaves = λ d m T j l R.
-          subst (λ (k : Machine). Tracks d (v .result .words) used (A .since .now) (A .fastest .now) k) (ap (λ (x : Ticked). x .machine) (tick-done d t mask m finish (judged-at d t j on) l (sym (end-none d t mask m (strangers-none d mask (silent-known d mask (T .formed) e)) (silent-soon d t mask m (T .formed) e)))))
-          (tracked d t mask finish w w (v .result .words) (A .used .now) used (A .since .now) (A .since .now) (A .fastest .now) (A .fastest .now) m (T .formed) (within 200 t 3000 on .1) R (silent-keeps t mask w (A .fastest .now) m e (R .keeps)) (v .ensures .low) (v .ensures .peak)
-          (subst (λ (k : Machine). Holds d (v .result .words) used (A .since .now) (ageAll d (worked d finish k))) (silent-arrive d mask m (T .formed) e) (v .ensures .ran d (A .since .now) m (T .formed) (T .rowed) (T .same-runs) (R .holds))));
-      asked = c .before .before .before .before .before .pre .asked;
-      soon = omega (arith, v .ensures .then);
-    }
-
-above-requires : tie.Need-above-requires
-above-requires c κs = omega (arith, c .before .before .before .pre .tables .as-wide, c .before .before .before .pre .tables .formed .fields .few-sources)
-
-refused-requires-2 : tie.Need-refused-requires-2
-refused-requires-2 c κs = search needs
-
-returns-3 : tie.Need-returns-3
-returns-3 c =
-    let A = c .before .before .before .before .before .before .args in
-    let w = A .w in
-    let t = A .call .tempo in
-    let mask = A .call .mask in
-    let finish = A .call .finish in
-    let few : A .sources ≤ 16 = omega (arith, c .before .before .before .before .before .before .pre .tables .as-wide, c .before .before .before .before .before .before .pre .tables .formed .fields .few-sources) in
-    let r = c .refused2 in
-    let on : onKnob t ≡ true = sym (c .before .before .before .before .before .on-knob .ensures) ∙ not-false (c .before .before .before .before .before .on-knob .result) (c .before .before .before .before .if1 .left) in
-    let soon = answer-tick (r .result) (Refused Stranger 0) w (r .ensures) in
-    record {
-      ends = λ d m T j l R. answer-ends (r .result) (Refused Stranger 0) w m _ (r .ensures) (tick-refused d t mask m finish Stranger 0 (judged-at d t j on) l (sym (end-stranger d t mask m (strangers-some d mask (A .sources) (T .as-wide) few (c .before .before .before .before .before .before .pre .fits) (c .before .before .before .before .before .before .pre .sourced) (λ z. c .before .if3 .taken (c .before .before .above .ensures ∙ z))))));
-      leaves = λ d m T j l R. answer-tracks d (A .used .now) (A .since .now) (A .fastest .now) (r .result) (Refused Stranger 0) w m _ (r .ensures) (tick-refused d t mask m finish Stranger 0 (judged-at d t j on) l (sym (end-stranger d t mask m (strangers-some d mask (A .sources) (T .as-wide) few (c .before .before .before .before .before .before .pre .fits) (c .before .before .before .before .before .before .pre .sourced) (λ z. c .before .if3 .taken (c .before .before .above .ensures ∙ z)))))) R;
-      asked = c .before .before .before .before .before .before .pre .asked;
+      asked = c .before .before .before .before .pre .asked;
       soon = omega (arith, soon);
     }
 
 larger-requires : tie.Need-larger-requires
 larger-requires c κs = search needs
 
-too-soon-requires : tie.Need-too-soon-requires
-too-soon-requires c κs =
-    let A = c .before .before .before .before .before .before .before .before .before .before .args in
+at-tempos-requires : tie.Need-at-tempos-requires
+at-tempos-requires c κs = search needs
+
+run-on-requires : tie.Need-run-on-requires
+run-on-requires c κs =
+    let A = c .before .before .before .before .before .before .args in
+    let p = c .before .before .before .before .before .before .pre in
+    let H = p .tracks .holds in
+    let v = c .before .at-tempos in
+    (workable (p .description) (A .w) (v .result) (A .used .now) (A .since .now) (A .since .now) (p .machine) (p .machine) (p .tables .formed) (p .keeps) H (tempos-hold (p .description) (A .w .low) (c .before .before .larger .result) (A .w) (v .result) (A .used .now) (A .since .now) (p .machine) (v .ensures) H), omega (arith, p .early, ap (λ (x : Words). x .tick) (v .ensures)))
+
+returns-2 : tie.Need-returns-2
+returns-2 c =
+    let A = c .before .before .before .before .before .before .before .args in
     let w = A .w in
     let t = A .call .tempo in
     let mask = A .call .mask in
     let finish = A .call .finish in
-    let p = c .before .before .before .before .before .before .before .before .before .before .pre in
-    let few : A .sources ≤ 16 = omega (arith, c .before .before .before .before .before .before .before .before .before .before .pre .tables .as-wide, c .before .before .before .before .before .before .before .before .before .before .pre .tables .formed .fields .few-sources) in
-    let on : onKnob t ≡ true = sym (c .before .before .before .before .before .before .before .before .before .on-knob .ensures) ∙ not-false (c .before .before .before .before .before .before .before .before .before .on-knob .result) (c .before .before .before .before .before .before .before .before .if1 .left) in
-    timed (p .description) t mask (c .before .before .before .before .larger .result) (A .sources) w (A .rows .now) (A .runs .now) (A .ticks .now) (A .pulses .now) (A .used .now) (A .since .now) (A .fastest .now) (A .tempos .now) (A .gaps .now) (p .machine) (p .tables) (p .tracks) (p .keeps) (p .early) (p .asked) (p .sourced) (known (p .description) mask (A .sources) (c .before .before .before .before .before .before .above .result) (p .tables .as-wide) few (c .before .before .before .before .before .before .above .ensures) (c .before .before .before .before .before .if3 .left)) on (c .before .before .before .before .larger .ensures)
+    let given = c .before .before .at-tempos in
+    let v = c .run-on in
+    let e : mask ≡ 0 = c .before .before .before .before .before .before .if1 .taken in
+    let on : onKnob t ≡ true = sym (c .before .before .before .before .before .on-knob .ensures) ∙ not-false (c .before .before .before .before .before .on-knob .result) (c .before .before .before .before .if2 .left) in
+    let used = v .last .1 .1 .1 .1 .0 in
+    let low : v .result .words .low ≡ w .low = v .ensures .knob .0 ∙ ap (λ (x : Words). x .low) (given .ensures) in
+    let peak : v .result .words .peak ≡ max (w .peak) t = v .ensures .knob .1 ∙ ap (λ (x : Words). x .peak) (given .ensures) ∙ c .before .before .before .larger .ensures in
+    record {
+      ends = λ d m T j l R. v .ensures .done ∙ ap (λ (x : Ticked). x .outcome) (tick-done d t mask m finish (judged-at d t j on) l (sym (end-none d t mask m (strangers-none d mask (silent-known d mask (T .formed) e)) (silent-soon d t mask m (T .formed) e))));
+      leaves = λ d m T j l R.
+          subst (λ (k : Machine). Tracks d (v .result .words) used (A .since .now) (A .fastest .now) k) (ap (λ (x : Ticked). x .machine) (tick-done d t mask m finish (judged-at d t j on) l (sym (end-none d t mask m (strangers-none d mask (silent-known d mask (T .formed) e)) (silent-soon d t mask m (T .formed) e)))))
+          (tracked d t mask finish w w (v .result .words) (A .used .now) used (A .since .now) (A .since .now) (A .fastest .now) (A .fastest .now) m (T .formed) (within 200 t 3000 on .1) R (silent-keeps t mask w (A .fastest .now) m e (R .keeps)) low peak
+          (subst (λ (k : Machine). Holds d (v .result .words) used (A .since .now) (ageAll d (worked d finish k))) (silent-arrive d mask m (T .formed) e) (v .ensures .ran d (A .since .now) m (T .formed) (T .rowed) (T .same-runs) (tempos-hold d (w .low) (c .before .before .before .larger .result) w (given .result) (A .used .now) (A .since .now) m (given .ensures) (R .holds)))));
+      asked = c .before .before .before .before .before .before .before .pre .asked;
+      soon = omega (arith, v .ensures .then, ap (λ (x : Words). x .tick) (given .ensures));
+    }
+
+-- some source comes
+on-knob-requires-2 : tie.Need-on-knob-requires-2
+on-knob-requires-2 c κs = search needs
+
+refused-requires-2 : tie.Need-refused-requires-2
+refused-requires-2 c κs = search needs
+
+returns-3 : tie.Need-returns-3
+returns-3 c =
+    let A = c .before .before .before .before .args in
+    let w = A .w in
+    let t = A .call .tempo in
+    let mask = A .call .mask in
+    let finish = A .call .finish in
+    let r = c .refused2 in
+    let off : onKnob t ≡ false = sym (c .before .before .on-knob2 .ensures) ∙ not-true (c .before .before .on-knob2 .result) (c .before .if3 .taken) in
+    let soon = answer-tick (r .result) (Refused OffKnob 0) w (r .ensures) in
+    record {
+      ends = λ d m T j l R. answer-ends (r .result) (Refused OffKnob 0) w m _ (r .ensures) (tick-off d t m (record { marks = marksIn mask }) finish j off);
+      leaves = λ d m T j l R. answer-tracks d (A .used .now) (A .since .now) (A .fastest .now) (r .result) (Refused OffKnob 0) w m _ (r .ensures) (tick-off d t m (record { marks = marksIn mask }) finish j off) R;
+      asked = c .before .before .before .before .pre .asked;
+      soon = omega (arith, soon);
+    }
+
+above-requires : tie.Need-above-requires
+above-requires c κs = search needs
 
 refused-requires-3 : tie.Need-refused-requires-3
 refused-requires-3 c κs = search needs
 
 returns-4 : tie.Need-returns-4
 returns-4 c =
+    let A = c .before .before .before .before .before .before .args in
+    let w = A .w in
+    let t = A .call .tempo in
+    let mask = A .call .mask in
+    let finish = A .call .finish in
+    let r = c .refused3 in
+    let on : onKnob t ≡ true = sym (c .before .before .before .before .on-knob2 .ensures) ∙ not-false (c .before .before .before .before .on-knob2 .result) (c .before .before .before .if3 .left) in
+    let past = ltb-true (A .all) mask (sym (c .before .before .above .ensures) ∙ c .before .if4 .taken) in
+    let soon = answer-tick (r .result) (Refused Stranger 0) w (r .ensures) in
+    record {
+      ends = λ d m T j l R. answer-ends (r .result) (Refused Stranger 0) w m _ (r .ensures) (tick-refused d t mask m finish Stranger 0 (judged-at d t j on) l (sym (end-stranger d t mask m (strangers-some d mask (A .all) (T .formed) (T .whole) (c .before .before .before .before .before .before .pre .fits) (c .before .before .before .before .before .before .pre .sourced) past))));
+      leaves = λ d m T j l R. answer-tracks d (A .used .now) (A .since .now) (A .fastest .now) (r .result) (Refused Stranger 0) w m _ (r .ensures) (tick-refused d t mask m finish Stranger 0 (judged-at d t j on) l (sym (end-stranger d t mask m (strangers-some d mask (A .all) (T .formed) (T .whole) (c .before .before .before .before .before .before .pre .fits) (c .before .before .before .before .before .before .pre .sourced) past)))) R;
+      asked = c .before .before .before .before .before .before .pre .asked;
+      soon = omega (arith, soon);
+    }
+
+larger-requires-2 : tie.Need-larger-requires-2
+larger-requires-2 c κs = search needs
+
+too-soon-requires : tie.Need-too-soon-requires
+too-soon-requires c κs =
+    let A = c .before .before .before .before .before .before .before .before .before .before .args in
+    let t = A .call .tempo in
+    let mask = A .call .mask in
+    let p = c .before .before .before .before .before .before .before .before .before .before .pre in
+    let on : onKnob t ≡ true = sym (c .before .before .before .before .before .before .before .before .on-knob2 .ensures) ∙ not-false (c .before .before .before .before .before .before .before .before .on-knob2 .result) (c .before .before .before .before .before .before .before .if3 .left) in
+    timed (p .description) t mask (c .before .before .before .before .larger2 .result) (A .all) (A .w) (A .rows .now) (A .runs .now) (A .ticks .now) (A .pulses .now) (A .longest .now) (A .used .now) (A .since .now) (A .fastest .now) (A .tempos .now) (A .gaps .now) (p .machine) (p .tables) (p .tracks) (p .keeps) (p .early) (p .asked) (p .sourced) (known (p .description) mask (A .all) (p .tables .formed) (p .tables .whole) (ltb-false (A .all) mask (sym (c .before .before .before .before .before .before .above .ensures) ∙ c .before .before .before .before .before .if4 .left))) on (c .before .before .before .before .larger2 .ensures)
+
+refused-requires-4 : tie.Need-refused-requires-4
+refused-requires-4 c κs = search needs
+
+returns-5 : tie.Need-returns-5
+returns-5 c =
     let A = c .before .before .before .before .before .before .before .before .before .before .before .before .before .args in
     let w = A .w in
     let t = A .call .tempo in
     let mask = A .call .mask in
     let finish = A .call .finish in
-    let few : A .sources ≤ 16 = omega (arith, c .before .before .before .before .before .before .before .before .before .before .before .before .before .pre .tables .as-wide, c .before .before .before .before .before .before .before .before .before .before .before .before .before .pre .tables .formed .fields .few-sources) in
-    let r = c .refused3 in
-    let on : onKnob t ≡ true = sym (c .before .before .before .before .before .before .before .before .before .before .before .before .on-knob .ensures) ∙ not-false (c .before .before .before .before .before .before .before .before .before .before .before .before .on-knob .result) (c .before .before .before .before .before .before .before .before .before .before .before .if1 .left) in
+    let r = c .refused4 in
+    let on : onKnob t ≡ true = sym (c .before .before .before .before .before .before .before .before .before .before .before .on-knob2 .ensures) ∙ not-false (c .before .before .before .before .before .before .before .before .before .before .before .on-knob2 .result) (c .before .before .before .before .before .before .before .before .before .before .if3 .left) in
+    let under : mask ≤ A .all = ltb-false (A .all) mask (sym (c .before .before .before .before .before .before .before .before .before .above .ensures) ∙ c .before .before .before .before .before .before .before .before .if4 .left) in
     let soon = answer-tick (r .result) (Refused TooSoon 0) w (r .ensures) in
     record {
       ends = λ d m T j l R.
-          let K = known d mask (A .sources) (c .before .before .before .before .before .before .before .before .before .above .result) (T .as-wide) few (c .before .before .before .before .before .before .before .before .before .above .ensures) (c .before .before .before .before .before .before .before .before .if3 .left) in
-          answer-ends (r .result) (Refused TooSoon 0) w m _ (r .ensures) (tick-refused d t mask m finish TooSoon 0 (judged-at d t j on) l (sym (end-soon d t mask m (strangers-none d mask K) (sym (c .before .before .too-soon .ensures .told d t (A .sources) w m (T .formed) (T .same-sources) K l (R .holds .ages) (R .keeps) (c .before .before .before .before .before .before .before .larger .ensures) (within 200 t 3000 on .0)) ∙ c .before .if4 .taken))));
+          let K = known d mask (A .all) (T .formed) (T .whole) under in
+          answer-ends (r .result) (Refused TooSoon 0) w m _ (r .ensures) (tick-refused d t mask m finish TooSoon 0 (judged-at d t j on) l (sym (end-soon d t mask m (strangers-none d mask K) (sym (c .before .before .too-soon .ensures .told d t (d .«source_count») w m (T .formed) (T .same-sources) (T .spaced) K l (R .holds .ages) (R .keeps) (c .before .before .before .before .before .before .before .larger2 .ensures) (within 200 t 3000 on .0)) ∙ c .before .if5 .taken))));
       leaves = λ d m T j l R.
-          let K = known d mask (A .sources) (c .before .before .before .before .before .before .before .before .before .above .result) (T .as-wide) few (c .before .before .before .before .before .before .before .before .before .above .ensures) (c .before .before .before .before .before .before .before .before .if3 .left) in
-          answer-tracks d (A .used .now) (A .since .now) (A .fastest .now) (r .result) (Refused TooSoon 0) w m _ (r .ensures) (tick-refused d t mask m finish TooSoon 0 (judged-at d t j on) l (sym (end-soon d t mask m (strangers-none d mask K) (sym (c .before .before .too-soon .ensures .told d t (A .sources) w m (T .formed) (T .same-sources) K l (R .holds .ages) (R .keeps) (c .before .before .before .before .before .before .before .larger .ensures) (within 200 t 3000 on .0)) ∙ c .before .if4 .taken)))) R;
+          let K = known d mask (A .all) (T .formed) (T .whole) under in
+          answer-tracks d (A .used .now) (A .since .now) (A .fastest .now) (r .result) (Refused TooSoon 0) w m _ (r .ensures) (tick-refused d t mask m finish TooSoon 0 (judged-at d t j on) l (sym (end-soon d t mask m (strangers-none d mask K) (sym (c .before .before .too-soon .ensures .told d t (d .«source_count») w m (T .formed) (T .same-sources) (T .spaced) K l (R .holds .ages) (R .keeps) (c .before .before .before .before .before .before .before .larger2 .ensures) (within 200 t 3000 on .0)) ∙ c .before .if5 .taken)))) R;
       asked = c .before .before .too-soon .ensures .asked;
       soon = omega (arith, soon);
     }
@@ -143,34 +177,35 @@ run-on-requires-2 c κs =
     let A = c .before .before .before .before .before .before .before .before .before .before .before .before .before .before .before .before .args in
     let p = c .before .before .before .before .before .before .before .before .before .before .before .before .before .before .before .before .pre in
     let mask = A .call .mask in
-    let few : A .sources ≤ 16 = omega (arith, c .before .before .before .before .before .before .before .before .before .before .before .before .before .before .before .before .pre .tables .as-wide, c .before .before .before .before .before .before .before .before .before .before .before .before .before .before .before .before .pre .tables .formed .fields .few-sources) in
     let d = p .description in
     let T = p .tables in
     let a = c .before .arrive in
-    (workable d (A .w) (a .result) (A .used .now) (A .since .now) (a .last .1 .1 .1 .1 .1 .0) (p .machine) (arrive d (marksIn mask) (p .machine)) (T .formed) (p .keeps) (p .tracks .holds) (a .ensures .arrived d (A .used .now) (p .machine) (T .formed) (T .rowed) (known d mask (A .sources) (c .before .before .before .before .before .before .before .before .before .before .before .before .above .result) (T .as-wide) few (c .before .before .before .before .before .before .before .before .before .before .before .before .above .ensures) (c .before .before .before .before .before .before .before .before .before .before .before .if3 .left)) (p .tracks .holds)), omega (arith, p .early, a .ensures .then))
+    let K = known d mask (A .all) (T .formed) (T .whole) (ltb-false (A .all) mask (sym (c .before .before .before .before .before .before .before .before .before .before .before .before .above .ensures) ∙ c .before .before .before .before .before .before .before .before .before .before .before .if4 .left)) in
+    (workable d (A .w) (a .result) (A .used .now) (A .since .now) (a .last .1 .1 .1 .1 .1 .0) (p .machine) (arrive d (marksIn mask) (p .machine)) (T .formed) (p .keeps) (p .tracks .holds) (a .ensures .arrived d (A .used .now) (p .machine) (T .formed) (T .rowed) K (p .tracks .holds)), omega (arith, p .early, a .ensures .then))
 
-returns-5 : tie.Need-returns-5
-returns-5 c =
+returns-6 : tie.Need-returns-6
+returns-6 c =
     let A = c .before .before .before .before .before .before .before .before .before .before .before .before .before .before .before .before .before .args in
     let w = A .w in
     let t = A .call .tempo in
     let mask = A .call .mask in
     let finish = A .call .finish in
-    let few : A .sources ≤ 16 = omega (arith, c .before .before .before .before .before .before .before .before .before .before .before .before .before .before .before .before .before .pre .tables .as-wide, c .before .before .before .before .before .before .before .before .before .before .before .before .before .before .before .before .before .pre .tables .formed .fields .few-sources) in
     let a = c .before .before .arrive in
     let v = c .run-on2 in
-    let on : onKnob t ≡ true = sym (c .before .before .before .before .before .before .before .before .before .before .before .before .before .before .before .before .on-knob .ensures) ∙ not-false (c .before .before .before .before .before .before .before .before .before .before .before .before .before .before .before .before .on-knob .result) (c .before .before .before .before .before .before .before .before .before .before .before .before .before .before .before .if1 .left) in
+    let on : onKnob t ≡ true = sym (c .before .before .before .before .before .before .before .before .before .before .before .before .before .before .before .on-knob2 .ensures) ∙ not-false (c .before .before .before .before .before .before .before .before .before .before .before .before .before .before .before .on-knob2 .result) (c .before .before .before .before .before .before .before .before .before .before .before .before .before .before .if3 .left) in
+    let under : mask ≤ A .all = ltb-false (A .all) mask (sym (c .before .before .before .before .before .before .before .before .before .before .before .before .before .above .ensures) ∙ c .before .before .before .before .before .before .before .before .before .before .before .before .if4 .left) in
     let since = a .last .1 .1 .1 .1 .1 .0 in
     let fastest = a .last .1 .1 .1 .1 .1 .1 .0 in
-    let used′ = v .last .1 .1 .1 .1 .1 .0 in
+    let used′ = v .last .1 .1 .1 .1 .0 in
+    let peak : v .result .words .peak ≡ max (a .result .peak) t = omega (arith, v .ensures .knob .1, a .ensures .knob .1) in
     record {
       ends = λ d m T j l R.
-          let K = known d mask (A .sources) (c .before .before .before .before .before .before .before .before .before .before .before .before .before .above .result) (T .as-wide) few (c .before .before .before .before .before .before .before .before .before .before .before .before .before .above .ensures) (c .before .before .before .before .before .before .before .before .before .before .before .before .if3 .left) in
-          v .ensures .done ∙ ap (λ (x : Ticked). x .outcome) (tick-done d t mask m finish (judged-at d t j on) l (sym (end-none d t mask m (strangers-none d mask K) (sym (c .before .before .before .before .before .before .too-soon .ensures .told d t (A .sources) w m (T .formed) (T .same-sources) K l (R .holds .ages) (R .keeps) (c .before .before .before .before .before .before .before .before .before .before .before .larger .ensures) (within 200 t 3000 on .0)) ∙ c .before .before .before .before .before .if4 .left))));
+          let K = known d mask (A .all) (T .formed) (T .whole) under in
+          v .ensures .done ∙ ap (λ (x : Ticked). x .outcome) (tick-done d t mask m finish (judged-at d t j on) l (sym (end-none d t mask m (strangers-none d mask K) (sym (c .before .before .before .before .before .before .too-soon .ensures .told d t (d .«source_count») w m (T .formed) (T .same-sources) (T .spaced) K l (R .holds .ages) (R .keeps) (c .before .before .before .before .before .before .before .before .before .before .before .larger2 .ensures) (within 200 t 3000 on .0)) ∙ c .before .before .before .before .before .if5 .left))));
       leaves = λ d m T j l R.
-          let K = known d mask (A .sources) (c .before .before .before .before .before .before .before .before .before .before .before .before .before .above .result) (T .as-wide) few (c .before .before .before .before .before .before .before .before .before .before .before .before .before .above .ensures) (c .before .before .before .before .before .before .before .before .before .before .before .before .if3 .left) in
-          subst (λ (k : Machine). Tracks d (v .result .words) used′ since fastest k) (ap (λ (x : Ticked). x .machine) (tick-done d t mask m finish (judged-at d t j on) l (sym (end-none d t mask m (strangers-none d mask K) (sym (c .before .before .before .before .before .before .too-soon .ensures .told d t (A .sources) w m (T .formed) (T .same-sources) K l (R .holds .ages) (R .keeps) (c .before .before .before .before .before .before .before .before .before .before .before .larger .ensures) (within 200 t 3000 on .0)) ∙ c .before .before .before .before .before .if4 .left)))))
-          (tracked d t mask finish w (a .result) (v .result .words) (A .used .now) used′ (A .since .now) since (A .fastest .now) fastest m (T .formed) (within 200 t 3000 on .1) R (arrived-keeps t mask (c .before .before .before .before .before .before .before .before .before .before .before .larger .result) w (a .result) (A .fastest .now) fastest m (within 200 t 3000 on .0) (within 200 t 3000 on .1) (c .before .before .before .before .before .before .before .before .before .before .before .larger .ensures) (a .ensures .knob) (R .keeps) (a .ensures .many) (a .ensures .fired) (a .ensures .others)) (v .ensures .low) (v .ensures .peak)
+          let K = known d mask (A .all) (T .formed) (T .whole) under in
+          subst (λ (k : Machine). Tracks d (v .result .words) used′ since fastest k) (ap (λ (x : Ticked). x .machine) (tick-done d t mask m finish (judged-at d t j on) l (sym (end-none d t mask m (strangers-none d mask K) (sym (c .before .before .before .before .before .before .too-soon .ensures .told d t (d .«source_count») w m (T .formed) (T .same-sources) (T .spaced) K l (R .holds .ages) (R .keeps) (c .before .before .before .before .before .before .before .before .before .before .before .larger2 .ensures) (within 200 t 3000 on .0)) ∙ c .before .before .before .before .before .if5 .left)))))
+          (tracked d t mask finish w (a .result) (v .result .words) (A .used .now) used′ (A .since .now) since (A .fastest .now) fastest m (T .formed) (within 200 t 3000 on .1) R (arrived-keeps t mask (c .before .before .before .before .before .before .before .before .before .before .before .larger2 .result) w (a .result) (A .fastest .now) fastest m (within 200 t 3000 on .0) (within 200 t 3000 on .1) (c .before .before .before .before .before .before .before .before .before .before .before .larger2 .ensures) (a .ensures .knob) (R .keeps) (a .ensures .many) (a .ensures .fired) (a .ensures .others)) (v .ensures .knob .0) peak
           (v .ensures .ran d since (arrive d (marksIn mask) m) (T .formed) (T .rowed) (T .same-runs) (a .ensures .arrived d (A .used .now) m (T .formed) (T .rowed) K (R .holds))));
       asked = c .before .before .before .before .before .before .too-soon .ensures .asked;
       soon = omega (arith, v .ensures .then, a .ensures .then);
@@ -183,15 +218,20 @@ advance-spec =
     on-knob-requires
     refused-requires
     returns
+    larger-requires
+    at-tempos-requires
     run-on-requires
     returns-2
-    above-requires
+    on-knob-requires-2
     refused-requires-2
     returns-3
-    larger-requires
-    too-soon-requires
+    above-requires
     refused-requires-3
     returns-4
+    larger-requires-2
+    too-soon-requires
+    refused-requires-4
+    returns-5
     arrive-requires
     run-on-requires-2
-    returns-5)
+    returns-6)

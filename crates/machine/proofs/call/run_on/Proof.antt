@@ -1,5 +1,5 @@
 -- `run_on` meets its contract: the steps one after the other. Assumes nothing.
-use Prim.Native.Nat.{_+_, max}
+use Prim.Native.Nat.{_+_}
 use mathlib.Core.Path.{refl, ap, _∙_}
 use native.Mathlib.Omega.{arith}
 use Rattle.steps.specs.Words.{worked}
@@ -20,8 +20,7 @@ returns c =
       done = refl;
       ran = λ d since m g rows s H. c .pass .ensures .passed d (c .before .work .last .1 .1 .1 .1 .0) since (worked d (A .finish) m) g (c .before .work .ensures .worked-on d since m g rows s H);
       then = c .pass .ensures .then ∙ ap (λ k. k + 1) (c .before .work .ensures .then);
-      low = c .pass .ensures .low ∙ c .before .work .ensures .knob .0;
-      peak = c .pass .ensures .peak ∙ ap (λ k. max k (A .t)) (c .before .work .ensures .knob .1);
+      knob = (c .pass .ensures .knob .0 ∙ c .before .work .ensures .knob .0, c .pass .ensures .knob .1 ∙ c .before .work .ensures .knob .1);
     }
 
 pub run-on-spec : {M : Type 1} → statement M

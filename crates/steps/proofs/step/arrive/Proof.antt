@@ -10,7 +10,7 @@ use Rattle.model.specs.Run.{marksIn}
 use Rattle.steps.specs.declared.words.Words.{Words}
 use Rattle.steps.specs.Words.{Stored}
 use Rattle.steps.proofs.MaskLaws.{Rest, rest-all, rest-under, least, turn}
-use Rattle.steps.proofs.StepLaws.{marked-holds}
+use Rattle.steps.proofs.StepLaws.{tempos-hold}
 use Rattle.steps.proofs.ArriveLaws.{stored-none, stored-more, stored-all, Joined, joined-none, joined-more, all-arrived}
 use borrow.Author.Needs.{needs}
 use Rattle.steps.proofs.step.arrive.Statement.{statement}
@@ -139,18 +139,18 @@ loop-again c =
 send-requires : tie.Need-send-requires Inv-loop μ-loop
 send-requires c κs = search needs
 
-marked-requires : tie.Need-marked-requires Inv-loop μ-loop
-marked-requires c κs = search needs
+at-tempos-requires : tie.Need-at-tempos-requires Inv-loop μ-loop
+at-tempos-requires c κs = search needs
 
 returns : tie.Need-returns Inv-loop μ-loop
 returns c =
     let A = c .before .before .before .before .before .before .before .args in
     let L = c .before .before .before .loop in
-    let r = c .marked in
+    let r = c .at-tempos in
     let under = rest-under (A .mask) (L .inv .0) (L .rest) (L .inv .2) (c .before .before .loop-test .left) in
     let kept = stored-all (A .mask) (L .inv .0) (A .t) _ (L .fastest) under (L .inv .5) in
     record {
-      arrived = λ d used m g rows k h. marked-holds d (A .t) (c .before .send .result) (r .result) used (L .since) (arrive d (marksIn (A .mask)) m) (r .ensures) (all-arrived d (A .rows .now) (A .mask) (L .inv .0) (A .w .tick) _ (L .since) (L .out) (L .wakes) (L .inv .3) (stored-all (A .mask) (L .inv .0) (A .w .tick) _ (L .since) under (L .inv .4)) under g rows k (A .w) (c .before .send .result) used m refl (c .before .send .ensures) h);
+      arrived = λ d used m g rows k h. tempos-hold d (A .t) (A .t) (c .before .send .result) (r .result) used (L .since) (arrive d (marksIn (A .mask)) m) (r .ensures) (all-arrived d (A .rows .now) (A .mask) (L .inv .0) (A .w .tick) _ (L .since) (L .out) (L .wakes) (L .inv .3) (stored-all (A .mask) (L .inv .0) (A .w .tick) _ (L .since) under (L .inv .4)) under g rows k (A .w) (c .before .send .result) used m refl (c .before .send .ensures) h);
       many = kept .many;
       fired = kept .here;
       others = λ a u p e. kept .others u e ∙ c .before .before .before .before .before .fold .ensures .raised a u p;
@@ -186,5 +186,5 @@ arrive-spec =
     loop-less
     loop-again
     send-requires
-    marked-requires
+    at-tempos-requires
     returns)

@@ -1,14 +1,15 @@
 -- `fold` meets its contract: no kept tempo is below the fastest given, or all are raised. Assumes nothing.
+use native.Mathlib.Omega.{arith}
 use Rattle.steps.proofs.StepLaws.{not-below}
 use borrow.Author.Needs.{needs}
-use borrow.Author.Tests.{leb-true}
+use borrow.Author.Tests.{eqb-true}
 use Rattle.steps.proofs.step.fold.Statement.{statement}
 use Rattle.steps.proofs.step.fold.Tie as tie
 
 returns : tie.Need-returns
 returns c =
     let S = c .before .before in
-    record { many = S .pre; raised = not-below (S .args .peak) (S .args .low) (S .args .fastest .now) (leb-true (S .args .peak) (S .args .low) (c .if2 .taken)) }
+    record { many = S .pre; raised = not-below (S .args .peak) (S .args .low) (S .args .fastest .now) (omega (arith, c .before .if1 .taken, eqb-true (S .args .t) (S .args .low) (c .if2 .taken))) }
 
 raise-requires : tie.Need-raise-requires
 raise-requires c κs = search needs

@@ -5,19 +5,15 @@ use borrow.Author.Needs.{needs}
 use Rattle.steps.proofs.step.pass.Statement.{statement}
 use Rattle.steps.proofs.step.pass.Tie as tie
 
-add-t5 : tie.Need-add-t5
-add-t5 c = search needs
-
-larger-requires : tie.Need-larger-requires
-larger-requires c κs = search needs
+add-t4 : tie.Need-add-t4
+add-t4 c = search needs
 
 returns : tie.Need-returns
 returns c = record {
-  passed = λ d used since m g h. passes d (c .before .before .before .before .args .w) _ used since m g refl refl refl refl h;
+  passed = λ d used since m g h. passes d (c .before .before .before .args .w) _ used since m g refl refl refl refl h;
   then = refl;
-  low = refl;
-  peak = c .larger .ensures;
+  knob = (refl, refl);
 }
 
 pub pass-spec : {M : Type 1} → statement M
-pass-spec = tie.close (tie.spec add-t5 larger-requires returns)
+pass-spec = tie.close (tie.spec add-t4 returns)

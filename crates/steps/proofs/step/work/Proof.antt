@@ -26,15 +26,6 @@ element-copy-out-more c = omega (arith, c .before .before .before .pre .low (c .
 add-more : tie.Need-add-more
 add-more c = omega (arith, c .before .before .before .before .pre .countable (c .before .last .result - 1) (omega (arith, c .before .before .before .before .pre .low (c .before .last .result) (c .before .last .ensures .in-set))))
 
-sub-used : tie.Need-sub-used
-sub-used c = omega (arith, c .before .before .before .before .pre .low (c .before .last .result) (c .before .last .ensures .in-set))
-
-mul-used : tie.Need-mul-used
-mul-used c = search needs
-
-element-write-used : tie.Need-element-write-used
-element-write-used c = omega (arith, c .before .before .before .before .pre .low (c .before .last .result) (c .before .last .ensures .in-set))
-
 sub-ends : tie.Need-sub-ends
 sub-ends c = omega (arith, c .before .before .before .before .pre .low (c .before .last .result) (c .before .last .ensures .in-set))
 
@@ -47,14 +38,14 @@ element-copy-out-ends c = omega (arith, c .before .before .before .before .pre .
 ends-requires : tie.Need-ends-requires
 ends-requires c κs = search needs
 
-sub-used-2 : tie.Need-sub-used-2
-sub-used-2 c = omega (arith, c .before .before .before .before .before .before .before .pre .low (c .before .before .before .before .last .result) (c .before .before .before .before .last .ensures .in-set))
+sub-used : tie.Need-sub-used
+sub-used c = omega (arith, c .before .before .before .before .before .before .before .pre .low (c .before .before .before .before .last .result) (c .before .before .before .before .last .ensures .in-set))
 
-mul-used-2 : tie.Need-mul-used-2
-mul-used-2 c = search needs
+mul-used : tie.Need-mul-used
+mul-used c = search needs
 
-element-write-used-2 : tie.Need-element-write-used-2
-element-write-used-2 c = omega (arith, c .before .before .before .before .before .before .before .pre .low (c .before .before .before .before .last .result) (c .before .before .before .before .last .ensures .in-set))
+element-write-used : tie.Need-element-write-used
+element-write-used c = omega (arith, c .before .before .before .before .before .before .before .pre .low (c .before .before .before .before .last .result) (c .before .before .before .before .last .ensures .in-set))
 
 sleep-requires : tie.Need-sleep-requires
 sleep-requires c κs = search needs
@@ -72,6 +63,15 @@ returns-2 c =
       then = c .fire .ensures .then ∙ c .before .sleep .ensures .then;
       knob = (c .fire .ensures .knob .0 ∙ c .before .sleep .ensures .knob .0, c .fire .ensures .knob .1 ∙ c .before .sleep .ensures .knob .1);
     }
+
+sub-used-2 : tie.Need-sub-used-2
+sub-used-2 c = omega (arith, c .before .before .before .before .before .before .before .pre .low (c .before .before .before .before .last .result) (c .before .before .before .before .last .ensures .in-set))
+
+mul-used-2 : tie.Need-mul-used-2
+mul-used-2 c = search needs
+
+element-write-used-2 : tie.Need-element-write-used-2
+element-write-used-2 c = omega (arith, c .before .before .before .before .before .before .before .pre .low (c .before .before .before .before .last .result) (c .before .before .before .before .last .ensures .in-set))
 
 returns-3 : tie.Need-returns-3
 returns-3 c =
@@ -94,17 +94,17 @@ work-spec =
     mul-more
     element-copy-out-more
     add-more
-    sub-used
-    mul-used
-    element-write-used
     sub-ends
     mul-ends
     element-copy-out-ends
     ends-requires
-    sub-used-2
-    mul-used-2
-    element-write-used-2
+    sub-used
+    mul-used
+    element-write-used
     sleep-requires
     fire-requires
     returns-2
+    sub-used-2
+    mul-used-2
+    element-write-used-2
     returns-3)

@@ -1,11 +1,11 @@
 -- One call by the tests that lead to each of its answers: strangers, sources that come too soon, and the four steps. Assumes nothing.
-use Prim.Native.Nat.{ℕ, zero, suc, _+_, _-_, _*_, _/_, _%_, _^_, _≤_, _<_, min, max}
+use Prim.Native.Nat.{ℕ, zero, suc, _+_, _-_, _/_, _%_, _^_, _≤_, _<_, min, max}
 use mathlib.Core.Path.{_≡_, refl, sym, ap, subst, _∙_}
 use mathlib.Core.Bool.{Bool, true, false, _||_, _&&_, not, cond}
 use mathlib.Core.List.{List}
 use mathlib.Core.Logic.{_⊎_, inl, inr}
 use native.Mathlib.Omega.{arith}
-use native.Mathlib.Nat.{div-div-eq-div-mul, div-eq-of-lt, div-add-mod, mod-lt, pow-suc, zero-div}
+use native.Mathlib.Nat.{div-div-eq-div-mul, div-eq-of-lt, pow-suc, zero-div}
 use native.Mathlib.Numerals.{add-one}
 use lib.ListN.{getD, length}
 use lib.Seq.{ext-getD}
@@ -44,12 +44,9 @@ use Rattle.steps.proofs.StepLaws.{arrive-none, ages-same}
 use Rattle.machine.specs.declared.call.Advanced.{Advanced}
 use Rattle.machine.specs.Calls.{TablesOf, Tracks, dueBy, Timed, KeepsAfter, arrivalsEnd}
 
--- a mask up to that of all sources, and one above it
-pub known : (d : Description) (mask all : ℕ) → WellFormed d → all + 1 ≡ 2 ^ d .«source_count» → mask ≤ all → Known d mask
-known d mask all g w h = (g .fields .few-sources, div-eq-of-lt (omega (arith, w)))
-
-above-all : (mask n p : ℕ) → mask / n ≡ 0 → p + 1 ≡ n → mask ≤ p
-above-all mask n p e w = omega (arith, mod-lt mask {m = n} (omega arith), sym (div-add-mod mask n) ∙ ap (λ k. n * k + mask % n) e)
+-- a mask with nothing left above s sources
+pub known : (d : Description) (mask s a : ℕ) → d .«source_count» ≡ s → s ≤ 16 → a ≡ mask / 2 ^ s → a ≡ 0 → Known d mask
+known d mask s a q few e z = (omega arith, ap (λ n. mask / 2 ^ n) q ∙ sym e ∙ z)
 
 -- a mask with no bit above the first s has nothing left there
 halved : (mask u rest : ℕ) → rest ≡ mask / 2 ^ u → rest / 2 ≡ mask / 2 ^ (u + 1)
@@ -75,13 +72,10 @@ strangers-none d mask z = any-none (λ u. getD (marksIn mask) u false && leb (d 
     go k h true f = and-false-left (getD (marksIn mask) k false) (leb (d .«source_count») k) (mark-in mask k h ∙ none-above mask (d .«source_count») k (z .1) (leb-true (d .«source_count») k f))
     go k h false f = and-false-right (getD (marksIn mask) k false) (leb (d .«source_count») k) f
 
-pub strangers-some : (d : Description) (mask all : ℕ) → WellFormed d → all + 1 ≡ 2 ^ d .«source_count» → mask < 2 ^ 64 → Sourced mask → all < mask → strangers d (marksIn mask) ≡ true
+pub strangers-some : (d : Description) (mask s : ℕ) → d .«source_count» ≡ s → s ≤ 16 → mask < 2 ^ 64 → Sourced mask → (mask / 2 ^ s ≡ 0 → ⊥) → strangers d (marksIn mask) ≡ true
 unfolding strangers
-strangers-some d mask all g whole w n some = true-of (anyN (λ u. getD (marksIn mask) u false && leb s u) 0 16) (λ e. omega (arith, above-all mask (2 ^ s) all (nothing-above mask w (64 - s) s (omega (arith, g .fields .few-sources)) (λ k a. false-of (heard mask k) (λ f. not-both f (silent e k a (n k f))))) whole))
+strangers-some d mask s q few w n some = rw q (true-of (anyN (λ u. getD (marksIn mask) u false && leb s u) 0 16) (λ e. some (nothing-above mask w (64 - s) s (omega arith) (λ k a. false-of (heard mask k) (λ f. not-both f (silent e k a (n k f)))))))
   where
-    s : ℕ
-    s = d .«source_count»
-
     and-false-of : (a b : Bool) → b ≡ true → (a && b) ≡ false → a ≡ false
     and-false-of true b e f = sym e ∙ f
     and-false-of false b e f = refl
@@ -231,12 +225,12 @@ kept-most d w fastest m g e K u p = go (getD fastest u 0) refl
         omega (arith, within 200 (fastestAt m u) 3000 o .1)
 
 -- so that the spacings of arriving sources can be worked out
-pub timed : (d : Description) (t mask peak all : ℕ) (w : Words) (rows runs ticks pulses longest used since fastest tempos gaps : List ℕ) (m : Machine) → TablesOf d rows runs ticks pulses longest all → Tracks d w used since fastest m → lawful d m ≡ true → w .tick < 2 ^ 63 → Asked ticks pulses tempos gaps → Sourced mask → Known d mask → onKnob t ≡ true → peak ≡ max (w .peak) t → Timed mask peak ticks pulses since fastest tempos gaps
-timed d t mask peak all w rows runs ticks pulses longest used since fastest tempos gaps m T R l early asked sourced k knob q = record {
+pub timed : (d : Description) (t mask peak sources : ℕ) (w : Words) (rows runs ticks pulses longest used since fastest tempos gaps : List ℕ) (m : Machine) → TablesOf d rows runs ticks pulses longest sources → Tracks d w used since fastest m → lawful d m ≡ true → w .tick < 2 ^ 63 → Asked ticks pulses tempos gaps → Sourced mask → Known d mask → onKnob t ≡ true → peak ≡ max (w .peak) t → Timed mask peak ticks pulses since fastest tempos gaps
+timed d t mask peak sources w rows runs ticks pulses longest used since fastest tempos gaps m T R l early asked sourced k knob q = record {
   sourced = sourced;
   low = omega (arith, within 200 t 3000 knob .0);
   high = omega (arith, within 200 t 3000 knob .1, R .keeps .high);
-  few = λ u e. plain-pulses (T .same-sources .at u (under u e));
+  few = λ u e. plain-pulses (T .same-sources .at u (omega (arith, under u e, T .as-wide)));
   kept = λ u e. kept-most d w fastest m (T .formed) l (R .keeps) u (under u e);
   early = λ u e. omega (arith, R .holds .ages .before u (under u e));
   asked = asked;

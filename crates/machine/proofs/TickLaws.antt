@@ -1,6 +1,6 @@
 -- The tick call on a record: its tables, its arrivals as a mask, and its answer. Assumes nothing.
-use Prim.Native.Nat.{ℕ, zero, suc, _+_, _^_, _≤_, max}
-use mathlib.Core.Path.{_≡_, refl, sym, ap, _∙_}
+use Prim.Native.Nat.{ℕ, zero, suc, _+_, _≤_, max}
+use mathlib.Core.Path.{_≡_, refl, sym, _∙_}
 use mathlib.Core.Bool.{Bool, true, false, _&&_}
 use mathlib.Core.Logic.{_⊎_, inl, inr}
 use mathlib.Core.List.{List}
@@ -31,14 +31,14 @@ use Rattle.machine.specs.Calls.{TablesOf, Tracks}
 use Rattle.machine.proofs.CallLaws.{raised-some, kept-rule}
 
 -- the tables of a wiring and of sources
-pub tables-of : (d : Description) (w : Wiring) (s : Sources) (longest : List ℕ) (all : ℕ) → WiringOf d w → SourcesOf d s → GapsOf d 200 longest → all + 1 ≡ 2 ^ w .sources → TablesOf d (w .rows) (w .runs) (s .ticks) (s .pulses) longest all
-tables-of d w s longest all r h g e = record {
+pub tables-of : (d : Description) (w : Wiring) (s : Sources) (longest : List ℕ) → WiringOf d w → SourcesOf d s → GapsOf d 200 longest → TablesOf d (w .rows) (w .runs) (s .ticks) (s .pulses) longest (w .sources)
+tables-of d w s longest r h g = record {
   formed = r .formed;
   rowed = r .rowed;
   same-runs = r .same-runs;
-  same-sources = record { counted = refl; at = λ u p. h .at u (omega (arith, h .counted)) };
+  as-wide = r .as-wide;
+  same-sources = record { counted = sym (r .as-wide); at = λ u p. h .at u (omega (arith, r .as-wide, h .counted)) };
   spaced = g;
-  whole = e ∙ ap (λ n. 2 ^ n) (sym (r .as-wide));
 }
 
 -- the words of a record that keeps the rules, beside its kept tempos

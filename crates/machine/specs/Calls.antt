@@ -30,13 +30,13 @@ use Rattle.machine.specs.declared.call.Call.{Call}
 use Rattle.machine.specs.declared.call.Advanced.{Advanced}
 
 -- the tables of an accepted description
-pub record TablesOf (d : Description) (rows runs ticks pulses longest : List ℕ) (all : ℕ) : Type 0 where
+pub record TablesOf (d : Description) (rows runs ticks pulses longest : List ℕ) (sources : ℕ) : Type 0 where
   pub formed : WellFormed d
   pub rowed : RowsOf d (d .«link_count») rows
   pub same-runs : runs ≡ d .runs
-  pub same-sources : SourcesOf d (sourcesWith (d .«source_count») ticks pulses)
+  pub as-wide : d .«source_count» ≡ sources
+  pub same-sources : SourcesOf d (sourcesWith sources ticks pulses)
   pub spaced : GapsOf d 200 longest
-  pub whole : all + 1 ≡ 2 ^ d .«source_count»
 
 -- the words and tables that hold a whole record
 pub record Tracks (d : Description) (w : Words) (used since fastest : List ℕ) (m : Machine) : Type 0 where
@@ -103,10 +103,10 @@ arrivalsEnd d t mask m =
     Done)
 
 -- a call may be made: its tables are those of some accepted description, and the words hold a record that keeps the rules
-pub record Going (rows runs ticks pulses longest : List ℕ) (all mask : ℕ) (w : Words) (used since fastest tempos gaps : List ℕ) : Type 0 where
+pub record Going (rows runs ticks pulses longest : List ℕ) (sources mask : ℕ) (w : Words) (used since fastest tempos gaps : List ℕ) : Type 0 where
   pub description : Description
   pub machine : Machine
-  pub tables : TablesOf description rows runs ticks pulses longest all
+  pub tables : TablesOf description rows runs ticks pulses longest sources
   pub tracks : Tracks description w used since fastest machine
   pub keeps : lawful description machine ≡ true
   pub sourced : Sourced mask
@@ -119,10 +119,10 @@ abbrev pub plainAnswer : Description → Machine → Call → Ticked
 plainAnswer d m call = plainCall d m (callOf (call .mask) (call .tempo) (call .finish))
 
 -- the call ends as the plain machine's, and its words hold the record which that leaves
-pub record Advances (rows runs ticks pulses longest : List ℕ) (all : ℕ) (call : Call) (w : Words) (used since fastest : List ℕ) (r : Advanced) (used′ since′ fastest′ tempos′ gaps′ : List ℕ) : Type 0 where
-  pub ends : (d : Description) (m : Machine) → TablesOf d rows runs ticks pulses longest all → judge d ≡ Done → lawful d m ≡ true → Tracks d w used since fastest m
+pub record Advances (rows runs ticks pulses longest : List ℕ) (sources : ℕ) (call : Call) (w : Words) (used since fastest : List ℕ) (r : Advanced) (used′ since′ fastest′ tempos′ gaps′ : List ℕ) : Type 0 where
+  pub ends : (d : Description) (m : Machine) → TablesOf d rows runs ticks pulses longest sources → judge d ≡ Done → lawful d m ≡ true → Tracks d w used since fastest m
       → r .outcome ≡ plainAnswer d m call .outcome
-  pub leaves : (d : Description) (m : Machine) → TablesOf d rows runs ticks pulses longest all → judge d ≡ Done → lawful d m ≡ true → Tracks d w used since fastest m
+  pub leaves : (d : Description) (m : Machine) → TablesOf d rows runs ticks pulses longest sources → judge d ≡ Done → lawful d m ≡ true → Tracks d w used since fastest m
       → Tracks d (r .words) used′ since′ fastest′ (plainAnswer d m call .machine)
   pub asked : Asked ticks pulses tempos′ gaps′
   pub soon : r .words .tick ≤ w .tick + 1

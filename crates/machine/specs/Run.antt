@@ -2,7 +2,7 @@
 use Prim.Native.Nat.{ℕ, _+_, _*_, _/_, _%_, _≤_, _<_}
 use mathlib.Core.List.{List, _++_}
 use mathlib.Core.Path.{_≡_}
-use lib.ListN.{length, getD, take, drop, set}
+use lib.ListN.{length, getD, take, drop}
 use Rattle.model.specs.declared.Description.{Description}
 use Rattle.model.specs.declared.Ticked.{Ticked}
 use Rattle.model.specs.declared.Outcome.the-variants.{Done}
@@ -16,10 +16,6 @@ use Rattle.wiring.specs.Rows.{WiringOf}
 use Rattle.spacings.specs.declared.Sources.{Sources}
 use Rattle.spacings.specs.Sources.{SourcesOf}
 use Rattle.spacings.specs.Gaps.{GapsOf}
-
--- where 0 is stored at a place of some bytes, a call's code is there
-abbrev pub Told : ℕ → ℕ → List ℕ → List ℕ → Type 0
-Told code i outcomes outcomes′ = (bytes : List ℕ) → outcomes ≡ set bytes i 0 → outcomes′ ≡ set bytes i code
 
 -- the mask and the tempo of the call at a place, as one number
 pub record Head (calls : List ℕ) (at head : ℕ) : Type 0 where

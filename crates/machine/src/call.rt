@@ -12,7 +12,7 @@ use steps::step::pass;
 use steps::step::work;
 use steps::words::Words;
 ghost use mathlib.Core.Path.{_≡_};
-ghost use Prim.Native.Nat.{_+_, _≤_, _<_, _^_};
+ghost use Prim.Native.Nat.{_+_, _≤_, _<_, _/_, _^_};
 ghost use lib.Dec.{ltb};
 ghost use Rattle.model.specs.declared.Outcome.the-variants.{Refused};
 ghost use Rattle.steps.specs.Words.{Workable};
@@ -31,19 +31,12 @@ pub struct Advanced {
     pub words: Words,
 }
 
-// The mask of all sources that exist.
-pub fn all_of(sources: usize) -> u64
+// 15: what is left of a mask above the sources that exist.
+fn above(mask: u64, sources: usize) -> u64
     requires { ⌜ sources ≤ 16 ⌝ }
-    ensures { λ r. ⌜ r + 1 ≡ 2 ^ sources ⌝ }
+    ensures { λ r. ⌜ r ≡ mask / 2 ^ sources ⌝ }
 {
-    (1 << sources) - 1
-}
-
-// 15: a mask has a source above those that exist.
-fn above(mask: u64, all: u64) -> bool
-    ensures { λ r. ⌜ r ≡ ltb all mask ⌝ }
-{
-    all < mask
+    mask >> sources
 }
 
 // Whether a spacing has not passed since some tick.
@@ -150,7 +143,7 @@ pub fn advance<'a>(
     ticks: &'a [u32; 16],
     pulses: &'a [u32; 16],
     longest: &'a [u32; 16],
-    all: u64,
+    sources: usize,
     call: Call,
     w: Words,
     used: &mut [u32; 32],
@@ -159,8 +152,8 @@ pub fn advance<'a>(
     tempos: &mut [u32; 16],
     gaps: &mut [u32; 16],
 ) -> Advanced
-    requires { ⌜ Going (now rows) (now runs) (now ticks) (now pulses) (now longest) all (call .mask) w (now used) (now since) (now fastest) (now tempos) (now gaps) ⌝ }
-    ensures { λ r. ⌜ Advances (now (rows .entry)) (now (runs .entry)) (now (ticks .entry)) (now (pulses .entry)) (now (longest .entry)) all call w (now (used .entry)) (now (since .entry)) (now (fastest .entry)) r (now (used .exit)) (now (since .exit)) (now (fastest .exit)) (now (tempos .exit)) (now (gaps .exit)) ⌝ }
+    requires { ⌜ Going (now rows) (now runs) (now ticks) (now pulses) (now longest) sources (call .mask) w (now used) (now since) (now fastest) (now tempos) (now gaps) ⌝ }
+    ensures { λ r. ⌜ Advances (now (rows .entry)) (now (runs .entry)) (now (ticks .entry)) (now (pulses .entry)) (now (longest .entry)) sources call w (now (used .entry)) (now (since .entry)) (now (fastest .entry)) r (now (used .exit)) (now (since .exit)) (now (fastest .exit)) (now (tempos .exit)) (now (gaps .exit)) ⌝ }
 {
     let mask = call.mask;
     let t = call.tempo;
@@ -180,7 +173,7 @@ pub fn advance<'a>(
     if !on_knob(t) {
         return refused(Refusal::OffKnob, w);
     }
-    if above(mask, all) {
+    if above(mask, sources) != 0 {
         return refused(Refusal::Stranger, w);
     }
     let peak = larger(w.peak, t);

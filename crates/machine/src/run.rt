@@ -2,7 +2,6 @@
 
 use crate::call::Call;
 use crate::call::advance;
-use crate::call::all_of;
 use crate::tick::refused;
 use fields::half_at;
 use model::Description;
@@ -33,15 +32,15 @@ ghost use Rattle.theory.proofs.WellFormed.{WellFormed};
 ghost use Rattle.machine.specs.Calls.{Accepted};
 ghost use Rattle.model.specs.Refusals.{ofOutcome};
 ghost use Rattle.model.specs.Run.{callsIn};
-ghost use Rattle.machine.specs.Run.{Told, Head, Skips, laterBy, RunIs, RunOf};
+ghost use Rattle.machine.specs.Run.{Head, Skips, laterBy, RunIs, RunOf};
 
-// A refused call's number at its place, where 0 is stored beforehand for work done.
-fn tell(end: Outcome, outcomes: &mut [u8], i: usize)
-    requires { ⌜ i < length (now outcomes) ⌝ }
-    ensures { λ _. ⌜ Told (ofOutcome end .number) i (now (outcomes .entry)) (now (outcomes .exit)) ⌝ }
+// A call's end as a byte: the refusal's number, or 0.
+fn code(end: Outcome) -> u8
+    ensures { λ r. ⌜ r ≡ ofOutcome end .number ⌝ }
 {
-    if let Outcome::Refused(why, _) = end {
-        outcomes[i] = number_of(why) as u8;
+    match end {
+        Outcome::Done => 0,
+        Outcome::Refused(why, _) => number_of(why) as u8,
     }
 }
 
@@ -147,7 +146,6 @@ pub fn run_wired(
         return refused(Refusal::ShortPage, blank_machine());
     }
     let sources = w.sources;
-    let all = all_of(sources);
     let mut words = begin();
     let mut used = [0u32; 32];
     let mut since = since_of(&longest);
@@ -163,14 +161,13 @@ pub fn run_wired(
             tempo: tempo_in(head),
             finish: calls[6 * i + 4] != 0,
         };
-        outcomes[i] = 0;
         let done = advance(
             &w.rows,
             &w.runs,
             &s.ticks,
             &s.pulses,
             &longest,
-            all,
+            sources,
             call,
             words,
             &mut used,
@@ -180,7 +177,7 @@ pub fn run_wired(
             &mut gaps,
         );
         let outcome = done.outcome;
-        tell(outcome, &mut *outcomes, i);
+        outcomes[i] = code(outcome);
         let next = done.words;
         if next.awake != 0 {
             words = next;

@@ -2,7 +2,6 @@
 
 use crate::call::Call;
 use crate::call::advance;
-use crate::call::all_of;
 use model::Arrivals;
 use model::Machine;
 use model::Outcome;
@@ -69,14 +68,13 @@ pub fn tick_judged(
     let mut tempos = [0u32; 16];
     let mut gaps = [0u32; 16];
     let sources = w.sources;
-    let all = all_of(sources);
     let done = advance(
         &w.rows,
         &w.runs,
         &s.ticks,
         &s.pulses,
         &longest,
-        all,
+        sources,
         call,
         words,
         &mut used,

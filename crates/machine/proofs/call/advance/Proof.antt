@@ -4,7 +4,7 @@ use Prim.Native.Nat.{_≤_, max}
 use mathlib.Core.Path.{_≡_, sym, ap, subst, _∙_}
 use mathlib.Core.Bool.{true, false}
 use native.Mathlib.Omega.{arith}
-use borrow.Author.Tests.{ltb-true, ltb-false, not-true, not-false}
+use borrow.Author.Tests.{not-true, not-false}
 use Rattle.model.specs.declared.Machine.{Machine}
 use Rattle.model.specs.declared.Ticked.{Ticked}
 use Rattle.model.specs.declared.Outcome.the-variants.{Refused}
@@ -109,7 +109,7 @@ returns-3 c =
     }
 
 above-requires : tie.Need-above-requires
-above-requires c κs = search needs
+above-requires c κs = omega (arith, c .before .before .before .pre .tables .as-wide, c .before .before .before .pre .tables .formed .fields .few-sources)
 
 refused-requires-3 : tie.Need-refused-requires-3
 refused-requires-3 c κs = search needs
@@ -123,11 +123,11 @@ returns-4 c =
     let finish = A .call .finish in
     let r = c .refused3 in
     let on : onKnob t ≡ true = sym (c .before .before .before .before .on-knob2 .ensures) ∙ not-false (c .before .before .before .before .on-knob2 .result) (c .before .before .before .if3 .left) in
-    let past = ltb-true (A .all) mask (sym (c .before .before .above .ensures) ∙ c .before .if4 .taken) in
+    let few : A .sources ≤ 16 = omega (arith, c .before .before .before .before .before .before .pre .tables .as-wide, c .before .before .before .before .before .before .pre .tables .formed .fields .few-sources) in
     let soon = answer-tick (r .result) (Refused Stranger 0) w (r .ensures) in
     record {
-      ends = λ d m T j l R. answer-ends (r .result) (Refused Stranger 0) w m _ (r .ensures) (tick-refused d t mask m finish Stranger 0 (judged-at d t j on) l (sym (end-stranger d t mask m (strangers-some d mask (A .all) (T .formed) (T .whole) (c .before .before .before .before .before .before .pre .fits) (c .before .before .before .before .before .before .pre .sourced) past))));
-      leaves = λ d m T j l R. answer-tracks d (A .used .now) (A .since .now) (A .fastest .now) (r .result) (Refused Stranger 0) w m _ (r .ensures) (tick-refused d t mask m finish Stranger 0 (judged-at d t j on) l (sym (end-stranger d t mask m (strangers-some d mask (A .all) (T .formed) (T .whole) (c .before .before .before .before .before .before .pre .fits) (c .before .before .before .before .before .before .pre .sourced) past)))) R;
+      ends = λ d m T j l R. answer-ends (r .result) (Refused Stranger 0) w m _ (r .ensures) (tick-refused d t mask m finish Stranger 0 (judged-at d t j on) l (sym (end-stranger d t mask m (strangers-some d mask (A .sources) (T .as-wide) few (c .before .before .before .before .before .before .pre .fits) (c .before .before .before .before .before .before .pre .sourced) (λ z. c .before .if4 .taken (c .before .before .above .ensures ∙ z))))));
+      leaves = λ d m T j l R. answer-tracks d (A .used .now) (A .since .now) (A .fastest .now) (r .result) (Refused Stranger 0) w m _ (r .ensures) (tick-refused d t mask m finish Stranger 0 (judged-at d t j on) l (sym (end-stranger d t mask m (strangers-some d mask (A .sources) (T .as-wide) few (c .before .before .before .before .before .before .pre .fits) (c .before .before .before .before .before .before .pre .sourced) (λ z. c .before .if4 .taken (c .before .before .above .ensures ∙ z)))))) R;
       asked = c .before .before .before .before .before .before .pre .asked;
       soon = omega (arith, soon);
     }
@@ -142,7 +142,7 @@ too-soon-requires c κs =
     let mask = A .call .mask in
     let p = c .before .before .before .before .before .before .before .before .before .before .pre in
     let on : onKnob t ≡ true = sym (c .before .before .before .before .before .before .before .before .on-knob2 .ensures) ∙ not-false (c .before .before .before .before .before .before .before .before .on-knob2 .result) (c .before .before .before .before .before .before .before .if3 .left) in
-    timed (p .description) t mask (c .before .before .before .before .larger2 .result) (A .all) (A .w) (A .rows .now) (A .runs .now) (A .ticks .now) (A .pulses .now) (A .longest .now) (A .used .now) (A .since .now) (A .fastest .now) (A .tempos .now) (A .gaps .now) (p .machine) (p .tables) (p .tracks) (p .keeps) (p .early) (p .asked) (p .sourced) (known (p .description) mask (A .all) (p .tables .formed) (p .tables .whole) (ltb-false (A .all) mask (sym (c .before .before .before .before .before .before .above .ensures) ∙ c .before .before .before .before .before .if4 .left))) on (c .before .before .before .before .larger2 .ensures)
+    timed (p .description) t mask (c .before .before .before .before .larger2 .result) (A .sources) (A .w) (A .rows .now) (A .runs .now) (A .ticks .now) (A .pulses .now) (A .longest .now) (A .used .now) (A .since .now) (A .fastest .now) (A .tempos .now) (A .gaps .now) (p .machine) (p .tables) (p .tracks) (p .keeps) (p .early) (p .asked) (p .sourced) (known (p .description) mask (A .sources) (c .before .before .before .before .before .before .above .result) (p .tables .as-wide) (omega (arith, p .tables .as-wide, p .tables .formed .fields .few-sources)) (c .before .before .before .before .before .before .above .ensures) (c .before .before .before .before .before .if4 .left)) on (c .before .before .before .before .larger2 .ensures)
 
 refused-requires-4 : tie.Need-refused-requires-4
 refused-requires-4 c κs = search needs
@@ -156,15 +156,15 @@ returns-5 c =
     let finish = A .call .finish in
     let r = c .refused4 in
     let on : onKnob t ≡ true = sym (c .before .before .before .before .before .before .before .before .before .before .before .on-knob2 .ensures) ∙ not-false (c .before .before .before .before .before .before .before .before .before .before .before .on-knob2 .result) (c .before .before .before .before .before .before .before .before .before .before .if3 .left) in
-    let under : mask ≤ A .all = ltb-false (A .all) mask (sym (c .before .before .before .before .before .before .before .before .before .above .ensures) ∙ c .before .before .before .before .before .before .before .before .if4 .left) in
+    let few : A .sources ≤ 16 = omega (arith, c .before .before .before .before .before .before .before .before .before .before .before .before .before .pre .tables .as-wide, c .before .before .before .before .before .before .before .before .before .before .before .before .before .pre .tables .formed .fields .few-sources) in
     let soon = answer-tick (r .result) (Refused TooSoon 0) w (r .ensures) in
     record {
       ends = λ d m T j l R.
-          let K = known d mask (A .all) (T .formed) (T .whole) under in
-          answer-ends (r .result) (Refused TooSoon 0) w m _ (r .ensures) (tick-refused d t mask m finish TooSoon 0 (judged-at d t j on) l (sym (end-soon d t mask m (strangers-none d mask K) (sym (c .before .before .too-soon .ensures .told d t (d .«source_count») w m (T .formed) (T .same-sources) (T .spaced) K l (R .holds .ages) (R .keeps) (c .before .before .before .before .before .before .before .larger2 .ensures) (within 200 t 3000 on .0)) ∙ c .before .if5 .taken))));
+          let K = known d mask (A .sources) (c .before .before .before .before .before .before .before .before .before .above .result) (T .as-wide) few (c .before .before .before .before .before .before .before .before .before .above .ensures) (c .before .before .before .before .before .before .before .before .if4 .left) in
+          answer-ends (r .result) (Refused TooSoon 0) w m _ (r .ensures) (tick-refused d t mask m finish TooSoon 0 (judged-at d t j on) l (sym (end-soon d t mask m (strangers-none d mask K) (sym (c .before .before .too-soon .ensures .told d t (A .sources) w m (T .formed) (T .same-sources) (T .spaced) K l (R .holds .ages) (R .keeps) (c .before .before .before .before .before .before .before .larger2 .ensures) (within 200 t 3000 on .0)) ∙ c .before .if5 .taken))));
       leaves = λ d m T j l R.
-          let K = known d mask (A .all) (T .formed) (T .whole) under in
-          answer-tracks d (A .used .now) (A .since .now) (A .fastest .now) (r .result) (Refused TooSoon 0) w m _ (r .ensures) (tick-refused d t mask m finish TooSoon 0 (judged-at d t j on) l (sym (end-soon d t mask m (strangers-none d mask K) (sym (c .before .before .too-soon .ensures .told d t (d .«source_count») w m (T .formed) (T .same-sources) (T .spaced) K l (R .holds .ages) (R .keeps) (c .before .before .before .before .before .before .before .larger2 .ensures) (within 200 t 3000 on .0)) ∙ c .before .if5 .taken)))) R;
+          let K = known d mask (A .sources) (c .before .before .before .before .before .before .before .before .before .above .result) (T .as-wide) few (c .before .before .before .before .before .before .before .before .before .above .ensures) (c .before .before .before .before .before .before .before .before .if4 .left) in
+          answer-tracks d (A .used .now) (A .since .now) (A .fastest .now) (r .result) (Refused TooSoon 0) w m _ (r .ensures) (tick-refused d t mask m finish TooSoon 0 (judged-at d t j on) l (sym (end-soon d t mask m (strangers-none d mask K) (sym (c .before .before .too-soon .ensures .told d t (A .sources) w m (T .formed) (T .same-sources) (T .spaced) K l (R .holds .ages) (R .keeps) (c .before .before .before .before .before .before .before .larger2 .ensures) (within 200 t 3000 on .0)) ∙ c .before .if5 .taken)))) R;
       asked = c .before .before .too-soon .ensures .asked;
       soon = omega (arith, soon);
     }
@@ -180,7 +180,7 @@ run-on-requires-2 c κs =
     let d = p .description in
     let T = p .tables in
     let a = c .before .arrive in
-    let K = known d mask (A .all) (T .formed) (T .whole) (ltb-false (A .all) mask (sym (c .before .before .before .before .before .before .before .before .before .before .before .before .above .ensures) ∙ c .before .before .before .before .before .before .before .before .before .before .before .if4 .left)) in
+    let K = known d mask (A .sources) (c .before .before .before .before .before .before .before .before .before .before .before .before .above .result) (T .as-wide) (omega (arith, T .as-wide, T .formed .fields .few-sources)) (c .before .before .before .before .before .before .before .before .before .before .before .before .above .ensures) (c .before .before .before .before .before .before .before .before .before .before .before .if4 .left) in
     (workable d (A .w) (a .result) (A .used .now) (A .since .now) (a .last .1 .1 .1 .1 .1 .0) (p .machine) (arrive d (marksIn mask) (p .machine)) (T .formed) (p .keeps) (p .tracks .holds) (a .ensures .arrived d (A .used .now) (p .machine) (T .formed) (T .rowed) K (p .tracks .holds)), omega (arith, p .early, a .ensures .then))
 
 returns-6 : tie.Need-returns-6
@@ -193,18 +193,18 @@ returns-6 c =
     let a = c .before .before .arrive in
     let v = c .run-on2 in
     let on : onKnob t ≡ true = sym (c .before .before .before .before .before .before .before .before .before .before .before .before .before .before .before .on-knob2 .ensures) ∙ not-false (c .before .before .before .before .before .before .before .before .before .before .before .before .before .before .before .on-knob2 .result) (c .before .before .before .before .before .before .before .before .before .before .before .before .before .before .if3 .left) in
-    let under : mask ≤ A .all = ltb-false (A .all) mask (sym (c .before .before .before .before .before .before .before .before .before .before .before .before .before .above .ensures) ∙ c .before .before .before .before .before .before .before .before .before .before .before .before .if4 .left) in
+    let few : A .sources ≤ 16 = omega (arith, c .before .before .before .before .before .before .before .before .before .before .before .before .before .before .before .before .before .pre .tables .as-wide, c .before .before .before .before .before .before .before .before .before .before .before .before .before .before .before .before .before .pre .tables .formed .fields .few-sources) in
     let since = a .last .1 .1 .1 .1 .1 .0 in
     let fastest = a .last .1 .1 .1 .1 .1 .1 .0 in
     let used′ = v .last .1 .1 .1 .1 .0 in
     let peak : v .result .words .peak ≡ max (a .result .peak) t = omega (arith, v .ensures .knob .1, a .ensures .knob .1) in
     record {
       ends = λ d m T j l R.
-          let K = known d mask (A .all) (T .formed) (T .whole) under in
-          v .ensures .done ∙ ap (λ (x : Ticked). x .outcome) (tick-done d t mask m finish (judged-at d t j on) l (sym (end-none d t mask m (strangers-none d mask K) (sym (c .before .before .before .before .before .before .too-soon .ensures .told d t (d .«source_count») w m (T .formed) (T .same-sources) (T .spaced) K l (R .holds .ages) (R .keeps) (c .before .before .before .before .before .before .before .before .before .before .before .larger2 .ensures) (within 200 t 3000 on .0)) ∙ c .before .before .before .before .before .if5 .left))));
+          let K = known d mask (A .sources) (c .before .before .before .before .before .before .before .before .before .before .before .before .before .above .result) (T .as-wide) few (c .before .before .before .before .before .before .before .before .before .before .before .before .before .above .ensures) (c .before .before .before .before .before .before .before .before .before .before .before .before .if4 .left) in
+          v .ensures .done ∙ ap (λ (x : Ticked). x .outcome) (tick-done d t mask m finish (judged-at d t j on) l (sym (end-none d t mask m (strangers-none d mask K) (sym (c .before .before .before .before .before .before .too-soon .ensures .told d t (A .sources) w m (T .formed) (T .same-sources) (T .spaced) K l (R .holds .ages) (R .keeps) (c .before .before .before .before .before .before .before .before .before .before .before .larger2 .ensures) (within 200 t 3000 on .0)) ∙ c .before .before .before .before .before .if5 .left))));
       leaves = λ d m T j l R.
-          let K = known d mask (A .all) (T .formed) (T .whole) under in
-          subst (λ (k : Machine). Tracks d (v .result .words) used′ since fastest k) (ap (λ (x : Ticked). x .machine) (tick-done d t mask m finish (judged-at d t j on) l (sym (end-none d t mask m (strangers-none d mask K) (sym (c .before .before .before .before .before .before .too-soon .ensures .told d t (d .«source_count») w m (T .formed) (T .same-sources) (T .spaced) K l (R .holds .ages) (R .keeps) (c .before .before .before .before .before .before .before .before .before .before .before .larger2 .ensures) (within 200 t 3000 on .0)) ∙ c .before .before .before .before .before .if5 .left)))))
+          let K = known d mask (A .sources) (c .before .before .before .before .before .before .before .before .before .before .before .before .before .above .result) (T .as-wide) few (c .before .before .before .before .before .before .before .before .before .before .before .before .before .above .ensures) (c .before .before .before .before .before .before .before .before .before .before .before .before .if4 .left) in
+          subst (λ (k : Machine). Tracks d (v .result .words) used′ since fastest k) (ap (λ (x : Ticked). x .machine) (tick-done d t mask m finish (judged-at d t j on) l (sym (end-none d t mask m (strangers-none d mask K) (sym (c .before .before .before .before .before .before .too-soon .ensures .told d t (A .sources) w m (T .formed) (T .same-sources) (T .spaced) K l (R .holds .ages) (R .keeps) (c .before .before .before .before .before .before .before .before .before .before .before .larger2 .ensures) (within 200 t 3000 on .0)) ∙ c .before .before .before .before .before .if5 .left)))))
           (tracked d t mask finish w (a .result) (v .result .words) (A .used .now) used′ (A .since .now) since (A .fastest .now) fastest m (T .formed) (within 200 t 3000 on .1) R (arrived-keeps t mask (c .before .before .before .before .before .before .before .before .before .before .before .larger2 .result) w (a .result) (A .fastest .now) fastest m (within 200 t 3000 on .0) (within 200 t 3000 on .1) (c .before .before .before .before .before .before .before .before .before .before .before .larger2 .ensures) (a .ensures .knob) (R .keeps) (a .ensures .many) (a .ensures .fired) (a .ensures .others)) (v .ensures .knob .0) peak
           (v .ensures .ran d since (arrive d (marksIn mask) m) (T .formed) (T .rowed) (T .same-runs) (a .ensures .arrived d (A .used .now) m (T .formed) (T .rowed) K (R .holds))));
       asked = c .before .before .before .before .before .before .too-soon .ensures .asked;

@@ -36,11 +36,11 @@ use Rattle.machine.proofs.run.run_wired.Statement.{statement}
 use Rattle.machine.proofs.run.run_wired.Tie as tie
 
 abbrev Inv-loop : tie.InvT-loop
-Inv-loop calls outcomes₀ w s longest n sources all words₀ used₀ since₀ fastest₀ tempos₀ gaps₀ i₀ head₀ outcomes words used since fastest tempos gaps i head =
+Inv-loop calls outcomes₀ w s longest n sources words₀ used₀ since₀ fastest₀ tempos₀ gaps₀ i₀ head₀ outcomes words used since fastest tempos gaps i head =
     (i ≤ n) × (length outcomes ≡ length outcomes₀) × (words .tick ≤ 4294967296 + i) × Asked (s .ticks) (s .pulses) tempos gaps × (i < n → Head calls (6 * i) head) × ((d : Description) → WiringOf d w → SourcesOf d s → GapsOf d 200 longest → judge d ≡ Done → Tracks d words used since fastest (left d (idle d) (take i (callsIn calls))) × (outcomes ≡ take i (page d (callsIn calls)) ++ drop i outcomes₀))
 
 abbrev μ-loop : tie.MeasureT-loop
-μ-loop calls outcomes₀ w s longest n sources all words₀ used₀ since₀ fastest₀ tempos₀ gaps₀ i₀ head₀ outcomes words used since fastest tempos gaps i head = n - i
+μ-loop calls outcomes₀ w s longest n sources words₀ used₀ since₀ fastest₀ tempos₀ gaps₀ i₀ head₀ outcomes words used since fastest tempos gaps i head = n - i
 
 blank-machine-requires : tie.Need-blank-machine-requires Inv-loop μ-loop
 blank-machine-requires c κs = search needs
@@ -54,9 +54,6 @@ returns c = λ d r s g j.
     let h : length (S .args .outcomes .now) < length (callsIn (S .args .calls .now)) = omega (arith, c .before .before .if1 .taken, calls-length (S .args .calls .now)) in
     (c .refused .ensures ∙ rw (c .before .blank-machine .ensures) (ran-short d (callsIn (S .args .calls .now)) (S .args .outcomes .now) h), filled-short d (callsIn (S .args .calls .now)) (S .args .outcomes .now) h)
 
-all-of-requires : tie.Need-all-of-requires Inv-loop μ-loop
-all-of-requires c κs = omega (arith, c .before .before .before .pre .wired .as-wide, c .before .before .before .pre .wired .formed .fields .few-sources)
-
 begin-requires : tie.Need-begin-requires Inv-loop μ-loop
 begin-requires c κs = search needs
 
@@ -64,7 +61,7 @@ since-of-requires : tie.Need-since-of-requires Inv-loop μ-loop
 since-of-requires c κs = search needs
 
 peek-requires : tie.Need-peek-requires Inv-loop μ-loop
-peek-requires c κs = omega (arith, div-mul-le-self (length (c .before .before .before .before .before .before .before .args .calls .now)) 6)
+peek-requires c κs = omega (arith, div-mul-le-self (length (c .before .before .before .before .before .before .args .calls .now)) 6)
 
 loop-holds : tie.Need-loop-holds Inv-loop μ-loop
 unfolding left
@@ -78,10 +75,10 @@ loop-holds c = (
 )
 
 add-peek : tie.Need-add-peek Inv-loop μ-loop
-add-peek c = omega (arith, c .before .before .before .before .before .before .before .before .before .before, c .loop-test .taken, div-mul-le-self (length (c .before .before .before .before .before .before .before .before .before .before .args .calls .now)) 6)
+add-peek c = omega (arith, c .before .before .before .before .before .before .before .before .before, c .loop-test .taken, div-mul-le-self (length (c .before .before .before .before .before .before .before .before .before .args .calls .now)) 6)
 
 peek-requires-2 : tie.Need-peek-requires-2 Inv-loop μ-loop
-peek-requires-2 c κs = omega (arith, div-mul-le-self (length (c .before .before .before .before .before .before .before .before .before .before .args .calls .now)) 6)
+peek-requires-2 c κs = omega (arith, div-mul-le-self (length (c .before .before .before .before .before .before .before .before .before .args .calls .now)) 6)
 
 mask-in-requires : tie.Need-mask-in-requires Inv-loop μ-loop
 mask-in-requires c κs = search needs
@@ -90,20 +87,17 @@ tempo-in-requires : tie.Need-tempo-in-requires Inv-loop μ-loop
 tempo-in-requires c κs = search needs
 
 mul-if2 : tie.Need-mul-if2 Inv-loop μ-loop
-mul-if2 c = omega (arith, c .before .before .before .before .before .before .before .before .before .before .before .before .before, c .before .before .before .loop-test .taken, div-mul-le-self (length (c .before .before .before .before .before .before .before .before .before .before .before .before .before .args .calls .now)) 6)
+mul-if2 c = omega (arith, c .before .before .before .before .before .before .before .before .before .before .before .before, c .before .before .before .loop-test .taken, div-mul-le-self (length (c .before .before .before .before .before .before .before .before .before .before .before .before .args .calls .now)) 6)
 
 add-if2 : tie.Need-add-if2 Inv-loop μ-loop
-add-if2 c = omega (arith, c .before .before .before .before .before .before .before .before .before .before .before .before .before, c .before .before .before .loop-test .taken, div-mul-le-self (length (c .before .before .before .before .before .before .before .before .before .before .before .before .before .args .calls .now)) 6)
+add-if2 c = omega (arith, c .before .before .before .before .before .before .before .before .before .before .before .before, c .before .before .before .loop-test .taken, div-mul-le-self (length (c .before .before .before .before .before .before .before .before .before .before .before .before .args .calls .now)) 6)
 
 shared-slice-read-if2 : tie.Need-shared-slice-read-if2 Inv-loop μ-loop
-shared-slice-read-if2 c = omega (arith, c .before .before .before .before .loop-test .taken, div-mul-le-self (length (c .before .before .before .before .before .before .before .before .before .before .before .before .before .before .args .calls .now)) 6)
-
-slice-write-outcomes : tie.Need-slice-write-outcomes Inv-loop μ-loop
-slice-write-outcomes c = omega (arith, c .before .before .before .before .before .before .before .before .before .before .before .if1 .left, c .before .before .before .before .loop-test .taken, c .before .before .before .before .before .loop .inv .1)
+shared-slice-read-if2 c = omega (arith, c .before .before .before .before .loop-test .taken, div-mul-le-self (length (c .before .before .before .before .before .before .before .before .before .before .before .before .before .args .calls .now)) 6)
 
 advance-requires : tie.Need-advance-requires Inv-loop μ-loop
 advance-requires c κs =
-    let S = c .before .before .before .before .before .before .before .before .before .before .before .before .before .before .before .before .before .before .before .before .before .before .before .before .before .before in
+    let S = c .before .before .before .before .before .before .before .before .before .before .before .before .before .before .before .before .before .before .before .before .before .before .before .before .before in
     let L = c .before .before .before .before .before .before .before .before .before .before .before .before .before .before .before .before .before .loop in
     let d = S .pre .description in
     let r = S .pre .wired in
@@ -111,7 +105,7 @@ advance-requires c κs =
     record {
       description = d;
       machine = m;
-      tables = tables-of d (S .args .t1) (S .args .t2) (S .args .t3) (c .before .before .before .before .before .before .before .before .before .before .before .before .before .before .before .before .before .before .before .before .before .before .all-of .result) r (S .pre .same-sources) (S .pre .spaced) (c .before .before .before .before .before .before .before .before .before .before .before .before .before .before .before .before .before .before .before .before .before .before .all-of .ensures);
+      tables = tables-of d (S .args .t1) (S .args .t2) (S .args .t3) r (S .pre .same-sources) (S .pre .spaced);
       tracks = L .inv .5 d r (S .pre .same-sources) (S .pre .spaced) (S .pre .judged) .0;
       keeps = kept d (take (L .i) (callsIn (S .args .calls .now))) m (r .formed) refl;
       sourced = sourced (c .before .before .before .before .before .before .before .before .before .before .before .before .before .before .mask-in .result) (c .before .before .before .before .before .before .before .before .before .before .before .before .before .before .mask-in .ensures .1);
@@ -120,70 +114,64 @@ advance-requires c κs =
       asked = L .inv .3;
     }
 
-tell-requires : tie.Need-tell-requires Inv-loop μ-loop
-tell-requires c κs = let L = c .before .before .before .before .before .before .before .before .before .before .before .before .before .before .before .before .before .before .before .loop in omega (arith, c .before .before .before .before .before .before .before .before .before .before .before .before .before .before .before .before .before .before .before .before .before .before .before .before .before .if1 .left, c .before .before .before .before .before .before .before .before .before .before .before .before .before .before .before .before .before .before .loop-test .taken, L .inv .1, length-set (L .outcomes) (L .i) 0)
+code-requires : tie.Need-code-requires Inv-loop μ-loop
+code-requires c κs = search needs
 
--- the call's code is stored
-stored : (c : tie.After-tell Inv-loop μ-loop) → c .tell .last .1 .0 ≡ set (c .before .before .before .before .before .before .before .before .before .before .before .before .before .before .before .before .before .before .before .before .loop .outcomes) (c .before .before .before .before .before .before .before .before .before .before .before .before .before .before .before .before .before .before .before .before .loop .i) (ofOutcome (c .before .before .advance .result .outcome) .number)
-stored c = c .tell .ensures (c .before .before .before .before .before .before .before .before .before .before .before .before .before .before .before .before .before .before .before .before .loop .outcomes) refl
+slice-write-outcomes : tie.Need-slice-write-outcomes Inv-loop μ-loop
+slice-write-outcomes c = omega (arith, c .before .before .before .before .before .before .before .before .before .before .before .before .before .before .before .before .before .before .before .before .before .before .before .before .if1 .left, c .before .before .before .before .before .before .before .before .before .before .before .before .before .before .before .before .before .before .loop-test .taken, c .before .before .before .before .before .before .before .before .before .before .before .before .before .before .before .before .before .before .before .loop .inv .1)
 
-as-long : (c : tie.After-tell Inv-loop μ-loop) → length (c .tell .last .1 .0) ≡ length (c .before .before .before .before .before .before .before .before .before .before .before .before .before .before .before .before .before .before .before .before .before .before .before .before .before .before .before .before .before .args .outcomes .now)
-as-long c =
-    let L = c .before .before .before .before .before .before .before .before .before .before .before .before .before .before .before .before .before .before .before .before .loop in
-    ap length (stored c) ∙ length-set (L .outcomes) (L .i) (ofOutcome (c .before .before .advance .result .outcome) .number) ∙ L .inv .1
-
--- once a call is made, the words hold the record which the plain machine leaves, and its code is the plain machine's
-turn : (c : tie.After-tell Inv-loop μ-loop) (d : Description) → WiringOf d (c .before .before .before .before .before .before .before .before .before .before .before .before .before .before .before .before .before .before .before .before .before .before .before .before .before .before .before .before .before .args .t1) → SourcesOf d (c .before .before .before .before .before .before .before .before .before .before .before .before .before .before .before .before .before .before .before .before .before .before .before .before .before .before .before .before .before .args .t2) → GapsOf d 200 (c .before .before .before .before .before .before .before .before .before .before .before .before .before .before .before .before .before .before .before .before .before .before .before .before .before .before .before .before .before .args .t3) → judge d ≡ Done → Tracks d (c .before .before .advance .result .words) (c .before .before .advance .last .1 .1 .1 .1 .1 .1 .1 .1 .0) (c .before .before .advance .last .1 .1 .1 .1 .1 .1 .1 .1 .1 .0) (c .before .before .advance .last .1 .1 .1 .1 .1 .1 .1 .1 .1 .1 .0) (left d (idle d) (take (c .before .before .before .before .before .before .before .before .before .before .before .before .before .before .before .before .before .before .before .before .loop .i + 1) (callsIn (c .before .before .before .before .before .before .before .before .before .before .before .before .before .before .before .before .before .before .before .before .before .before .before .before .before .before .before .before .before .args .calls .now)))) × (c .tell .last .1 .0 ≡ take (c .before .before .before .before .before .before .before .before .before .before .before .before .before .before .before .before .before .before .before .before .loop .i + 1) (page d (callsIn (c .before .before .before .before .before .before .before .before .before .before .before .before .before .before .before .before .before .before .before .before .before .before .before .before .before .before .before .before .before .args .calls .now))) ++ drop (c .before .before .before .before .before .before .before .before .before .before .before .before .before .before .before .before .before .before .before .before .loop .i + 1) (c .before .before .before .before .before .before .before .before .before .before .before .before .before .before .before .before .before .before .before .before .before .before .before .before .before .before .before .before .before .args .outcomes .now))
+-- once a call is made, the words hold the record which the plain machine leaves, and its code is stored
+turn : (c : tie.After-code Inv-loop μ-loop) (d : Description) → WiringOf d (c .before .before .before .before .before .before .before .before .before .before .before .before .before .before .before .before .before .before .before .before .before .before .before .before .before .before .before .args .t1) → SourcesOf d (c .before .before .before .before .before .before .before .before .before .before .before .before .before .before .before .before .before .before .before .before .before .before .before .before .before .before .before .args .t2) → GapsOf d 200 (c .before .before .before .before .before .before .before .before .before .before .before .before .before .before .before .before .before .before .before .before .before .before .before .before .before .before .before .args .t3) → judge d ≡ Done → Tracks d (c .before .advance .result .words) (c .before .advance .last .1 .1 .1 .1 .1 .1 .1 .1 .0) (c .before .advance .last .1 .1 .1 .1 .1 .1 .1 .1 .1 .0) (c .before .advance .last .1 .1 .1 .1 .1 .1 .1 .1 .1 .1 .0) (left d (idle d) (take (c .before .before .before .before .before .before .before .before .before .before .before .before .before .before .before .before .before .before .before .loop .i + 1) (callsIn (c .before .before .before .before .before .before .before .before .before .before .before .before .before .before .before .before .before .before .before .before .before .before .before .before .before .before .before .args .calls .now)))) × (set (c .before .before .before .before .before .before .before .before .before .before .before .before .before .before .before .before .before .before .before .loop .outcomes) (c .before .before .before .before .before .before .before .before .before .before .before .before .before .before .before .before .before .before .before .loop .i) (c .code .result) ≡ take (c .before .before .before .before .before .before .before .before .before .before .before .before .before .before .before .before .before .before .before .loop .i + 1) (page d (callsIn (c .before .before .before .before .before .before .before .before .before .before .before .before .before .before .before .before .before .before .before .before .before .before .before .before .before .before .before .args .calls .now))) ++ drop (c .before .before .before .before .before .before .before .before .before .before .before .before .before .before .before .before .before .before .before .loop .i + 1) (c .before .before .before .before .before .before .before .before .before .before .before .before .before .before .before .before .before .before .before .before .before .before .before .before .before .before .before .args .outcomes .now))
 turn c d r s g j =
-    let S = c .before .before .before .before .before .before .before .before .before .before .before .before .before .before .before .before .before .before .before .before .before .before .before .before .before .before .before .before .before in
-    let L = c .before .before .before .before .before .before .before .before .before .before .before .before .before .before .before .before .before .before .before .before .loop in
+    let S = c .before .before .before .before .before .before .before .before .before .before .before .before .before .before .before .before .before .before .before .before .before .before .before .before .before .before .before in
+    let L = c .before .before .before .before .before .before .before .before .before .before .before .before .before .before .before .before .before .before .before .loop in
     let i = L .i in
     let bytes = S .args .calls .now in
     let cs = callsIn bytes in
-    let mask = c .before .before .before .before .before .before .before .before .before .before .before .before .before .before .before .before .before .mask-in .result in
-    let t = c .before .before .before .before .before .before .before .before .before .before .before .before .before .before .before .before .tempo-in .result in
+    let mask = c .before .before .before .before .before .before .before .before .before .before .before .before .before .before .before .before .mask-in .result in
+    let t = c .before .before .before .before .before .before .before .before .before .before .before .before .before .before .before .tempo-in .result in
     let finish = not (eqb (getD bytes (6 * i + 4) 0) 0) in
-    let v = c .before .before .advance in
-    let J : i < length bytes / 6 = c .before .before .before .before .before .before .before .before .before .before .before .before .before .before .before .before .before .before .before .loop-test .taken in
+    let v = c .before .advance in
+    let J : i < length bytes / 6 = c .before .before .before .before .before .before .before .before .before .before .before .before .before .before .before .before .before .before .loop-test .taken in
     let T : i < length cs = omega (arith, J, calls-length bytes) in
     let call : Call = callOf mask t finish in
     let head : Head bytes (6 * i) (L .head) = L .inv .4 J in
-    let q = calls-at bytes i J ∙ ap (λ k. callOf k (numberIn bytes (6 * i + 2) 2) finish) (sym (c .before .before .before .before .before .before .before .before .before .before .before .before .before .before .before .before .before .mask-in .ensures .0 ∙ head .mask)) ∙ ap (λ k. callOf mask k finish) (sym (c .before .before .before .before .before .before .before .before .before .before .before .before .before .before .before .before .tempo-in .ensures ∙ head .tempo)) in
+    let q = calls-at bytes i J ∙ ap (λ k. callOf k (numberIn bytes (6 * i + 2) 2) finish) (sym (c .before .before .before .before .before .before .before .before .before .before .before .before .before .before .before .before .mask-in .ensures .0 ∙ head .mask)) ∙ ap (λ k. callOf mask k finish) (sym (c .before .before .before .before .before .before .before .before .before .before .before .before .before .before .before .tempo-in .ensures ∙ head .tempo)) in
     let I = L .inv .5 d r s g j in
     let m = left d (idle d) (take i cs) in
-    let tables = tables-of d (S .args .t1) (S .args .t2) (S .args .t3) (c .before .before .before .before .before .before .before .before .before .before .before .before .before .before .before .before .before .before .before .before .before .before .before .before .before .all-of .result) r s g (c .before .before .before .before .before .before .before .before .before .before .before .before .before .before .before .before .before .before .before .before .before .before .before .before .before .all-of .ensures) in
+    let tables = tables-of d (S .args .t1) (S .args .t2) (S .args .t3) r s g in
     let l = kept d (take i cs) m (r .formed) refl in
-    (subst (λ (x : Machine). Tracks d (v .result .words) (v .last .1 .1 .1 .1 .1 .1 .1 .1 .0) (v .last .1 .1 .1 .1 .1 .1 .1 .1 .1 .0) (v .last .1 .1 .1 .1 .1 .1 .1 .1 .1 .1 .0) x) (run-left d cs (idle d) i call T q) (v .ensures .leaves d m tables j l (I .0)), stored c ∙ store-turn (S .args .outcomes .now) (L .outcomes) (page d cs) i (ofOutcome (v .result .outcome) .number) (omega (arith, c .before .before .before .before .before .before .before .before .before .before .before .before .before .before .before .before .before .before .before .before .before .before .before .before .before .before .if1 .left, J)) (omega (arith, codes-length d cs (idle d))) (I .1) (ap (λ (o : Outcome). ofOutcome o .number) (v .ensures .ends d m tables j l (I .0)) ∙ run-code d cs (idle d) i call T q))
+    (subst (λ (x : Machine). Tracks d (v .result .words) (v .last .1 .1 .1 .1 .1 .1 .1 .1 .0) (v .last .1 .1 .1 .1 .1 .1 .1 .1 .1 .0) (v .last .1 .1 .1 .1 .1 .1 .1 .1 .1 .1 .0) x) (run-left d cs (idle d) i call T q) (v .ensures .leaves d m tables j l (I .0)), store-turn (S .args .outcomes .now) (L .outcomes) (page d cs) i (c .code .result) (omega (arith, c .before .before .before .before .before .before .before .before .before .before .before .before .before .before .before .before .before .before .before .before .before .before .before .before .if1 .left, J)) (omega (arith, codes-length d cs (idle d))) (I .1) (c .code .ensures ∙ ap (λ (o : Outcome). ofOutcome o .number) (v .ensures .ends d m tables j l (I .0)) ∙ run-code d cs (idle d) i call T q))
 
 -- a task is awake
 add-i : tie.Need-add-i Inv-loop μ-loop
-add-i c = omega (arith, c .before .before .before .before .before .before .before .before .before .before .before .before .before .before .before .before .before .before .before .before .before .before .before .before .before .before .before .before .before .before .before .before .before .before, c .before .before .before .before .before .before .before .before .before .before .before .before .before .before .before .before .before .before .before .before .before .before .before .before .loop-test .taken, div-mul-le-self (length (c .before .before .before .before .before .before .before .before .before .before .before .before .before .before .before .before .before .before .before .before .before .before .before .before .before .before .before .before .before .before .before .before .before .before .args .calls .now)) 6)
+add-i c = omega (arith, c .before .before .before .before .before .before .before .before .before .before .before .before .before .before .before .before .before .before .before .before .before .before .before .before .before .before .before .before .before .before, c .before .before .before .before .before .before .before .before .before .before .before .before .before .before .before .before .before .before .before .before .before .loop-test .taken, div-mul-le-self (length (c .before .before .before .before .before .before .before .before .before .before .before .before .before .before .before .before .before .before .before .before .before .before .before .before .before .before .before .before .before .before .args .calls .now)) 6)
 
 loop-less : tie.Need-loop-less Inv-loop μ-loop
-loop-less c = omega (arith, c .before .before .before .before .before .before .before .before .before .before .before .before .before .before .before .before .before .before .before .before .before .before .before .before .loop-test .taken)
+loop-less c = omega (arith, c .before .before .before .before .before .before .before .before .before .before .before .before .before .before .before .before .before .before .before .before .before .loop-test .taken)
 
 loop-again : tie.Need-loop-again Inv-loop μ-loop
 loop-again c =
-    let L = c .before .before .before .before .before .before .before .before .before .before .before .before .before .before .before .before .before .before .before .before .before .before .before .before .before .loop in (
-      omega (arith, c .before .before .before .before .before .before .before .before .before .before .before .before .before .before .before .before .before .before .before .before .before .before .before .before .loop-test .taken),
-      as-long (c .before .before .before .before .before),
-      omega (arith, c .before .before .before .before .before .before .before .advance .ensures .soon, L .inv .2),
-      c .before .before .before .before .before .before .before .advance .ensures .asked,
-      c .before .before .before .before .before .before .before .before .before .before .before .before .before .before .before .before .before .before .before .before .before .before .before .peek2 .ensures,
-      turn (c .before .before .before .before .before),
+    let L = c .before .before .before .before .before .before .before .before .before .before .before .before .before .before .before .before .before .before .before .before .before .before .loop in (
+      omega (arith, c .before .before .before .before .before .before .before .before .before .before .before .before .before .before .before .before .before .before .before .before .before .loop-test .taken),
+      length-set (L .outcomes) (L .i) (c .before .before .before .code .result) ∙ L .inv .1,
+      omega (arith, c .before .before .before .before .advance .ensures .soon, L .inv .2),
+      c .before .before .before .before .advance .ensures .asked,
+      c .before .before .before .before .before .before .before .before .before .before .before .before .before .before .before .before .before .before .before .before .peek2 .ensures,
+      turn (c .before .before .before),
     )
 
 -- none is
 add-skip : tie.Need-add-skip Inv-loop μ-loop
-add-skip c = omega (arith, c .before .before .before .before .before .before .before .before .before .before .before .before .before .before .before .before .before .before .before .before .before .before .before .before .before .before .before .before .before .before .before .before .before .before, c .before .before .before .before .before .before .before .before .before .before .before .before .before .before .before .before .before .before .before .before .before .before .before .before .loop-test .taken, div-mul-le-self (length (c .before .before .before .before .before .before .before .before .before .before .before .before .before .before .before .before .before .before .before .before .before .before .before .before .before .before .before .before .before .before .before .before .before .before .args .calls .now)) 6)
+add-skip c = omega (arith, c .before .before .before .before .before .before .before .before .before .before .before .before .before .before .before .before .before .before .before .before .before .before .before .before .before .before .before .before .before .before, c .before .before .before .before .before .before .before .before .before .before .before .before .before .before .before .before .before .before .before .before .before .loop-test .taken, div-mul-le-self (length (c .before .before .before .before .before .before .before .before .before .before .before .before .before .before .before .before .before .before .before .before .before .before .before .before .before .before .before .before .before .before .args .calls .now)) 6)
 
 skip-requires : tie.Need-skip-requires Inv-loop μ-loop
 skip-requires c κs =
-    let S = c .before .before .before .before .before .before .before .before .before .before .before .before .before .before .before .before .before .before .before .before .before .before .before .before .before .before .before .before .before .before .before .before .before .before .before in
-    let L = c .before .before .before .before .before .before .before .before .before .before .before .before .before .before .before .before .before .before .before .before .before .before .before .before .before .before .loop in
+    let S = c .before .before .before .before .before .before .before .before .before .before .before .before .before .before .before .before .before .before .before .before .before .before .before .before .before .before .before .before .before .before .before in
+    let L = c .before .before .before .before .before .before .before .before .before .before .before .before .before .before .before .before .before .before .before .before .before .before .before .loop in
     let p = S .pre in
-    let R = turn (c .before .before .before .before .before .before) (p .description) (p .wired) (p .same-sources) (p .spaced) (p .judged) .0 in
-    (omega (arith, c .before .before .before .before .before .before .before .before .before .before .before .before .before .before .before .before .before .before .before .before .before .before .before .before .before .loop-test .taken), omega (arith, div-mul-le-self (length (S .args .calls .now)) 6), omega (arith, c .before .before .before .before .before .before .before .before .before .before .before .before .before .before .before .before .before .before .before .before .before .before .before .before .before .before .before .before .before .before .before .before .if1 .left, as-long (c .before .before .before .before .before .before)), R .keeps .least, R .keeps .high)
+    let R = turn (c .before .before .before .before) (p .description) (p .wired) (p .same-sources) (p .spaced) (p .judged) .0 in
+    (omega (arith, c .before .before .before .before .before .before .before .before .before .before .before .before .before .before .before .before .before .before .before .before .before .before .loop-test .taken), omega (arith, div-mul-le-self (length (S .args .calls .now)) 6), omega (arith, c .before .before .before .before .before .before .before .before .before .before .before .before .before .before .before .before .before .before .before .before .before .before .before .before .before .before .before .before .if1 .left, L .inv .1, length-set (L .outcomes) (L .i) (c .before .before .before .before .code .result)), R .keeps .least, R .keeps .high)
 
 sub-later : tie.Need-sub-later Inv-loop μ-loop
 sub-later c = omega (arith, c .before .before .skip .ensures .on)
@@ -192,25 +180,25 @@ sub-later-2 : tie.Need-sub-later-2 Inv-loop μ-loop
 sub-later-2 c = omega (arith, c .before .before .skip .ensures .on)
 
 later-requires : tie.Need-later-requires Inv-loop μ-loop
-later-requires c κs = omega (arith, c .before .before .before .before .before .before .before .before .before .before .before .before .before .before .before .before .before .before .before .before .before .before .before .before .before .before .before .before .before .before .before .before .before .before .before .before .before .before, c .before .before .before .before .before .before .before .before .before .before .before .advance .ensures .soon, c .before .before .before .before .before .before .before .before .before .before .before .before .before .before .before .before .before .before .before .before .before .before .before .before .before .before .before .before .before .loop .inv .2, c .before .before .skip .ensures .on, c .before .before .skip .ensures .most, div-mul-le-self (length (c .before .before .before .before .before .before .before .before .before .before .before .before .before .before .before .before .before .before .before .before .before .before .before .before .before .before .before .before .before .before .before .before .before .before .before .before .before .before .args .calls .now)) 6)
+later-requires c κs = omega (arith, c .before .before .before .before .before .before .before .before .before .before .before .before .before .before .before .before .before .before .before .before .before .before .before .before .before .before .before .before .before .before .before .before .before .before, c .before .before .before .before .before .before .before .before .advance .ensures .soon, c .before .before .before .before .before .before .before .before .before .before .before .before .before .before .before .before .before .before .before .before .before .before .before .before .before .before .loop .inv .2, c .before .before .skip .ensures .on, c .before .before .skip .ensures .most, div-mul-le-self (length (c .before .before .before .before .before .before .before .before .before .before .before .before .before .before .before .before .before .before .before .before .before .before .before .before .before .before .before .before .before .before .before .before .before .before .args .calls .now)) 6)
 
 peek-requires-3 : tie.Need-peek-requires-3 Inv-loop μ-loop
-peek-requires-3 c κs = omega (arith, div-mul-le-self (length (c .before .before .before .before .before .before .before .before .before .before .before .before .before .before .before .before .before .before .before .before .before .before .before .before .before .before .before .before .before .before .before .before .before .before .before .before .before .before .before .args .calls .now)) 6)
+peek-requires-3 c κs = omega (arith, div-mul-le-self (length (c .before .before .before .before .before .before .before .before .before .before .before .before .before .before .before .before .before .before .before .before .before .before .before .before .before .before .before .before .before .before .before .before .before .before .before .args .calls .now)) 6)
 
 loop-less-2 : tie.Need-loop-less-2 Inv-loop μ-loop
-loop-less-2 c = omega (arith, c .before .before .before .before .before .before .before .before .before .before .before .before .before .before .before .before .before .before .before .before .before .before .before .before .before .before .before .before .before .before .loop-test .taken, c .before .before .before .before .skip .ensures .on, c .before .before .before .before .skip .ensures .most)
+loop-less-2 c = omega (arith, c .before .before .before .before .before .before .before .before .before .before .before .before .before .before .before .before .before .before .before .before .before .before .before .before .before .before .before .loop-test .taken, c .before .before .before .before .skip .ensures .on, c .before .before .before .before .skip .ensures .most)
 
 loop-again-2 : tie.Need-loop-again-2 Inv-loop μ-loop
 loop-again-2 c =
-    let S = c .before .before .before .before .before .before .before .before .before .before .before .before .before .before .before .before .before .before .before .before .before .before .before .before .before .before .before .before .before .before .before .before .before .before .before .before .before .before .before .before in
-    let L = c .before .before .before .before .before .before .before .before .before .before .before .before .before .before .before .before .before .before .before .before .before .before .before .before .before .before .before .before .before .before .before .loop in
+    let S = c .before .before .before .before .before .before .before .before .before .before .before .before .before .before .before .before .before .before .before .before .before .before .before .before .before .before .before .before .before .before .before .before .before .before .before .before in
+    let L = c .before .before .before .before .before .before .before .before .before .before .before .before .before .before .before .before .before .before .before .before .before .before .before .before .before .before .before .before .loop in
     let i = L .i in
     let bytes = S .args .calls .now in
     let cs = callsIn bytes in
-    let v = c .before .before .before .before .before .before .before .before .before .before .before .before .before .advance in
+    let v = c .before .before .before .before .before .before .before .before .before .before .advance in
     let k = c .before .before .before .before .skip .ensures in (
       k .most,
-      k .sized ∙ as-long (c .before .before .before .before .before .before .before .before .before .before .before),
+      k .sized ∙ (length-set (L .outcomes) i (c .before .before .before .before .before .before .before .before .before .code .result) ∙ L .inv .1),
       omega (arith, ap (λ (x : Words). x .tick) (c .before .later .ensures), v .ensures .soon, L .inv .2, k .on),
       v .ensures .asked,
       c .peek3 .ensures,
@@ -219,27 +207,27 @@ loop-again-2 c =
           let used = v .last .1 .1 .1 .1 .1 .1 .1 .1 .0 in
           let since = v .last .1 .1 .1 .1 .1 .1 .1 .1 .1 .0 in
           let fastest = v .last .1 .1 .1 .1 .1 .1 .1 .1 .1 .1 .0 in
-          let made = turn (c .before .before .before .before .before .before .before .before .before .before .before) d r s g j in
+          let made = turn (c .before .before .before .before .before .before .before .before .before) d r s g j in
           let n = passed-on d (r .formed) j bytes used since fastest (v .result .words) i to (c .before .before .before .before .before .before .if2 .left) (k .on) (k .most) (k .quiet) (made .0) in
-          (subst (λ (x : Words). Tracks d x used since fastest (left d (idle d) (take to cs))) (sym (c .before .later .ensures)) (n .0), k .stored (page d cs) (S .args .outcomes .now) (omega (arith, k .most, codes-length d cs (idle d), calls-length bytes)) (omega (arith, k .most, c .before .before .before .before .before .before .before .before .before .before .before .before .before .before .before .before .before .before .before .before .before .before .before .before .before .before .before .before .before .before .before .before .before .before .before .before .before .if1 .left)) (n .1) (made .1)),
+          (subst (λ (x : Words). Tracks d x used since fastest (left d (idle d) (take to cs))) (sym (c .before .later .ensures)) (n .0), k .stored (page d cs) (S .args .outcomes .now) (omega (arith, k .most, codes-length d cs (idle d), calls-length bytes)) (omega (arith, k .most, c .before .before .before .before .before .before .before .before .before .before .before .before .before .before .before .before .before .before .before .before .before .before .before .before .before .before .before .before .before .before .before .before .before .if1 .left)) (n .1) (made .1)),
     )
 
 raise-requires : tie.Need-raise-requires Inv-loop μ-loop
-raise-requires c κs = let p = c .before .before .before .before .before .before .before .before .before .before .before .pre in c .before .before .loop .inv .5 (p .description) (p .wired) (p .same-sources) (p .spaced) (p .judged) .0 .keeps .many
+raise-requires c κs = let p = c .before .before .before .before .before .before .before .before .before .before .pre in c .before .before .loop .inv .5 (p .description) (p .wired) (p .same-sources) (p .spaced) (p .judged) .0 .keeps .many
 
 unpack-requires : tie.Need-unpack-requires Inv-loop μ-loop
-unpack-requires c κs = omega (arith, c .before .before .before .before .before .before .before .before .before .before .before .before .before .before .pre .wired .as-wide, c .before .before .before .before .before .before .before .before .before .before .before .before .before .before .pre .wired .formed .fields .few-sources)
+unpack-requires c κs = omega (arith, c .before .before .before .before .before .before .before .before .before .before .before .before .before .pre .wired .as-wide, c .before .before .before .before .before .before .before .before .before .before .before .before .before .pre .wired .formed .fields .few-sources)
 
 same-length : tie.Need-same-length Inv-loop μ-loop
 same-length c = c .before .before .before .before .before .before .loop .inv .1
 
 returns-2 : tie.Need-returns-2 Inv-loop μ-loop
 returns-2 c = λ d r s g j.
-    let S = c .before .before .before .before .before .before .before .before .before .before .before .before .before .before .before in
+    let S = c .before .before .before .before .before .before .before .before .before .before .before .before .before .before in
     let L = c .before .before .before .before .before .before .loop in
     let cs = callsIn (S .args .calls .now) in
     let e : L .i ≡ length cs = omega (arith, c .before .before .before .before .before .loop-test .left, L .inv .0, calls-length (S .args .calls .now)) in
-    let h : length cs ≤ length (S .args .outcomes .now) = omega (arith, c .before .before .before .before .before .before .before .before .before .before .before .before .if1 .left, calls-length (S .args .calls .now)) in
+    let h : length cs ≤ length (S .args .outcomes .now) = omega (arith, c .before .before .before .before .before .before .before .before .before .before .before .if1 .left, calls-length (S .args .calls .now)) in
     let I = L .inv .5 d r s g j in
     (ran-whole d cs (S .args .outcomes .now) (c .unpack .result) h (c .unpack .ensures d (left d (idle d) (take (L .i) cs)) (r .as-wide) g (I .0 .holds) (raised-same d (L .words) (L .used) (L .since) (L .fastest) (c .before .before .before .raise .last .1 .0) (left d (idle d) (take (L .i) cs)) (I .0) (c .before .before .before .raise .ensures .0) (c .before .before .before .raise .ensures .1)) ∙ ap (left d (idle d)) (take-all (L .i) cs (omega arith))), I .1 ∙ ap (λ k. take k (page d cs) ++ drop k (S .args .outcomes .now)) e ∙ filled-whole d cs (S .args .outcomes .now) h)
 
@@ -252,7 +240,6 @@ run-wired-spec =
     blank-machine-requires
     refused-requires
     returns
-    all-of-requires
     begin-requires
     since-of-requires
     peek-requires
@@ -264,9 +251,9 @@ run-wired-spec =
     mul-if2
     add-if2
     shared-slice-read-if2
-    slice-write-outcomes
     advance-requires
-    tell-requires
+    code-requires
+    slice-write-outcomes
     add-i
     loop-less
     loop-again

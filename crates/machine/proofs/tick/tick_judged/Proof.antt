@@ -30,50 +30,47 @@ mask-of-requires c κs = search needs
 pack-requires : tie.Need-pack-requires
 pack-requires c κs = search needs
 
-all-of-requires : tie.Need-all-of-requires
-all-of-requires c κs = omega (arith, c .before .before .before .before .before .before .before .before .pre .wired .as-wide, c .before .before .before .before .before .before .before .before .pre .wired .formed .fields .few-sources)
-
 advance-requires : tie.Need-advance-requires
 advance-requires c κs =
-    let S = c .before .before .before .before .before .before .before .before .before .before .before .before .before .before .before .before .before .before .before .before .before in
+    let S = c .before .before .before .before .before .before .before .before .before .before .before .before .before .before .before .before .before .before .before .before in
     let d = S .pre .description in
     let r = S .pre .wired in
-    let l = (sym (c .before .before .before .before .before .before .before .before .before .before .before .before .before .before .before .before .before .before .before .before .lawful .ensures d r (S .pre .spaced)) ∙ not-false (c .before .before .before .before .before .before .before .before .before .before .before .before .before .before .before .before .before .before .before .before .lawful .result) (c .before .before .before .before .before .before .before .before .before .before .before .before .before .before .before .before .before .before .before .if1 .left)) in
+    let l = (sym (c .before .before .before .before .before .before .before .before .before .before .before .before .before .before .before .before .before .before .before .lawful .ensures d r (S .pre .spaced)) ∙ not-false (c .before .before .before .before .before .before .before .before .before .before .before .before .before .before .before .before .before .before .before .lawful .result) (c .before .before .before .before .before .before .before .before .before .before .before .before .before .before .before .before .before .before .if1 .left)) in
     record {
       description = d;
       machine = S .args .m;
-      tables = tables-of d (S .args .t1) (S .args .t2) (S .args .t3) (c .before .before .before .before .before .before .before .before .before .before .before .before .all-of .result) r (S .pre .same-sources) (S .pre .spaced) (c .before .before .before .before .before .before .before .before .before .before .before .before .all-of .ensures);
-      tracks = packed-tracks d (S .args .m) (c .before .before .before .before .before .before .before .before .before .before .before .before .before .before .before .before .before .pack .result .words) (c .before .before .before .before .before .before .before .before .before .before .before .before .before .before .before .before .before .pack .result .since) (r .formed) l (c .before .before .before .before .before .before .before .before .before .before .before .before .before .before .before .before .before .pack .ensures);
+      tables = tables-of d (S .args .t1) (S .args .t2) (S .args .t3) r (S .pre .same-sources) (S .pre .spaced);
+      tracks = packed-tracks d (S .args .m) (c .before .before .before .before .before .before .before .before .before .before .before .before .before .before .before .before .pack .result .words) (c .before .before .before .before .before .before .before .before .before .before .before .before .before .before .before .before .pack .result .since) (r .formed) l (c .before .before .before .before .before .before .before .before .before .before .before .before .before .before .before .before .pack .ensures);
       keeps = l;
-      sourced = c .before .before .before .before .before .before .before .before .before .before .before .before .before .before .before .before .before .before .mask-of .ensures .0;
-      fits = c .before .before .before .before .before .before .before .before .before .before .before .before .before .before .before .before .before .before .mask-of .ok;
-      early = omega (arith, c .before .before .before .before .before .before .before .before .before .before .before .before .before .before .before .before .before .pack .ensures .first);
+      sourced = c .before .before .before .before .before .before .before .before .before .before .before .before .before .before .before .before .before .mask-of .ensures .0;
+      fits = c .before .before .before .before .before .before .before .before .before .before .before .before .before .before .before .before .before .mask-of .ok;
+      early = omega (arith, c .before .before .before .before .before .before .before .before .before .before .before .before .before .before .before .before .pack .ensures .first);
       asked = asked-none _ _;
     }
 
 raise-requires : tie.Need-raise-requires
 raise-requires c κs =
-    let S = c .before .before .before .before .before .before .before .before .before .before .before .before .before .before .before .before .before .before .before .before .before .before .before .before in
+    let S = c .before .before .before .before .before .before .before .before .before .before .before .before .before .before .before .before .before .before .before .before .before .before .before in
     let d = S .pre .description in
     let r = S .pre .wired in
-    let l = (sym (c .before .before .before .before .before .before .before .before .before .before .before .before .before .before .before .before .before .before .before .before .before .before .before .lawful .ensures d r (S .pre .spaced)) ∙ not-false (c .before .before .before .before .before .before .before .before .before .before .before .before .before .before .before .before .before .before .before .before .before .before .before .lawful .result) (c .before .before .before .before .before .before .before .before .before .before .before .before .before .before .before .before .before .before .before .before .before .before .if1 .left)) in
-    c .before .before .advance .ensures .leaves d (S .args .m) (tables-of d (S .args .t1) (S .args .t2) (S .args .t3) (c .before .before .before .before .before .before .before .before .before .before .before .before .before .before .before .all-of .result) r (S .pre .same-sources) (S .pre .spaced) (c .before .before .before .before .before .before .before .before .before .before .before .before .before .before .before .all-of .ensures)) (S .pre .judged) l (packed-tracks d (S .args .m) (c .before .before .before .before .before .before .before .before .before .before .before .before .before .before .before .before .before .before .before .before .pack .result .words) (c .before .before .before .before .before .before .before .before .before .before .before .before .before .before .before .before .before .before .before .before .pack .result .since) (r .formed) l (c .before .before .before .before .before .before .before .before .before .before .before .before .before .before .before .before .before .before .before .before .pack .ensures)) .keeps .many
+    let l = (sym (c .before .before .before .before .before .before .before .before .before .before .before .before .before .before .before .before .before .before .before .before .before .before .lawful .ensures d r (S .pre .spaced)) ∙ not-false (c .before .before .before .before .before .before .before .before .before .before .before .before .before .before .before .before .before .before .before .before .before .before .lawful .result) (c .before .before .before .before .before .before .before .before .before .before .before .before .before .before .before .before .before .before .before .before .before .if1 .left)) in
+    c .before .before .advance .ensures .leaves d (S .args .m) (tables-of d (S .args .t1) (S .args .t2) (S .args .t3) r (S .pre .same-sources) (S .pre .spaced)) (S .pre .judged) l (packed-tracks d (S .args .m) (c .before .before .before .before .before .before .before .before .before .before .before .before .before .before .before .before .before .before .before .pack .result .words) (c .before .before .before .before .before .before .before .before .before .before .before .before .before .before .before .before .before .before .before .pack .result .since) (r .formed) l (c .before .before .before .before .before .before .before .before .before .before .before .before .before .before .before .before .before .before .before .pack .ensures)) .keeps .many
 
 unpack-requires : tie.Need-unpack-requires
-unpack-requires c κs = omega (arith, c .before .before .before .before .before .before .before .before .before .before .before .before .before .before .before .before .before .before .before .before .before .before .before .before .before .before .before .pre .wired .as-wide, c .before .before .before .before .before .before .before .before .before .before .before .before .before .before .before .before .before .before .before .before .before .before .before .before .before .before .before .pre .wired .formed .fields .few-sources)
+unpack-requires c κs = omega (arith, c .before .before .before .before .before .before .before .before .before .before .before .before .before .before .before .before .before .before .before .before .before .before .before .before .before .before .pre .wired .as-wide, c .before .before .before .before .before .before .before .before .before .before .before .before .before .before .before .before .before .before .before .before .before .before .before .before .before .before .pre .wired .formed .fields .few-sources)
 
 returns-2 : tie.Need-returns-2
 returns-2 c = λ d r s g e.
-    let S = c .before .before .before .before .before .before .before .before .before .before .before .before .before .before .before .before .before .before .before .before .before .before .before .before .before .before .before .before in
-    let l = (sym (c .before .before .before .before .before .before .before .before .before .before .before .before .before .before .before .before .before .before .before .before .before .before .before .before .before .before .before .lawful .ensures d r g) ∙ not-false (c .before .before .before .before .before .before .before .before .before .before .before .before .before .before .before .before .before .before .before .before .before .before .before .before .before .before .before .lawful .result) (c .before .before .before .before .before .before .before .before .before .before .before .before .before .before .before .before .before .before .before .before .before .before .before .before .before .before .if1 .left)) in
+    let S = c .before .before .before .before .before .before .before .before .before .before .before .before .before .before .before .before .before .before .before .before .before .before .before .before .before .before .before in
+    let l = (sym (c .before .before .before .before .before .before .before .before .before .before .before .before .before .before .before .before .before .before .before .before .before .before .before .before .before .before .lawful .ensures d r g) ∙ not-false (c .before .before .before .before .before .before .before .before .before .before .before .before .before .before .before .before .before .before .before .before .before .before .before .before .before .before .lawful .result) (c .before .before .before .before .before .before .before .before .before .before .before .before .before .before .before .before .before .before .before .before .before .before .before .before .before .if1 .left)) in
     let j = knob-known d (S .args .t) e .0 in
-    let T = tables-of d (S .args .t1) (S .args .t2) (S .args .t3) (c .before .before .before .before .before .before .before .before .before .before .before .before .before .before .before .before .before .before .before .all-of .result) r s g (c .before .before .before .before .before .before .before .before .before .before .before .before .before .before .before .before .before .before .before .all-of .ensures) in
-    let R = packed-tracks d (S .args .m) (c .before .before .before .before .before .before .before .before .before .before .before .before .before .before .before .before .before .before .before .before .before .before .before .before .pack .result .words) (c .before .before .before .before .before .before .before .before .before .before .before .before .before .before .before .before .before .before .before .before .before .before .before .before .pack .result .since) (r .formed) l (c .before .before .before .before .before .before .before .before .before .before .before .before .before .before .before .before .before .before .before .before .before .before .before .before .pack .ensures) in
+    let T = tables-of d (S .args .t1) (S .args .t2) (S .args .t3) r s g in
+    let R = packed-tracks d (S .args .m) (c .before .before .before .before .before .before .before .before .before .before .before .before .before .before .before .before .before .before .before .before .before .before .before .pack .result .words) (c .before .before .before .before .before .before .before .before .before .before .before .before .before .before .before .before .before .before .before .before .before .before .before .pack .result .since) (r .formed) l (c .before .before .before .before .before .before .before .before .before .before .before .before .before .before .before .before .before .before .before .before .before .before .before .pack .ensures) in
     let v = c .before .before .before .before .before .before .advance in
-    let p = plainCall d (S .args .m) (callOf (c .before .before .before .before .before .before .before .before .before .before .before .before .before .before .before .before .before .before .before .before .before .before .before .before .before .mask-of .result) (S .args .t) (S .args .finish)) in
+    let p = plainCall d (S .args .m) (callOf (c .before .before .before .before .before .before .before .before .before .before .before .before .before .before .before .before .before .before .before .before .before .before .before .before .mask-of .result) (S .args .t) (S .args .finish)) in
     let L = v .ensures .leaves d (S .args .m) T j l R in
     ticked (v .result .outcome) (c .unpack .result) p (v .ensures .ends d (S .args .m) T j l R) (c .unpack .ensures d (p .machine) (r .as-wide) g (L .holds) (raised-same d (v .result .words) _ _ (v .last .1 .1 .1 .1 .1 .1 .1 .1 .1 .1 .0) (c .before .before .before .raise .last .1 .0) (p .machine) L (c .before .before .before .raise .ensures .0) (c .before .before .before .raise .ensures .1)))
-    ∙ ap (λ k. plainTick d (S .args .t) (S .args .m) (record { marks = k }) (S .args .finish)) (c .before .before .before .before .before .before .before .before .before .before .before .before .before .before .before .before .before .before .before .before .before .before .before .before .before .mask-of .ensures .1)
+    ∙ ap (λ k. plainTick d (S .args .t) (S .args .m) (record { marks = k }) (S .args .finish)) (c .before .before .before .before .before .before .before .before .before .before .before .before .before .before .before .before .before .before .before .before .before .before .before .before .mask-of .ensures .1)
 
 pub tick-judged-spec : {M : Type 1} → statement M
 tick-judged-spec =
@@ -84,7 +81,6 @@ tick-judged-spec =
     returns
     mask-of-requires
     pack-requires
-    all-of-requires
     advance-requires
     raise-requires
     unpack-requires

@@ -21,7 +21,6 @@ use Rattle.assurance.proofs.Arriving.{Arrived, arrived, comes, comes-of}
 use Rattle.sets.specs.declared.wide.Wide.{Wide}
 use Rattle.sets.specs.Sets.{member}
 use Rattle.sets.specs.Wide.{inside}
-use Rattle.sets.proofs.SetLaws.{member-none}
 use Rattle.wiring.specs.Rows.{RowsOf}
 use Rattle.steps.specs.declared.words.Words.{Words}
 use Rattle.model.specs.Run.{heard, marksIn}
@@ -48,6 +47,13 @@ stored-more mask r v l₀ l u rest′ T s = record {
     other : (k : ℕ) → (k ≡ u → ⊥) → getD (set l u v) k 0 ≡ getD l k 0
     other k q = at k ∙ rw (ne-eqb k u q) refl
 
+-- the same seen from a place on the way, and from before that place
+pub stored-since : (mask r v : ℕ) (l₀ l : List ℕ) → Stored mask r v l₀ l → Stored mask r v l l
+stored-since mask r v l₀ l s = record { many = s .many; here = s .here; others = λ u e. refl }
+
+pub stored-then : (mask r r′ v : ℕ) (l₀ l l′ : List ℕ) → Stored mask r v l₀ l → Stored mask r′ v l l′ → Stored mask r′ v l₀ l′
+stored-then mask r r′ v l₀ l l′ s s′ = record { many = s′ .many; here = s′ .here; others = λ u e. s′ .others u e ∙ s .others u e }
+
 -- all of the mask are passed
 pub stored-all : (mask r v : ℕ) (l₀ l : List ℕ) → ((u : ℕ) → heard mask u ≡ true → u < r) → Stored mask r v l₀ l → Stored mask 16 v l₀ l
 stored-all mask r v l₀ l under s = record { many = s .many; here = λ u h on. s .here u (under u on) on; others = s .others }
@@ -57,9 +63,13 @@ pub record Joined (rows : List ℕ) (mask r : ℕ) (out : Wide) (wakes : ℕ) : 
   pub links : (l : ℕ) → inside out l ≡ anyN (λ u. heard mask u && inside (wideAt rows (9 * (33 + u))) l) 0 r
   pub tasks : (k : ℕ) → member wakes k ≡ anyN (λ u. heard mask u && member (getD rows (9 * (33 + u) + 8) 0) k) 0 r
 
-pub joined-none : (rows : List ℕ) (mask : ℕ) (out : Wide) → ((l : ℕ) → inside out l ≡ false) → Joined rows mask 0 out 0
+-- of the first, and of one more
+pub joined-one : (rows : List ℕ) (mask u rest′ : ℕ) → Turn mask 0 u rest′ → Joined rows mask (u + 1) (wideAt rows (9 * (33 + u))) (getD rows (9 * (33 + u) + 8) 0)
 unfolding anyN
-joined-none rows mask out e = record { links = e; tasks = member-none }
+joined-one rows mask u rest′ T = record {
+  links = λ l. sym (any-turn (λ v. inside (wideAt rows (9 * (33 + v))) l) mask 0 u rest′ T);
+  tasks = λ k. sym (any-turn (λ v. member (getD rows (9 * (33 + v) + 8) 0) k) mask 0 u rest′ T);
+}
 
 pub joined-more : (rows : List ℕ) (mask r : ℕ) (out out′ : Wide) (wakes wakes′ u rest′ : ℕ) → Turn mask r u rest′ → ((l : ℕ) → inside out′ l ≡ (inside out l || inside (wideAt rows (9 * (33 + u))) l)) → ((k : ℕ) → member wakes′ k ≡ (member wakes k || member (getD rows (9 * (33 + u) + 8) 0) k)) → Joined rows mask r out wakes → Joined rows mask (u + 1) out′ wakes′
 joined-more rows mask r out out′ wakes wakes′ u rest′ T a b j = record {

@@ -92,7 +92,7 @@ fn fold(t: u32, peak: u32, low: u32, fastest: &mut [u32; 16])
 }
 
 // Step 1 at tempo t, peak being the fastest given since the last arrival: each arriving source fires, its age becomes 0, and it keeps t. Links out of
-// different sources are different links, so those out of all that arrive fire together.
+// different sources are different links, so those out of all that arrive fire together. Most often one arrives.
 pub fn arrive(
     rows: &[u64; 576],
     t: u32,
@@ -102,13 +102,16 @@ pub fn arrive(
     since: &mut [u64; 16],
     fastest: &mut [u32; 16],
 ) -> Words
-    requires { ⌜ Sourced mask × (length (now since) ≡ 16) × (length (now fastest) ≡ 16) ⌝ }
+    requires { ⌜ (0 < mask) × Sourced mask × (length (now since) ≡ 16) × (length (now fastest) ≡ 16) ⌝ }
     ensures { λ r. ⌜ Arrives (now (rows .entry)) t peak mask w (now (since .entry)) (now (fastest .entry)) r (now (since .exit)) (now (fastest .exit)) ⌝ }
 {
     fold(t, peak, w.low, &mut *fastest);
-    let mut out = wide::none();
-    let mut wakes: u64 = 0;
-    let mut rest = mask;
+    let one = sets::first(mask);
+    let mut out = row(rows, 9 * (33 + one));
+    let mut wakes = rows[9 * (33 + one) + 8];
+    since[one] = w.tick;
+    fastest[one] = t;
+    let mut rest = sets::rest(mask);
     while rest != 0 {
         let u = sets::first(rest);
         out = wide::union(out, row(rows, 9 * (33 + u)));

@@ -170,7 +170,7 @@ returns-5 c =
     }
 
 arrive-requires : tie.Need-arrive-requires
-arrive-requires c κs = let p = c .before .before .before .before .before .before .before .before .before .before .before .before .before .before .pre in (p .sourced, p .tracks .holds .ages .many, p .tracks .keeps .many)
+arrive-requires c κs = let p = c .before .before .before .before .before .before .before .before .before .before .before .before .before .before .pre in (omega (arith, c .before .before .before .before .before .before .before .before .before .before .before .before .before .if1 .left), p .sourced, p .tracks .holds .ages .many, p .tracks .keeps .many)
 
 run-on-requires-2 : tie.Need-run-on-requires-2
 run-on-requires-2 c κs =

@@ -41,8 +41,9 @@ use Rattle.steps.specs.Parts.{Known, Sourced}
 use Rattle.steps.specs.Words.{Ages, Holds, Keeps, Workable, worked, Above, raisedTo}
 use Rattle.steps.proofs.MaskLaws.{none-above, mark-in, heard-under}
 use Rattle.steps.proofs.StepLaws.{arrive-none, ages-same}
+use Rattle.machine.specs.declared.call.Call.{Call}
 use Rattle.machine.specs.declared.call.Advanced.{Advanced}
-use Rattle.machine.specs.Calls.{TablesOf, Tracks, dueBy, Timed, KeepsAfter, arrivalsEnd}
+use Rattle.machine.specs.Calls.{TablesOf, Tracks, dueBy, Timed, KeepsAfter, arrivalsEnd, plainAnswer, Advances}
 
 -- a mask with nothing left above s sources
 pub known : (d : Description) (mask s a : ℕ) → d .«source_count» ≡ s → s ≤ 16 → a ≡ mask / 2 ^ s → a ≡ 0 → Known d mask
@@ -228,11 +229,14 @@ kept-most d w fastest m g e K u p = go (getD fastest u 0) refl
 pub timed : (d : Description) (t mask peak sources : ℕ) (w : Words) (rows runs ticks pulses longest used since fastest tempos gaps : List ℕ) (m : Machine) → TablesOf d rows runs ticks pulses longest sources → Tracks d w used since fastest m → lawful d m ≡ true → w .tick < 2 ^ 63 → Asked ticks pulses tempos gaps → Sourced mask → Known d mask → onKnob t ≡ true → peak ≡ max (w .peak) t → Timed mask peak ticks pulses since fastest tempos gaps
 timed d t mask peak sources w rows runs ticks pulses longest used since fastest tempos gaps m T R l early asked sourced k knob q = record {
   sourced = sourced;
-  low = omega (arith, within 200 t 3000 knob .0);
-  high = omega (arith, within 200 t 3000 knob .1, R .keeps .high);
-  few = λ u e. plain-pulses (T .same-sources .at u (omega (arith, under u e, T .as-wide)));
-  kept = λ u e. kept-most d w fastest m (T .formed) l (R .keeps) u (under u e);
-  early = λ u e. omega (arith, R .holds .ages .before u (under u e));
+  at = λ u e. record {
+    here = sourced u e;
+    low = omega (arith, within 200 t 3000 knob .0);
+    high = omega (arith, within 200 t 3000 knob .1, R .keeps .high);
+    few = plain-pulses (T .same-sources .at u (omega (arith, under u e, T .as-wide)));
+    kept = kept-most d w fastest m (T .formed) l (R .keeps) u (under u e);
+    early = omega (arith, R .holds .ages .before u (under u e));
+  };
   asked = asked;
 }
   where
@@ -359,13 +363,13 @@ pub raised-same : (d : Description) (w : Words) (used since fastest fastest′ :
 raised-same d w used since fastest fastest′ m R z h =
     ext-getD 0 fastest′ (m .fastest) (z ∙ sym (R .holds .marks .sized .fastests)) (λ u p. h u (omega arith) ∙ sym (R .keeps .here u (omega arith)))
 
--- a refused call's answer and the plain machine's, whose record its words hold
-pub answer-ends : (r : Advanced) (o : Outcome) (w : Words) (m : Machine) (p : Ticked) → r ≡ record { outcome = o; words = w } → record { outcome = o; machine = m } ≡ p → r .outcome ≡ p .outcome
-answer-ends r o w m p e q = ap (λ (x : Advanced). x .outcome) e ∙ ap (λ (x : Ticked). x .outcome) q
-
-pub answer-tracks : (d : Description) (used since fastest : List ℕ) (r : Advanced) (o : Outcome) (w : Words) (m : Machine) (p : Ticked) → r ≡ record { outcome = o; words = w } → record { outcome = o; machine = m } ≡ p → Tracks d w used since fastest m → Tracks d (r .words) used since fastest (p .machine)
-answer-tracks d used since fastest r o w m p e q h =
-    subst (λ (k : Machine). Tracks d (r .words) used since fastest k) (ap (λ (x : Ticked). x .machine) q) (subst (λ (k : Words). Tracks d k used since fastest m) (sym (ap (λ (x : Advanced). x .words) e)) h)
-
-pub answer-tick : (r : Advanced) (o : Outcome) (w : Words) → r ≡ record { outcome = o; words = w } → r .words .tick ≡ w .tick
-answer-tick r o w e = ap (λ (x : Advanced). x .words .tick) e
+-- a refused call leaves all as it was, and ends as the plain machine's
+pub refused-advances : (rows runs ticks pulses longest : List ℕ) (sources : ℕ) (call : Call) (w : Words) (used since fastest tempos gaps : List ℕ) (o : Outcome) (r : Advanced) → r ≡ record { outcome = o; words = w } → ((d : Description) (m : Machine) → TablesOf d rows runs ticks pulses longest sources → judge d ≡ Done → lawful d m ≡ true → Tracks d w used since fastest m → record { outcome = o; machine = m } ≡ plainAnswer d m call) → Asked ticks pulses tempos gaps
+    → Advances rows runs ticks pulses longest sources call w used since fastest r used since fastest tempos gaps
+refused-advances rows runs ticks pulses longest sources call w used since fastest tempos gaps o r e plain asked = record {
+  ends = λ d m T j l R. ap (λ (x : Advanced). x .outcome) e ∙ ap (λ (x : Ticked). x .outcome) (plain d m T j l R);
+  leaves = λ d m T j l R.
+      subst (λ (k : Machine). Tracks d (r .words) used since fastest k) (ap (λ (x : Ticked). x .machine) (plain d m T j l R)) (subst (λ (k : Words). Tracks d k used since fastest m) (sym (ap (λ (x : Advanced). x .words) e)) R);
+  asked = asked;
+  soon = let q : r .words .tick ≡ w .tick = ap (λ (x : Advanced). x .words .tick) e in omega arith;
+}

@@ -44,14 +44,13 @@ pub record Tracks (d : Description) (w : Words) (used since fastest : List ℕ) 
   pub keeps : Keeps w fastest m
 
 -- a source's numbers are such that its spacing can be worked out
-pub record TimedAt (u peak : ℕ) (ticks pulses since fastest tempos gaps : List ℕ) : Type 0 where
+pub record TimedAt (u peak : ℕ) (pulses since fastest : List ℕ) : Type 0 where
   pub here : u < 16
   pub low : 200 ≤ peak
   pub high : peak ≤ 3000
   pub few : getD pulses u 0 ≤ 960
   pub kept : getD fastest u 0 ≤ 3000
   pub early : getD since u 0 < 2 ^ 63
-  pub asked : Asked ticks pulses tempos gaps
 
 -- its spacing at the fastest tempo given
 abbrev pub dueBy : List ℕ → List ℕ → List ℕ → ℕ → ℕ → ℕ
@@ -63,14 +62,10 @@ pub record SoonAt (u peak : ℕ) (ticks pulses longest since fastest : List ℕ)
   pub late : r ≡ false → (getD since u 0 + dueBy ticks pulses fastest peak u ≤ tick) ⊎ (getD since u 0 + getD longest u 0 ≤ tick)
   pub asked : Asked ticks pulses tempos′ gaps′
 
--- the same of every arriving source
+-- and so are those of every arriving source
 pub record Timed (mask peak : ℕ) (ticks pulses since fastest tempos gaps : List ℕ) : Type 0 where
   pub sourced : Sourced mask
-  pub low : 200 ≤ peak
-  pub high : peak ≤ 3000
-  pub few : (u : ℕ) → heard mask u ≡ true → getD pulses u 0 ≤ 960
-  pub kept : (u : ℕ) → heard mask u ≡ true → getD fastest u 0 ≤ 3000
-  pub early : (u : ℕ) → heard mask u ≡ true → getD since u 0 < 2 ^ 63
+  pub at : (u : ℕ) → heard mask u ≡ true → TimedAt u peak pulses since fastest
   pub asked : Asked ticks pulses tempos gaps
 
 -- whether an arriving source comes too soon, peak being the fastest tempo given since the last arrival

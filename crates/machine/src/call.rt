@@ -15,6 +15,7 @@ ghost use mathlib.Core.Path.{_≡_};
 ghost use Prim.Native.Nat.{_+_, _≤_, _<_, _/_, _^_};
 ghost use lib.Dec.{ltb};
 ghost use Rattle.model.specs.declared.Outcome.the-variants.{Refused};
+ghost use Rattle.spacings.specs.Gaps.{Asked};
 ghost use Rattle.steps.specs.Words.{Workable};
 ghost use Rattle.machine.specs.Calls.{TimedAt, SoonAt, Timed, SoonIs, RunsOn, Going, Advances};
 
@@ -61,7 +62,7 @@ fn soon_at<'a>(
     tempos: &mut [u32; 16],
     gaps: &mut [u32; 16],
 ) -> bool
-    requires { ⌜ TimedAt u peak (now ticks) (now pulses) (now since) (now fastest) (now tempos) (now gaps) ⌝ }
+    requires { ⌜ TimedAt u peak (now pulses) (now since) (now fastest) × Asked (now ticks) (now pulses) (now tempos) (now gaps) ⌝ }
     ensures { λ r. ⌜ SoonAt u peak (now (ticks .entry)) (now (pulses .entry)) (now (longest .entry)) (now (since .entry)) (now (fastest .entry)) tick r (now (tempos .exit)) (now (gaps .exit)) ⌝ }
 {
     if !young(since[u], longest[u], tick) {

@@ -17,7 +17,7 @@ use Rattle.steps.specs.declared.words.Words.{Words}
 use Rattle.steps.specs.Words.{Holds, worked}
 use Rattle.steps.proofs.StepLaws.{tempos-hold}
 use Rattle.machine.specs.Calls.{Tracks}
-use Rattle.machine.proofs.CallLaws.{known, strangers-none, strangers-some, workable, timed, judged-at, tick-off, tick-refused, tick-done, end-stranger, end-soon, end-none, silent-known, silent-soon, silent-arrive, silent-keeps, arrived-keeps, tracked, answer-ends, answer-tracks, answer-tick}
+use Rattle.machine.proofs.CallLaws.{known, strangers-none, strangers-some, workable, timed, judged-at, tick-off, tick-refused, tick-done, end-stranger, end-soon, end-none, silent-known, silent-soon, silent-arrive, silent-keeps, arrived-keeps, tracked, refused-advances}
 use borrow.Author.Needs.{needs}
 use Rattle.machine.proofs.call.advance.Statement.{statement}
 use Rattle.machine.proofs.call.advance.Tie as tie
@@ -32,19 +32,8 @@ refused-requires c κs = search needs
 returns : tie.Need-returns
 returns c =
     let A = c .before .before .before .before .args in
-    let w = A .w in
-    let t = A .call .tempo in
-    let mask = A .call .mask in
-    let finish = A .call .finish in
-    let r = c .refused in
-    let off : onKnob t ≡ false = sym (c .before .before .on-knob .ensures) ∙ not-true (c .before .before .on-knob .result) (c .before .if2 .taken) in
-    let soon = answer-tick (r .result) (Refused OffKnob 0) w (r .ensures) in
-    record {
-      ends = λ d m T j l R. answer-ends (r .result) (Refused OffKnob 0) w m _ (r .ensures) (tick-off d t m (record { marks = marksIn mask }) finish j off);
-      leaves = λ d m T j l R. answer-tracks d (A .used .now) (A .since .now) (A .fastest .now) (r .result) (Refused OffKnob 0) w m _ (r .ensures) (tick-off d t m (record { marks = marksIn mask }) finish j off) R;
-      asked = c .before .before .before .before .pre .asked;
-      soon = omega (arith, soon);
-    }
+    let off : onKnob (A .call .tempo) ≡ false = sym (c .before .before .on-knob .ensures) ∙ not-true (c .before .before .on-knob .result) (c .before .if2 .taken) in
+    refused-advances (A .rows .now) (A .runs .now) (A .ticks .now) (A .pulses .now) (A .longest .now) (A .sources) (A .call) (A .w) (A .used .now) (A .since .now) (A .fastest .now) _ _ (Refused OffKnob 0) (c .refused .result) (c .refused .ensures) (λ d m T j l R. tick-off d (A .call .tempo) m (record { marks = marksIn (A .call .mask) }) (A .call .finish) j off) (c .before .before .before .before .pre .asked)
 
 larger-requires : tie.Need-larger-requires
 larger-requires c κs = search needs
@@ -94,19 +83,8 @@ refused-requires-2 c κs = search needs
 returns-3 : tie.Need-returns-3
 returns-3 c =
     let A = c .before .before .before .before .args in
-    let w = A .w in
-    let t = A .call .tempo in
-    let mask = A .call .mask in
-    let finish = A .call .finish in
-    let r = c .refused2 in
-    let off : onKnob t ≡ false = sym (c .before .before .on-knob2 .ensures) ∙ not-true (c .before .before .on-knob2 .result) (c .before .if3 .taken) in
-    let soon = answer-tick (r .result) (Refused OffKnob 0) w (r .ensures) in
-    record {
-      ends = λ d m T j l R. answer-ends (r .result) (Refused OffKnob 0) w m _ (r .ensures) (tick-off d t m (record { marks = marksIn mask }) finish j off);
-      leaves = λ d m T j l R. answer-tracks d (A .used .now) (A .since .now) (A .fastest .now) (r .result) (Refused OffKnob 0) w m _ (r .ensures) (tick-off d t m (record { marks = marksIn mask }) finish j off) R;
-      asked = c .before .before .before .before .pre .asked;
-      soon = omega (arith, soon);
-    }
+    let off : onKnob (A .call .tempo) ≡ false = sym (c .before .before .on-knob2 .ensures) ∙ not-true (c .before .before .on-knob2 .result) (c .before .if3 .taken) in
+    refused-advances (A .rows .now) (A .runs .now) (A .ticks .now) (A .pulses .now) (A .longest .now) (A .sources) (A .call) (A .w) (A .used .now) (A .since .now) (A .fastest .now) _ _ (Refused OffKnob 0) (c .refused2 .result) (c .refused2 .ensures) (λ d m T j l R. tick-off d (A .call .tempo) m (record { marks = marksIn (A .call .mask) }) (A .call .finish) j off) (c .before .before .before .before .pre .asked)
 
 above-requires : tie.Need-above-requires
 above-requires c κs = omega (arith, c .before .before .before .pre .tables .as-wide, c .before .before .before .pre .tables .formed .fields .few-sources)
@@ -117,20 +95,12 @@ refused-requires-3 c κs = search needs
 returns-4 : tie.Need-returns-4
 returns-4 c =
     let A = c .before .before .before .before .before .before .args in
-    let w = A .w in
     let t = A .call .tempo in
     let mask = A .call .mask in
-    let finish = A .call .finish in
-    let r = c .refused3 in
-    let on : onKnob t ≡ true = sym (c .before .before .before .before .on-knob2 .ensures) ∙ not-false (c .before .before .before .before .on-knob2 .result) (c .before .before .before .if3 .left) in
     let few : A .sources ≤ 16 = omega (arith, c .before .before .before .before .before .before .pre .tables .as-wide, c .before .before .before .before .before .before .pre .tables .formed .fields .few-sources) in
-    let soon = answer-tick (r .result) (Refused Stranger 0) w (r .ensures) in
-    record {
-      ends = λ d m T j l R. answer-ends (r .result) (Refused Stranger 0) w m _ (r .ensures) (tick-refused d t mask m finish Stranger 0 (judged-at d t j on) l (sym (end-stranger d t mask m (strangers-some d mask (A .sources) (T .as-wide) few (c .before .before .before .before .before .before .pre .fits) (c .before .before .before .before .before .before .pre .sourced) (λ z. c .before .if4 .taken (c .before .before .above .ensures ∙ z))))));
-      leaves = λ d m T j l R. answer-tracks d (A .used .now) (A .since .now) (A .fastest .now) (r .result) (Refused Stranger 0) w m _ (r .ensures) (tick-refused d t mask m finish Stranger 0 (judged-at d t j on) l (sym (end-stranger d t mask m (strangers-some d mask (A .sources) (T .as-wide) few (c .before .before .before .before .before .before .pre .fits) (c .before .before .before .before .before .before .pre .sourced) (λ z. c .before .if4 .taken (c .before .before .above .ensures ∙ z)))))) R;
-      asked = c .before .before .before .before .before .before .pre .asked;
-      soon = omega (arith, soon);
-    }
+    let on : onKnob t ≡ true = sym (c .before .before .before .before .on-knob2 .ensures) ∙ not-false (c .before .before .before .before .on-knob2 .result) (c .before .before .before .if3 .left) in
+    refused-advances (A .rows .now) (A .runs .now) (A .ticks .now) (A .pulses .now) (A .longest .now) (A .sources) (A .call) (A .w) (A .used .now) (A .since .now) (A .fastest .now) _ _ (Refused Stranger 0) (c .refused3 .result) (c .refused3 .ensures)
+    (λ d m T j l R. tick-refused d t mask m (A .call .finish) Stranger 0 (judged-at d t j on) l (sym (end-stranger d t mask m (strangers-some d mask (A .sources) (T .as-wide) few (c .before .before .before .before .before .before .pre .fits) (c .before .before .before .before .before .before .pre .sourced) (λ z. c .before .if4 .taken (c .before .before .above .ensures ∙ z)))))) (c .before .before .before .before .before .before .pre .asked)
 
 larger-requires-2 : tie.Need-larger-requires-2
 larger-requires-2 c κs = search needs
@@ -150,24 +120,14 @@ refused-requires-4 c κs = search needs
 returns-5 : tie.Need-returns-5
 returns-5 c =
     let A = c .before .before .before .before .before .before .before .before .before .before .before .before .before .args in
-    let w = A .w in
     let t = A .call .tempo in
     let mask = A .call .mask in
-    let finish = A .call .finish in
-    let r = c .refused4 in
-    let on : onKnob t ≡ true = sym (c .before .before .before .before .before .before .before .before .before .before .before .on-knob2 .ensures) ∙ not-false (c .before .before .before .before .before .before .before .before .before .before .before .on-knob2 .result) (c .before .before .before .before .before .before .before .before .before .before .if3 .left) in
     let few : A .sources ≤ 16 = omega (arith, c .before .before .before .before .before .before .before .before .before .before .before .before .before .pre .tables .as-wide, c .before .before .before .before .before .before .before .before .before .before .before .before .before .pre .tables .formed .fields .few-sources) in
-    let soon = answer-tick (r .result) (Refused TooSoon 0) w (r .ensures) in
-    record {
-      ends = λ d m T j l R.
-          let K = known d mask (A .sources) (c .before .before .before .before .before .before .before .before .before .above .result) (T .as-wide) few (c .before .before .before .before .before .before .before .before .before .above .ensures) (c .before .before .before .before .before .before .before .before .if4 .left) in
-          answer-ends (r .result) (Refused TooSoon 0) w m _ (r .ensures) (tick-refused d t mask m finish TooSoon 0 (judged-at d t j on) l (sym (end-soon d t mask m (strangers-none d mask K) (sym (c .before .before .too-soon .ensures .told d t (A .sources) w m (T .formed) (T .same-sources) (T .spaced) K l (R .holds .ages) (R .keeps) (c .before .before .before .before .before .before .before .larger2 .ensures) (within 200 t 3000 on .0)) ∙ c .before .if5 .taken))));
-      leaves = λ d m T j l R.
-          let K = known d mask (A .sources) (c .before .before .before .before .before .before .before .before .before .above .result) (T .as-wide) few (c .before .before .before .before .before .before .before .before .before .above .ensures) (c .before .before .before .before .before .before .before .before .if4 .left) in
-          answer-tracks d (A .used .now) (A .since .now) (A .fastest .now) (r .result) (Refused TooSoon 0) w m _ (r .ensures) (tick-refused d t mask m finish TooSoon 0 (judged-at d t j on) l (sym (end-soon d t mask m (strangers-none d mask K) (sym (c .before .before .too-soon .ensures .told d t (A .sources) w m (T .formed) (T .same-sources) (T .spaced) K l (R .holds .ages) (R .keeps) (c .before .before .before .before .before .before .before .larger2 .ensures) (within 200 t 3000 on .0)) ∙ c .before .if5 .taken)))) R;
-      asked = c .before .before .too-soon .ensures .asked;
-      soon = omega (arith, soon);
-    }
+    let on : onKnob t ≡ true = sym (c .before .before .before .before .before .before .before .before .before .before .before .on-knob2 .ensures) ∙ not-false (c .before .before .before .before .before .before .before .before .before .before .before .on-knob2 .result) (c .before .before .before .before .before .before .before .before .before .before .if3 .left) in
+    refused-advances (A .rows .now) (A .runs .now) (A .ticks .now) (A .pulses .now) (A .longest .now) (A .sources) (A .call) (A .w) (A .used .now) (A .since .now) (A .fastest .now) _ _ (Refused TooSoon 0) (c .refused4 .result) (c .refused4 .ensures)
+    (λ d m T j l R.
+    let K = known d mask (A .sources) (c .before .before .before .before .before .before .before .before .before .above .result) (T .as-wide) few (c .before .before .before .before .before .before .before .before .before .above .ensures) (c .before .before .before .before .before .before .before .before .if4 .left) in
+    tick-refused d t mask m (A .call .finish) TooSoon 0 (judged-at d t j on) l (sym (end-soon d t mask m (strangers-none d mask K) (sym (c .before .before .too-soon .ensures .told d t (A .sources) (A .w) m (T .formed) (T .same-sources) (T .spaced) K l (R .holds .ages) (R .keeps) (c .before .before .before .before .before .before .before .larger2 .ensures) (within 200 t 3000 on .0)) ∙ c .before .if5 .taken)))) (c .before .before .too-soon .ensures .asked)
 
 arrive-requires : tie.Need-arrive-requires
 arrive-requires c κs = let p = c .before .before .before .before .before .before .before .before .before .before .before .before .before .before .pre in (omega (arith, c .before .before .before .before .before .before .before .before .before .before .before .before .before .if1 .left), p .sourced, p .tracks .holds .ages .many, p .tracks .keeps .many)

@@ -33,7 +33,7 @@ returns c =
     record {
       soon = λ e. absurd (not-both e refl);
       late = λ e. inr (ltb-false _ _ (sym (c .before .young .ensures) ∙ not-true (c .before .young .result) (c .if1 .taken)));
-      asked = c .before .before .before .before .pre .asked;
+      asked = c .before .before .before .before .pre .1;
     }
 
 mul-larger : tie.Need-mul-larger

@@ -7,7 +7,7 @@ use native.Mathlib.Omega.{arith}
 use lib.ListN.{getD}
 use Rattle.model.specs.Run.{heard}
 use Rattle.spacings.specs.Gaps.{Asked}
-use Rattle.steps.proofs.MaskLaws.{Rest, rest-all, rest-under, here, least, turn, passed}
+use Rattle.steps.proofs.MaskLaws.{Rest, rest-all, rest-under, here, turn, passed}
 use Rattle.machine.specs.Calls.{dueBy}
 use Rattle.machine.proofs.CallLaws.{soon-one, soon-none}
 use borrow.Author.Needs.{needs}
@@ -32,20 +32,7 @@ comes : (c : tie.After-first Inv-loop μ-loop) → heard (c .before .before .bef
 comes c = here (c .before .before .before .args .mask) (c .before .before .loop .inv .0) (c .before .before .loop .rest) (c .first .result) (c .before .before .loop .inv .1) (c .first .ensures)
 
 soon-at-requires : tie.Need-soon-at-requires Inv-loop μ-loop
-soon-at-requires c κs =
-    let p = c .before .before .before .before .before .pre in
-    let L = c .before .before .before .before .loop in
-    let u = c .before .before .first .result in
-    let h = comes (c .before .before) in
-    record {
-      here = omega (arith, least (c .before .before .before .before .before .args .mask) (L .inv .0) (L .rest) u (p .sourced) (L .inv .1) (c .before .before .first .ensures));
-      low = p .low;
-      high = p .high;
-      few = p .few u h;
-      kept = p .kept u h;
-      early = p .early u h;
-      asked = L .inv .2;
-    }
+soon-at-requires c κs = (c .before .before .before .before .before .pre .at (c .before .before .first .result) (comes (c .before .before)), c .before .before .before .before .loop .inv .2)
 
 returns : tie.Need-returns Inv-loop μ-loop
 returns c =

@@ -9,13 +9,14 @@ use lib.ListN.{length, getD}
 use lib.Dec.{ltb, eqb}
 use borrow.Author.Tests.{eqb-true, lt-ltb, le-ltb}
 use Rattle.model.specs.declared.Description.{Description}
+use Rattle.model.specs.declared.Policy.{Policy}
 use Rattle.model.specs.declared.Machine.{Machine}
 use Rattle.model.specs.declared.Ticked.{Ticked}
 use Rattle.model.specs.declared.Outcome.{Outcome}
 use Rattle.model.specs.declared.Verdict.{Verdict}
 use Rattle.model.specs.declared.Verdict.the-variants.{DoubtOrder}
 use Rattle.model.specs.Graph.{system, linkAt, linked}
-use Rattle.model.specs.Delays.{Settled, unchanged, reached, delayOf, roundOf, spacingOf}
+use Rattle.model.specs.Delays.{Settled, unchanged, reached, delayOf, roundOf, tailOf, spacingOf}
 use Rattle.model.specs.Order.{inOrder, InOrder}
 use Rattle.model.specs.Verdicts.{settledVerdict, sourceVerdict, orderVerdict, verdictOf, verdictAt, doubtful, delayIn, allHeld}
 use Rattle.model.specs.Machine.{idle, droppedAt, usedAt}
@@ -24,25 +25,25 @@ use Rattle.model.specs.Promise.{Calls, none, call, UpTo, Assured}
 use Rattle.lemmas.proofs.Tests.{not-both}
 use Rattle.lemmas.proofs.Range.{all-at}
 use Rattle.theory.proofs.WellFormed.{WellFormed, Loaded, Shaped, IsTask}
-use Rattle.assurance.proofs.Schedule.{Schedule, Preempts}
+use Rattle.assurance.proofs.Schedule.{Schedule, Obeys}
 use Rattle.assurance.proofs.Events.{came, Takes, no-end, joins}
 use Rattle.assurance.proofs.Replay.{callAt, taken, Replayed, replayed}
-use Rattle.assurance.proofs.Machine.{Spaced, at, highAt, endAt, schedule, preempts, schedule-arr, schedule-begins, schedule-ends, schedule-used}
+use Rattle.assurance.proofs.Machine.{Spaced, at, highAt, endAt, schedule, obeys, schedule-arr, schedule-begins, schedule-ends, schedule-used}
 use Rattle.assurance.proofs.Marks.{Drop, dropped-drop, drop-dropped, firesIn, endsIn, link-here, kind, link-marked}
 use Rattle.assurance.proofs.Serving.{Shows, served-not}
 use Rattle.assurance.proofs.Links.{dropped-waits, source-not-dropped, source-waits, task-not-dropped}
 
 -- what is known of an accepted description d with the quote q
-pub record Facts (d : Description) (q : ℕ) : Type 0 where
+pub record Facts (pol : Policy) (d : Description) (q : ℕ) : Type 0 where
   pub formed : WellFormed d
   pub loaded : Loaded (system d)
   pub shaped : Shaped (system d)
   -- every critical link is held at the quote
-  pub held : allHeld d q ≡ true
+  pub held : allHeld pol d q ≡ true
   -- at the quote every spacing is at least 1, and at no slower tempo is one smaller
   pub spaced : Spaced d q (spacingOf d q)
-  -- a settled delay is a D that a round leaves unchanged, below the spacing
-  pub settled : (i j D : ℕ) → delayOf (system d) (spacingOf d q) i j ≡ unchanged D → (roundOf (system d) (spacingOf d q) j D ≡ D) × (D < spacingOf d q i)
+  -- a settled delay is a D that a round leaves unchanged, with what follows it below the spacing
+  pub settled : (i j D : ℕ) → delayOf pol (system d) (spacingOf d q) i j ≡ unchanged D → (roundOf pol (system d) (spacingOf d q) j D ≡ D) × (D + tailOf pol (system d) j < spacingOf d q i)
   -- a walk that does not fail has found a neighbourhood
   pub ordered : (i j : ℕ) → IsTask (system d) i → linked d i j ≡ true → inOrder (system d) i j ≡ true → InOrder (system d) i j
 
@@ -53,15 +54,15 @@ ticked r s a b =
     ∙ ap (λ (m : Machine). let x : Ticked = record { outcome = s .outcome; machine = m } in x) b
 
 -- calls that each meet what the tick call ensures are answered as the plain machine answers them
-pub calls-plain : (d : Description) {m : Machine} {cs : List Call} {rs : List Ticked} {m′ : Machine} → Calls d m cs rs m′ → (rs ≡ answers d m cs) × (m′ ≡ left d m cs)
+pub calls-plain : (pol : Policy) (d : Description) {m : Machine} {cs : List Call} {rs : List Ticked} {m′ : Machine} → Calls pol d m cs rs m′ → (rs ≡ answers pol d m cs) × (m′ ≡ left pol d m cs)
 unfolding answers left
-calls-plain d none = (refl, refl)
-calls-plain d (call {m = m} {c = c} {r = r} {cs = cs} {rs = rs} {m′ = m′} met k) =
-    let e : r ≡ plainCall d m c = ticked r (plainCall d m c) (met .0) (met .1) in
-    let ih : (rs ≡ answers d (r .machine) cs) × (m′ ≡ left d (r .machine) cs) = calls-plain d k in
-    (ap (λ (l : List Ticked). r ∷ l) (ih .0) ∙ ap (λ (s : Ticked). s ∷ answers d (s .machine) cs) e, ih .1 ∙ ap (λ (s : Ticked). left d (s .machine) cs) e)
+calls-plain pol d none = (refl, refl)
+calls-plain pol d (call {m = m} {c = c} {r = r} {cs = cs} {rs = rs} {m′ = m′} met k) =
+    let e : r ≡ plainCall pol d m c = ticked r (plainCall pol d m c) (met .0) (met .1) in
+    let ih : (rs ≡ answers pol d (r .machine) cs) × (m′ ≡ left pol d (r .machine) cs) = calls-plain pol d k in
+    (ap (λ (l : List Ticked). r ∷ l) (ih .0) ∙ ap (λ (s : Ticked). s ∷ answers pol d (s .machine) cs) e, ih .1 ∙ ap (λ (s : Ticked). left pol d (s .machine) cs) e)
 
-module _ (d : Description) (q : ℕ) (F : Facts d q) (cs : List Call) (up : UpTo q (ticks d (idle d) cs)) where
+module _ (pol : Policy) (d : Description) (q : ℕ) (F : Facts pol d q) (cs : List Call) (up : UpTo q (ticks pol d (idle d) cs)) where
   abbrev wf : WellFormed d
   wf = F .formed
 
@@ -69,16 +70,16 @@ module _ (d : Description) (q : ℕ) (F : Facts d q) (cs : List Call) (up : UpTo
   gap = spacingOf d q
 
   abbrev ks : List Call
-  ks = taken d (idle d) cs
+  ks = taken pol d (idle d) cs
 
   abbrev hist : List Tick
-  hist = ticks d (idle d) cs
+  hist = ticks pol d (idle d) cs
 
-  R : Replayed d (idle d) cs (taken d (idle d) cs)
-  R = replayed d cs (idle d)
+  R : Replayed pol d (idle d) cs (taken pol d (idle d) cs)
+  R = replayed pol d cs (idle d)
 
   -- what History reads off a tick
-  shown : (x : ℕ) → x < length hist → tickAt hist x ≡ observe d (at d wf ks x) (callAt ks x)
+  shown : (x : ℕ) → x < length hist → tickAt hist x ≡ observe pol d (at pol d wf ks x) (callAt ks x)
   shown x p = R .shows x (omega (arith, R .as-many))
 
   -- no tick is above the quote
@@ -90,17 +91,17 @@ module _ (d : Description) (q : ℕ) (F : Facts d q) (cs : List Call) (up : UpTo
       omega (arith, up x h)
 
   S : Schedule (system d) gap
-  S = schedule d wf ks q gap (F .spaced) (R .passed) slow
+  S = schedule pol d wf ks q gap (F .spaced) (R .passed) slow
 
-  P : Preempts S
+  P : Obeys S pol
   unfolding S
-  P = preempts d wf ks q gap (F .spaced) (R .passed) slow
+  P = obeys pol d wf ks q gap (F .spaced) (R .passed) slow
 
-  fires-is : (x i : ℕ) → x < length hist → fires (tickAt hist x) i ≡ firesIn d wf (F .loaded) ks i x
+  fires-is : (x i : ℕ) → x < length hist → fires (tickAt hist x) i ≡ firesIn pol d wf (F .loaded) ks i x
   unfolding observe
   fires-is x i p = ap (λ (k : Tick). fires k i) (shown x p)
 
-  ends-is : (x j : ℕ) → x < length hist → ends (tickAt hist x) j ≡ endsIn d wf (F .loaded) ks j x
+  ends-is : (x j : ℕ) → x < length hist → ends (tickAt hist x) j ≡ endsIn pol d wf (F .loaded) ks j x
   unfolding observe
   ends-is x j p = ap (λ (k : Tick). ends k j) (shown x p)
 
@@ -111,15 +112,15 @@ module _ (d : Description) (q : ℕ) (F : Facts d q) (cs : List Call) (up : UpTo
   shows : Shows hist S takes
   unfolding S takes joins observe
   shows = record {
-    begins-is = λ j x p. ap (λ (k : Tick). begins k j) (shown x p) ∙ (began j x (eqb (highAt d wf ks x) j) refl ∙ sym (schedule-begins d wf ks q gap (F .spaced) (R .passed) slow j x));
-    ends-is = λ j x p. ends-is x j p ∙ sym (schedule-ends d wf ks q gap (F .spaced) (R .passed) slow j x);
-    arrives-is = λ i x s p. fires-is x i p ∙ (ap (λ (b : Bool). cond b (eqb (highAt d wf ks x) i && endAt d wf ks x) (getD (callAt ks x .arrivals .marks) (i - 33) false)) (le-ltb i 33 s) ∙ sym (schedule-arr d wf ks q gap (F .spaced) (R .passed) slow x i));
-    taken-is = λ j x p. ap (λ (n : ℕ). ltb 0 n) (schedule-used d wf ks q gap (F .spaced) (R .passed) slow x j) ∙ sym (ap (λ (k : Tick). partDone k j) (shown x p));
+    begins-is = λ j x p. ap (λ (k : Tick). begins k j) (shown x p) ∙ (began j x (eqb (highAt pol d wf ks x) j) refl ∙ sym (schedule-begins pol d wf ks q gap (F .spaced) (R .passed) slow j x));
+    ends-is = λ j x p. ends-is x j p ∙ sym (schedule-ends pol d wf ks q gap (F .spaced) (R .passed) slow j x);
+    arrives-is = λ i x s p. fires-is x i p ∙ (ap (λ (b : Bool). cond b (eqb (highAt pol d wf ks x) i && endAt pol d wf ks x) (getD (callAt ks x .arrivals .marks) (i - 33) false)) (le-ltb i 33 s) ∙ sym (schedule-arr pol d wf ks q gap (F .spaced) (R .passed) slow x i));
+    taken-is = λ j x p. ap (λ (n : ℕ). ltb 0 n) (schedule-used pol d wf ks q gap (F .spaced) (R .passed) slow x j) ∙ sym (ap (λ (k : Tick). partDone k j) (shown x p));
   }
     where
-      began : (j x : ℕ) (b : Bool) → eqb (highAt d wf ks x) j ≡ b → (eqb (highAt d wf ks x) j && eqb (usedAt (at d wf ks x) (highAt d wf ks x)) 0) ≡ (eqb (highAt d wf ks x) j && eqb (usedAt (at d wf ks x) j) 0)
+      began : (j x : ℕ) (b : Bool) → eqb (highAt pol d wf ks x) j ≡ b → (eqb (highAt pol d wf ks x) j && eqb (usedAt (at pol d wf ks x) (highAt pol d wf ks x)) 0) ≡ (eqb (highAt pol d wf ks x) j && eqb (usedAt (at pol d wf ks x) j) 0)
       began j x true e =
-          ap (λ (k : ℕ). eqb (highAt d wf ks x) j && eqb (usedAt (at d wf ks x) k) 0) (eqb-true (highAt d wf ks x) j e)
+          ap (λ (k : ℕ). eqb (highAt pol d wf ks x) j && eqb (usedAt (at pol d wf ks x) k) 0) (eqb-true (highAt pol d wf ks x) j e)
       began j x false e = rw e refl
 
   -- the link at place l
@@ -134,9 +135,9 @@ module _ (d : Description) (q : ℕ) (F : Facts d q) (cs : List Call) (up : UpTo
     isTask = wf .fields .link-to l p .0
 
     -- the dropped mark is set exactly as the events say
-    marked-drop : droppedAt (at d wf ks (length hist)) l ≡ true → Dropped hist i j
+    marked-drop : droppedAt (at pol d wf ks (length hist)) l ≡ true → Dropped hist i j
     marked-drop e =
-        let k : Drop (firesIn d wf (F .loaded) ks i) (endsIn d wf (F .loaded) ks j) (length hist) = dropped-drop (link-marked d wf (F .loaded) ks l p) (length hist) e in
+        let k : Drop (firesIn pol d wf (F .loaded) ks i) (endsIn pol d wf (F .loaded) ks j) (length hist) = dropped-drop (link-marked pol d wf (F .loaded) ks l p) (length hist) e in
         record {
           second = k .second;
           before = k .since;
@@ -148,35 +149,35 @@ module _ (d : Description) (q : ℕ) (F : Facts d q) (cs : List Call) (up : UpTo
           not-served = served-not hist j (k .since) (k .second) (omega (arith, k .held .before)) (λ z a b. ends-is z j (omega (arith, k .early)) ∙ k .held .unserved z a b);
         }
 
-    drop-marked : Dropped hist i j → droppedAt (at d wf ks (length hist)) l ≡ true
+    drop-marked : Dropped hist i j → droppedAt (at pol d wf ks (length hist)) l ≡ true
     unfolding takes joins
     drop-marked k =
-        let w = dropped-waits hist S takes shows i j {ev = firesIn d wf (F .loaded) ks i} (λ x r. fires-is x i r) k in
-        let e : firesIn d wf (F .loaded) ks i (k .before) ≡ true = came S j (w .0 .unserved) .0 in
-        drop-dropped (link-marked d wf (F .loaded) ks l p) (length hist) (k .second) (k .before) (k .in-list) (k .earlier) (w .1) e
+        let w = dropped-waits hist S takes shows i j {ev = firesIn pol d wf (F .loaded) ks i} (λ x r. fires-is x i r) k in
+        let e : firesIn pol d wf (F .loaded) ks i (k .before) ≡ true = came S j (w .0 .unserved) .0 in
+        drop-dropped (link-marked pol d wf (F .loaded) ks l p) (length hist) (k .second) (k .before) (k .in-list) (k .earlier) (w .1) e
         (λ z a b. sym (ends-is z j (omega (arith, k .in-list))) ∙ (shows .ends-is j z (omega (arith, k .in-list)) ∙ no-end S j isTask (w .0 .unserved) z a b))
 
     linked-here : system d .link i j ≡ true
     unfolding system
-    linked-here = link-here d wf (F .loaded) ks l p
+    linked-here = link-here pol d wf (F .loaded) ks l p
 
-    not-doubtful : not (doubtful (verdictAt d q l)) ≡ true
+    not-doubtful : not (doubtful (verdictAt pol d q l)) ≡ true
     unfolding allHeld
     not-doubtful = all-at _ 0 (d .«link_count») (F .held) l (omega arith) (omega arith)
 
     -- a critical link from a source is held with a delay
     module _ (crit : linkAt d l .critical ≡ 1) (isSource : 33 ≤ i) (isSource′ : i < 33 + d .«source_count») where
-      verdict-is : verdictAt d q l ≡ settledVerdict (delayOf (system d) gap i j) (gap i)
+      verdict-is : verdictAt pol d q l ≡ settledVerdict (delayOf pol (system d) gap i j) (tailOf pol (system d) j) (gap i)
       unfolding verdictAt verdictOf sourceVerdict
       verdict-is = rw (crit, le-ltb i 33 isSource) refl
 
-      delay-is : (D : ℕ) × (delayOf (system d) gap i j ≡ unchanged D) × (delayIn (verdictAt d q l) ≡ D)
-      delay-is = go (delayOf (system d) gap i j) refl
+      delay-is : (D : ℕ) × (delayOf pol (system d) gap i j ≡ unchanged D) × (delayIn (verdictAt pol d q l) ≡ D + tailOf pol (system d) j)
+      delay-is = go (delayOf pol (system d) gap i j) refl
         where
-          go : (s : Settled) → delayOf (system d) gap i j ≡ s → (D : ℕ) × (delayOf (system d) gap i j ≡ unchanged D) × (delayIn (verdictAt d q l) ≡ D)
-          go (unchanged D) e = (D, e, ap delayIn (verdict-is ∙ ap (λ (s : Settled). settledVerdict s (gap i)) e))
+          go : (s : Settled) → delayOf pol (system d) gap i j ≡ s → (D : ℕ) × (delayOf pol (system d) gap i j ≡ unchanged D) × (delayIn (verdictAt pol d q l) ≡ D + tailOf pol (system d) j)
+          go (unchanged D) e = (D, e, ap delayIn (verdict-is ∙ ap (λ (s : Settled). settledVerdict s (tailOf pol (system d) j) (gap i)) e))
           go reached e =
-              absurd (not-both not-doubtful (ap (λ (v : Verdict). not (doubtful v)) (verdict-is ∙ ap (λ (s : Settled). settledVerdict s (gap i)) e)))
+              absurd (not-both not-doubtful (ap (λ (v : Verdict). not (doubtful v)) (verdict-is ∙ ap (λ (s : Settled). settledVerdict s (tailOf pol (system d) j) (gap i)) e)))
 
       few : i < 33 + system d .sources
       unfolding system
@@ -186,16 +187,16 @@ module _ (d : Description) (q : ℕ) (F : Facts d q) (cs : List Call) (up : UpTo
       unfolding system
       one-spaced u a b = F .spaced .some u a b
 
-      fixed : roundOf (system d) gap j (delay-is .0) ≡ delay-is .0
+      fixed : roundOf pol (system d) gap j (delay-is .0) ≡ delay-is .0
       fixed = F .settled i j (delay-is .0) (delay-is .1) .0
 
       kept : Dropped hist i j → ⊥
       kept k =
-          source-not-dropped (F .loaded) (F .shaped) S takes hist shows i j linked-here one-spaced isSource few P (delay-is .0) fixed (F .settled i j (delay-is .0) (delay-is .1) .1) k
+          source-not-dropped (F .loaded) (F .shaped) S takes hist shows i j linked-here one-spaced isSource few pol P (delay-is .0) fixed (F .settled i j (delay-is .0) (delay-is .1) .1) k
 
-      waits-most : (x : ℕ) → x < length hist → fires (tickAt hist x) i ≡ true → waitOf hist j x ≤ delay-is .0
+      waits-most : (x : ℕ) → x < length hist → fires (tickAt hist x) i ≡ true → waitOf hist j x ≤ delay-is .0 + tailOf pol (system d) j
       waits-most x r e =
-          source-waits (F .loaded) (F .shaped) S takes hist shows i j linked-here one-spaced isSource few P (delay-is .0) fixed x r e
+          source-waits (F .loaded) (F .shaped) S takes hist shows i j linked-here one-spaced isSource few pol P (delay-is .0) fixed x r e
 
     -- a critical link from a task is held in order
     order-kept : linkAt d l .critical ≡ 1 → IsTask (system d) i → Dropped hist i j → ⊥
@@ -204,9 +205,9 @@ module _ (d : Description) (q : ℕ) (F : Facts d q) (cs : List Call) (up : UpTo
       where
         go : (b : Bool) → inOrder (system d) i j ≡ b → ⊥
         go true e =
-            task-not-dropped (F .loaded) (F .shaped) S takes hist shows i j linked-here own (F .ordered i j own (link-here d wf (F .loaded) ks l p) e) P k
+            task-not-dropped (F .loaded) (F .shaped) S takes hist shows i j linked-here own (F .ordered i j own (link-here pol d wf (F .loaded) ks l p) e) pol P k
         go false e =
-            let v : verdictAt d q l ≡ DoubtOrder = rw (crit, lt-ltb i 33 (omega (arith, own .1, F .shaped .few)), e) refl in
+            let v : verdictAt pol d q l ≡ DoubtOrder = rw (crit, lt-ltb i 33 (omega (arith, own .1, F .shaped .few)), e) refl in
             not-both not-doubtful (ap (λ (w : Verdict). not (doubtful w)) v)
 
     link-not-dropped : linkAt d l .critical ≡ 1 → Dropped hist i j → ⊥
@@ -217,22 +218,22 @@ module _ (d : Description) (q : ℕ) (F : Facts d q) (cs : List Call) (up : UpTo
         go (inl own) = order-kept crit own k
         go (inr s) = kept crit (s .0) (s .1) k
 
-    link-waits : linkAt d l .critical ≡ 1 → 33 ≤ i → (x : ℕ) → x < length hist → fires (tickAt hist x) i ≡ true → waitOf hist j x ≤ delayIn (verdictAt d q l)
-    link-waits crit s x r e = go (kind d wf (F .loaded) ks l p)
+    link-waits : linkAt d l .critical ≡ 1 → 33 ≤ i → (x : ℕ) → x < length hist → fires (tickAt hist x) i ≡ true → waitOf hist j x ≤ delayIn (verdictAt pol d q l)
+    link-waits crit s x r e = go (kind pol d wf (F .loaded) ks l p)
       where
-        go : (i ≤ 32) ⊎ ((33 ≤ i) × (i < 33 + d .«source_count»)) → waitOf hist j x ≤ delayIn (verdictAt d q l)
+        go : (i ≤ 32) ⊎ ((33 ≤ i) × (i < 33 + d .«source_count»)) → waitOf hist j x ≤ delayIn (verdictAt pol d q l)
         go (inl a) = absurd (omega arith)
         go (inr a) = omega (arith, waits-most crit s (a .1) x r e, delay-is crit s (a .1) .2)
 
-  left-is : left d (idle d) cs ≡ at d wf ks (length hist)
-  left-is = R .ends-at ∙ ap (λ (n : ℕ). at d wf ks n) (sym (R .as-many))
+  left-is : left pol d (idle d) cs ≡ at pol d wf ks (length hist)
+  left-is = R .ends-at ∙ ap (λ (n : ℕ). at pol d wf ks n) (sym (R .as-many))
 
-  pub assured-by : (rs : List Ticked) (m : Machine) → Calls d (idle d) cs rs m → Assured d q cs rs m
+  pub assured-by : (rs : List Ticked) (m : Machine) → Calls pol d (idle d) cs rs m → Assured pol d q cs rs m
   assured-by rs m k =
-      let e : m ≡ at d wf ks (length hist) = calls-plain d k .1 ∙ left-is in
+      let e : m ≡ at pol d wf ks (length hist) = calls-plain pol d k .1 ∙ left-is in
       record {
-        plain = calls-plain d k .0;
-        plain-left = calls-plain d k .1;
+        plain = calls-plain pol d k .0;
+        plain-left = calls-plain pol d k .1;
         kept = link-not-dropped;
         marked = λ l p. (λ f. marked-drop l p (sym (ap (λ (n : Machine). droppedAt n l) e) ∙ f), λ f. ap (λ (n : Machine). droppedAt n l) e ∙ drop-marked l p f);
         waited = λ l x p crit s r f. link-waits l p crit s x r f;

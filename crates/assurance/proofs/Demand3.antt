@@ -7,6 +7,7 @@ use lib.Dec.{leb, eqb}
 use borrow.Author.Tests.{eqb-true, le-leb, leb-true}
 use native.Mathlib.Omega.{arith}
 use Rattle.model.specs.declared.Description.{Description}
+use Rattle.model.specs.declared.Policy.{Policy}
 use Rattle.model.specs.declared.Machine.{Machine}
 use Rattle.model.specs.declared.Ticked.{Ticked}
 use Rattle.model.specs.declared.Outcome.the-variants.{Done}
@@ -31,10 +32,10 @@ use Rattle.theory.proofs.Quotes.{Quoted, quoted}
 use Rattle.assurance.proofs.Assurance.{Facts, assured-by}
 
 -- what the laws of files, loads, delays, walks and quotes give
-facts : (d : Description) (q : ℕ) → Widths d → quoteOf d ≡ Tempo q → Facts d q
+facts : (pol : Policy) (d : Description) (q : ℕ) → Widths d → quoteOf pol d ≡ Tempo q → Facts pol d q
 unfolding system
-facts d q w e =
-    let k : Quoted d q = quoted d q e in
+facts pol d q w e =
+    let k : Quoted pol d q = quoted pol d q e in
     let g : WellFormed d = judge-well-formed d w (k .judged) in
     let s : Shaped (system d) = shaped d g in
     record {
@@ -47,22 +48,22 @@ facts d q w e =
         some = λ u a b. gap-some d g u a b q (omega (arith, k .low)) (k .high);
         most = λ u t a b low high. gap-anti d g u a b t q (omega arith) high;
       };
-      settled = λ i j D x. held-fixed (system d) (spacingOf d q) i j D x;
+      settled = λ i j D x. held-fixed pol (system d) (spacingOf d q) i j D x;
       ordered = λ i j a b c. walk-order (system d) s (g .fields .few-sources) i j a c;
     }
 
 -- a list of calls from the idle record
-pub calls-assured : (d : Description) (q : ℕ) (cs : List Call) (rs : List Ticked) (m : Machine) → Widths d → quoteOf d ≡ Tempo q → UpTo q (ticks d (idle d) cs) → Calls d (idle d) cs rs m → Assured d q cs rs m
-calls-assured d q cs rs m w e up k = assured-by d q (facts d q w e) cs up rs m k
+pub calls-assured : (pol : Policy) (d : Description) (q : ℕ) (cs : List Call) (rs : List Ticked) (m : Machine) → Widths d → quoteOf pol d ≡ Tempo q → UpTo q (ticks pol d (idle d) cs) → Calls pol d (idle d) cs rs m → Assured pol d q cs rs m
+calls-assured pol d q cs rs m w e up k = assured-by pol d q (facts pol d q w e) cs up rs m k
 
 -- with a quote the start is not refused: its record is the idle one
-pub start-idle : (d : Description) (q : ℕ) (s : Ticked) → quoteOf d ≡ Tempo q → StartMeets d s → s ≡ record { outcome = Done; machine = idle d }
+pub start-idle : (pol : Policy) (d : Description) (q : ℕ) (s : Ticked) → quoteOf pol d ≡ Tempo q → StartMeets d s → s ≡ record { outcome = Done; machine = idle d }
 unfolding started
-start-idle d q s e a = rw (quoted d q e .judged) at a
+start-idle pol d q s e a = rw (quoted pol d q e .judged) at a
 
 pub promise : Promise
-promise d q s cs rs m w e a k up =
-    calls-assured d q cs rs m w e up (subst (λ (x : Ticked). Calls d (x .machine) cs rs m) (start-idle d q s e a) k)
+promise pol d q s cs rs m w e a k up =
+    calls-assured pol d q cs rs m w e up (subst (λ (x : Ticked). Calls pol d (x .machine) cs rs m) (start-idle pol d q s e a) k)
 
 -- no call of a list is above q: so is no tick of it
 unfoldable pub slowCalls : ℕ → List Call → Bool
@@ -73,17 +74,17 @@ pub up-next : (q : ℕ) (k : Tick) (h : List Tick) → k .tempo ≤ q → UpTo q
 up-next q k h p a zero r = p
 up-next q k h p a (suc x) r = a x (omega arith)
 
-pub slow-ticks : (q : ℕ) (d : Description) (cs : List Call) (m : Machine) → slowCalls q cs ≡ true → UpTo q (ticks d m cs)
+pub slow-ticks : (pol : Policy) (q : ℕ) (d : Description) (cs : List Call) (m : Machine) → slowCalls q cs ≡ true → UpTo q (ticks pol d m cs)
 unfolding ticks slowCalls observe
-slow-ticks q d [] m e = λ x p. absurd (omega arith)
-slow-ticks q d (c ∷ cs) m e =
-    go (isDone (plainCall d m c .outcome)) refl (slow-ticks q d cs m rest) (slow-ticks q d cs (plainCall d m c .machine) rest)
+slow-ticks pol q d [] m e = λ x p. absurd (omega arith)
+slow-ticks pol q d (c ∷ cs) m e =
+    go (isDone (plainCall pol d m c .outcome)) refl (slow-ticks pol q d cs m rest) (slow-ticks pol q d cs (plainCall pol d m c .machine) rest)
   where
     rest : slowCalls q cs ≡ true
     rest = and-right (leb (c .tempo) q) _ e
 
-    go : (b : Bool) → isDone (plainCall d m c .outcome) ≡ b → UpTo q (ticks d m cs) → UpTo q (ticks d (plainCall d m c .machine) cs) → UpTo q (ticks d m (c ∷ cs))
-    go true f a b = rw (f, ticks) (up-next q (observe d m c) (ticks d (plainCall d m c .machine) cs) (leb-true (c .tempo) q (and-left (leb (c .tempo) q) _ e)) b)
+    go : (b : Bool) → isDone (plainCall pol d m c .outcome) ≡ b → UpTo q (ticks pol d m cs) → UpTo q (ticks pol d (plainCall pol d m c .machine) cs) → UpTo q (ticks pol d m (c ∷ cs))
+    go true f a b = rw (f, ticks) (up-next q (observe pol d m c) (ticks pol d (plainCall pol d m c .machine) cs) (leb-true (c .tempo) q (and-left (leb (c .tempo) q) _ e)) b)
     go false f a b = rw (f, ticks) a
 
 -- a list by the numbers of its calls
@@ -107,5 +108,5 @@ one-slow q t h (c ∷ cs) e =
     both (leb (c .tempo) q) _ (le-leb (c .tempo) q (omega arith)) (one-slow q t h cs (and-right (eqb (c .tempo) t) _ e))
 
 pub demand3 : Demand3
-demand3 d q t s cs rs m w e high one a k =
-    promise d q s cs rs m w e a k (slow-ticks q d cs (idle d) (one-slow q t high cs one))
+demand3 pol d q t s cs rs m w e high one a k =
+    promise pol d q s cs rs m w e a k (slow-ticks pol q d cs (idle d) (one-slow q t high cs one))

@@ -10,6 +10,8 @@ use lib.ListN.{length, getD}
 use lib.Dec.{ltb, leb, eqb}
 use borrow.Author.Tests.{eqb-true, eq-eqb, ne-eqb, lt-ltb, le-ltb, le-leb, not-true, leb-true, leb-false, ltb-true, ltb-false}
 use Rattle.model.specs.declared.Description.{Description}
+use Rattle.model.specs.declared.Policy.{Policy}
+use Rattle.model.specs.declared.Policy.the-variants.{Preemptive, HoldOn}
 use Rattle.model.specs.declared.Machine.{Machine}
 use Rattle.model.specs.declared.Outcome.the-variants.{Done, Refused}
 use Rattle.model.specs.declared.Refusal.the-variants.{TooSoon, Stranger}
@@ -17,10 +19,10 @@ use Rattle.model.specs.Basics.{allN}
 use Rattle.model.specs.Graph.{system, linkAt, linked, runOf}
 use Rattle.model.specs.Delays.{spacingOf}
 use Rattle.model.specs.Verdicts.{onKnob, judgeAt}
-use Rattle.model.specs.Machine.{awakeAt, usedAt, waitingAt, droppedAt, ageAt, fastestAt, longestGap, idle, arrive, taskRule, linkRule, sourceRule, lawful, keptAfter, strangers, tooSoon, judgeTick}
+use Rattle.model.specs.Machine.{awakeAt, usedAt, waitingAt, droppedAt, ageAt, fastestAt, longestGap, idle, arrive, taskRule, linkRule, sourceRule, rulesKept, partsDone, aloneRule, lawful, keptAfter, strangers, tooSoon, judgeTick}
 use Rattle.model.specs.History.{Call, left}
-use Rattle.lemmas.proofs.Tests.{not-both, false-of, and-left, and-right, both, or-left, or-right, or-false, or-cases}
-use Rattle.lemmas.proofs.Range.{any-at, any-none, none-any, all-of}
+use Rattle.lemmas.proofs.Tests.{Cmp, less, same, more, cmp, not-both, false-of, and-left, and-right, both, or-left, or-right, or-false, or-cases}
+use Rattle.lemmas.proofs.Range.{any-at, any-none, none-any, all-of, at-most-one}
 use Rattle.lemmas.proofs.Table.{getD-tab, getD-same}
 use Rattle.theory.proofs.WellFormed.{WellFormed, Loaded, Shaped}
 use Rattle.theory.proofs.Fielded.{shaped}
@@ -30,10 +32,10 @@ use Rattle.theory.proofs.Spacing.{gap-anti, gap-some}
 use Rattle.assurance.proofs.Arriving.{Arrived, arrived}
 use Rattle.assurance.proofs.Stepping.{after-stays, after-fires, after-wakes}
 use Rattle.assurance.proofs.Replay.{stateAt, Passed, taken, Replayed, replayed}
-use Rattle.assurance.proofs.Machine.{Spaced, at, tempoAt, marksAt, highAt, endAt, at-sized, at-step, at-rests, at-below, marked-in, tempo-low}
+use Rattle.assurance.proofs.Machine.{Spaced, at, tempoAt, marksAt, highAt, endAt, at-sized, at-step, at-rests, alone, at-below, marked-in, tempo-low}
 use Rattle.assurance.proofs.Marks.{firesIn, endsIn, link-here, kind, waiting-next, waiting-first}
 
-module _ (d : Description) (wf : WellFormed d) (L : Loaded (system d)) (G : Shaped (system d)) where
+module _ (pol : Policy) (d : Description) (wf : WellFormed d) (L : Loaded (system d)) (G : Shaped (system d)) where
   gaps : Spaced d 3000 (spacingOf d 3000)
   gaps = record {
     low = omega arith;
@@ -47,12 +49,12 @@ module _ (d : Description) (wf : WellFormed d) (L : Loaded (system d)) (G : Shap
   no-link i k p =
       false-of (linked d i k) (λ e. let h : k ≤ d .«task_count» = G .to-task i k e .1 in omega arith)
 
-  module _ (ks : List Call) (passed : (x : ℕ) → x < length ks → Passed d (tempoAt d wf ks x) (at d wf ks x) (marksAt d wf ks x)) where
+  module _ (ks : List Call) (passed : (x : ℕ) → x < length ks → Passed d (tempoAt pol d wf ks x) (at pol d wf ks x) (marksAt pol d wf ks x)) where
     abbrev st : ℕ → Machine
-    st x = at d wf ks x
+    st x = at pol d wf ks x
 
-    arrivals : (x : ℕ) → Arrived d (marksAt d wf ks x) (d .«source_count») (st x) (arrive d (marksAt d wf ks x) (st x))
-    arrivals x = arrived d wf (marksAt d wf ks x) (st x) (at-sized d wf ks x)
+    arrivals : (x : ℕ) → Arrived d (marksAt pol d wf ks x) (d .«source_count») (st x) (arrive d (marksAt pol d wf ks x) (st x))
+    arrivals x = arrived d wf (marksAt pol d wf ks x) (st x) (at-sized pol d wf ks x)
 
     -- absent tasks sleep and have used nothing
     absent-asleep : (x k : ℕ) → 1 ≤ k → d .«task_count» < k → awakeAt (st x) k ≡ false
@@ -60,50 +62,50 @@ module _ (d : Description) (wf : WellFormed d) (L : Loaded (system d)) (G : Shap
     absent-asleep zero k o p = getD-same 32 (k - 1) false
     absent-asleep (suc x) k o p = next (absent-asleep x k o p)
       where
-        mid : awakeAt (st x) k ≡ false → awakeAt (arrive d (marksAt d wf ks x) (st x)) k ≡ false
+        mid : awakeAt (st x) k ≡ false → awakeAt (arrive d (marksAt pol d wf ks x) (st x)) k ≡ false
         mid e =
-            arrivals x .awake k o ∙ or-false (awakeAt (st x) k) _ e (any-none _ 33 (d .«source_count») (λ u a b. false-of _ (λ y. not-both (and-right (getD (marksAt d wf ks x) (u - 33) false) _ y) (no-link u k p))))
+            arrivals x .awake k o ∙ or-false (awakeAt (st x) k) _ e (any-none _ 33 (d .«source_count») (λ u a b. false-of _ (λ y. not-both (and-right (getD (marksAt pol d wf ks x) (u - 33) false) _ y) (no-link u k p))))
 
         next : awakeAt (st x) k ≡ false → awakeAt (st (suc x)) k ≡ false
         next e =
-            at-step d wf ks x .awake k o ∙ false-of _ (λ y. woken (after-wakes (awakeAt (arrive d (marksAt d wf ks x) (st x)) k) (endAt d wf ks x) (eqb k (highAt d wf ks x)) (linked d (highAt d wf ks x) k) y))
+            at-step pol d wf ks x .awake k o ∙ false-of _ (λ y. woken (after-wakes (awakeAt (arrive d (marksAt pol d wf ks x) (st x)) k) (endAt pol d wf ks x) (eqb k (highAt pol d wf ks x)) (linked d (highAt pol d wf ks x) k) y))
           where
-            woken : ((awakeAt (arrive d (marksAt d wf ks x) (st x)) k ≡ true) × (endAt d wf ks x ≡ true → eqb k (highAt d wf ks x) ≡ false)) ⊎ ((endAt d wf ks x ≡ true) × (linked d (highAt d wf ks x) k ≡ true)) → ⊥
+            woken : ((awakeAt (arrive d (marksAt pol d wf ks x) (st x)) k ≡ true) × (endAt pol d wf ks x ≡ true → eqb k (highAt pol d wf ks x) ≡ false)) ⊎ ((endAt pol d wf ks x ≡ true) × (linked d (highAt pol d wf ks x) k ≡ true)) → ⊥
             woken (inl w) = not-both (w .0) (mid e)
-            woken (inr w) = not-both (w .1) (no-link (highAt d wf ks x) k p)
+            woken (inr w) = not-both (w .1) (no-link (highAt pol d wf ks x) k p)
 
     -- a waiting link's task is awake
     waiting-awake : (l : ℕ) → l < d .«link_count» → (x : ℕ) → waitingAt (st x) l ≡ true → awakeAt (st x) (linkAt d l .to) ≡ true
-    waiting-awake l p zero e = absurd (not-both e (waiting-first d wf L ks l p))
+    waiting-awake l p zero e = absurd (not-both e (waiting-first pol d wf L ks l p))
     waiting-awake l p (suc x) e = go (waiting-awake l p x)
       where
         o : 1 ≤ linkAt d l .to
         o = wf .fields .link-to l p .0
 
-        on : ((waitingAt (st x) l || firesIn d wf L ks (linkAt d l .from) x) && not (endsIn d wf L ks (linkAt d l .to) x)) ≡ true
-        on = sym (waiting-next d wf L ks l p x) ∙ e
+        on : ((waitingAt (st x) l || firesIn pol d wf L ks (linkAt d l .from) x) && not (endsIn pol d wf L ks (linkAt d l .to) x)) ≡ true
+        on = sym (waiting-next pol d wf L ks l p x) ∙ e
 
-        off : (eqb (highAt d wf ks x) (linkAt d l .to) && endAt d wf ks x) ≡ false
-        off = not-true _ (and-right (waitingAt (st x) l || firesIn d wf L ks (linkAt d l .from) x) _ on)
+        off : (eqb (highAt pol d wf ks x) (linkAt d l .to) && endAt pol d wf ks x) ≡ false
+        off = not-true _ (and-right (waitingAt (st x) l || firesIn pol d wf L ks (linkAt d l .from) x) _ on)
 
-        stays : awakeAt (arrive d (marksAt d wf ks x) (st x)) (linkAt d l .to) ≡ true → awakeAt (st (suc x)) (linkAt d l .to) ≡ true
+        stays : awakeAt (arrive d (marksAt pol d wf ks x) (st x)) (linkAt d l .to) ≡ true → awakeAt (st (suc x)) (linkAt d l .to) ≡ true
         stays m =
-            at-step d wf ks x .awake (linkAt d l .to) o ∙ after-stays (awakeAt (arrive d (marksAt d wf ks x) (st x)) (linkAt d l .to)) (endAt d wf ks x) (eqb (linkAt d l .to) (highAt d wf ks x)) (linked d (highAt d wf ks x) (linkAt d l .to)) m (λ a b. not-both (both (eqb (highAt d wf ks x) (linkAt d l .to)) (endAt d wf ks x) (eq-eqb (highAt d wf ks x) (linkAt d l .to) (sym (eqb-true (linkAt d l .to) (highAt d wf ks x) b))) a) off)
+            at-step pol d wf ks x .awake (linkAt d l .to) o ∙ after-stays (awakeAt (arrive d (marksAt pol d wf ks x) (st x)) (linkAt d l .to)) (endAt pol d wf ks x) (eqb (linkAt d l .to) (highAt pol d wf ks x)) (linked d (highAt pol d wf ks x) (linkAt d l .to)) m (λ a b. not-both (both (eqb (highAt pol d wf ks x) (linkAt d l .to)) (endAt pol d wf ks x) (eq-eqb (highAt pol d wf ks x) (linkAt d l .to) (sym (eqb-true (linkAt d l .to) (highAt pol d wf ks x) b))) a) off)
 
-        fresh : (linkAt d l .from ≤ 32) ⊎ ((33 ≤ linkAt d l .from) × (linkAt d l .from < 33 + d .«source_count»)) → firesIn d wf L ks (linkAt d l .from) x ≡ true → awakeAt (st (suc x)) (linkAt d l .to) ≡ true
+        fresh : (linkAt d l .from ≤ 32) ⊎ ((33 ≤ linkAt d l .from) × (linkAt d l .from < 33 + d .«source_count»)) → firesIn pol d wf L ks (linkAt d l .from) x ≡ true → awakeAt (st (suc x)) (linkAt d l .to) ≡ true
         fresh (inl q) f =
-            let g : (eqb (highAt d wf ks x) (linkAt d l .from) && endAt d wf ks x) ≡ true = rw (lt-ltb (linkAt d l .from) 33 (omega arith)) at f in
-            let h : highAt d wf ks x ≡ linkAt d l .from = eqb-true (highAt d wf ks x) (linkAt d l .from) (and-left (eqb (highAt d wf ks x) (linkAt d l .from)) _ g) in
-            at-step d wf ks x .awake (linkAt d l .to) o ∙ after-fires (awakeAt (arrive d (marksAt d wf ks x) (st x)) (linkAt d l .to)) (endAt d wf ks x) (eqb (linkAt d l .to) (highAt d wf ks x)) (linked d (highAt d wf ks x) (linkAt d l .to)) (and-right (eqb (highAt d wf ks x) (linkAt d l .from)) _ g) (ap (λ (k : ℕ). linked d k (linkAt d l .to)) h ∙ link-here d wf L ks l p)
+            let g : (eqb (highAt pol d wf ks x) (linkAt d l .from) && endAt pol d wf ks x) ≡ true = rw (lt-ltb (linkAt d l .from) 33 (omega arith)) at f in
+            let h : highAt pol d wf ks x ≡ linkAt d l .from = eqb-true (highAt pol d wf ks x) (linkAt d l .from) (and-left (eqb (highAt pol d wf ks x) (linkAt d l .from)) _ g) in
+            at-step pol d wf ks x .awake (linkAt d l .to) o ∙ after-fires (awakeAt (arrive d (marksAt pol d wf ks x) (st x)) (linkAt d l .to)) (endAt pol d wf ks x) (eqb (linkAt d l .to) (highAt pol d wf ks x)) (linked d (highAt pol d wf ks x) (linkAt d l .to)) (and-right (eqb (highAt pol d wf ks x) (linkAt d l .from)) _ g) (ap (λ (k : ℕ). linked d k (linkAt d l .to)) h ∙ link-here pol d wf L ks l p)
         fresh (inr q) f =
-            let g : getD (marksAt d wf ks x) (linkAt d l .from - 33) false ≡ true = rw (le-ltb (linkAt d l .from) 33 (q .0)) at f in
-            stays (arrivals x .awake (linkAt d l .to) o ∙ or-right (awakeAt (st x) (linkAt d l .to)) _ (any-at _ 33 (d .«source_count») (linkAt d l .from) (q .0) (q .1) (both (getD (marksAt d wf ks x) (linkAt d l .from - 33) false) _ g (link-here d wf L ks l p))))
+            let g : getD (marksAt pol d wf ks x) (linkAt d l .from - 33) false ≡ true = rw (le-ltb (linkAt d l .from) 33 (q .0)) at f in
+            stays (arrivals x .awake (linkAt d l .to) o ∙ or-right (awakeAt (st x) (linkAt d l .to)) _ (any-at _ 33 (d .«source_count») (linkAt d l .from) (q .0) (q .1) (both (getD (marksAt pol d wf ks x) (linkAt d l .from - 33) false) _ g (link-here pol d wf L ks l p))))
 
         go : (waitingAt (st x) l ≡ true → awakeAt (st x) (linkAt d l .to) ≡ true) → awakeAt (st (suc x)) (linkAt d l .to) ≡ true
         go ih =
-            or-cases (waitingAt (st x) l) (firesIn d wf L ks (linkAt d l .from) x) (and-left _ _ on)
+            or-cases (waitingAt (st x) l) (firesIn pol d wf L ks (linkAt d l .from) x) (and-left _ _ on)
             (λ w. stays (arrivals x .awake (linkAt d l .to) o ∙ or-left (awakeAt (st x) (linkAt d l .to)) _ (ih w)))
-            (fresh (kind d wf L ks l p))
+            (fresh (kind pol d wf L ks l p))
 
     -- nothing is set for absent links
     absent-clear : (l : ℕ) → d .«link_count» ≤ l → (x : ℕ) → (waitingAt (st x) l ≡ false) × (droppedAt (st x) l ≡ false)
@@ -111,7 +113,7 @@ module _ (d : Description) (wf : WellFormed d) (L : Loaded (system d)) (G : Shap
     absent-clear l p zero = (getD-same 256 l false, getD-same 256 l false)
     absent-clear l p (suc x) =
         let ih = absent-clear l p x in
-        (at-step d wf ks x .past l p .0 ∙ ih .0, at-step d wf ks x .past l p .1 ∙ ih .1)
+        (at-step pol d wf ks x .past l p .0 ∙ ih .0, at-step pol d wf ks x .past l p .1 ∙ ih .1)
 
     -- ages do not exceed spacings for 20.0, and are 0 for absent sources
     age-first : (u : ℕ) → u < 16 → ageAt (st 0) u ≡ cond (ltb u (d .«source_count»)) (longestGap d u) 0
@@ -122,18 +124,18 @@ module _ (d : Description) (wf : WellFormed d) (L : Loaded (system d)) (G : Shap
     age-low u p zero =
         let e : ageAt (st 0) u ≡ longestGap d u = age-first u (omega (arith, wf .fields .few-sources)) ∙ rw (lt-ltb u (d .«source_count») p) refl in
         omega arith
-    age-low u p (suc x) = rw (at-step d wf ks x .age u p) (omega arith)
+    age-low u p (suc x) = rw (at-step pol d wf ks x .age u p) (omega arith)
 
     age-none : (u : ℕ) → u < 16 → d .«source_count» ≤ u → (x : ℕ) → ageAt (st x) u ≡ 0
     age-none u q p zero = age-first u q ∙ rw (le-ltb u (d .«source_count») p) refl
-    age-none u q p (suc x) = at-step d wf ks x .age-past u p ∙ age-none u q p x
+    age-none u q p (suc x) = at-step pol d wf ks x .age-past u p ∙ age-none u q p x
 
     -- a source keeps a tempo of the knob, or none and the age of the start; an absent one keeps none
-    on-knob : (x : ℕ) → x < length ks → (200 ≤ tempoAt d wf ks x) × (tempoAt d wf ks x ≤ 3000)
-    on-knob x h = let k = knob-known d (tempoAt d wf ks x) (passed x h .judged) in (k .1, k .2)
+    on-knob : (x : ℕ) → x < length ks → (200 ≤ tempoAt pol d wf ks x) × (tempoAt pol d wf ks x ≤ 3000)
+    on-knob x h = let k = knob-known d (tempoAt pol d wf ks x) (passed x h .judged) in (k .1, k .2)
 
-    tempo-most : (x : ℕ) → tempoAt d wf ks x ≤ 3000
-    tempo-most = tempo-low d wf ks 3000 (spacingOf d 3000) gaps passed (λ y h. on-knob y h .1)
+    tempo-most : (x : ℕ) → tempoAt pol d wf ks x ≤ 3000
+    tempo-most = tempo-low pol d wf ks 3000 (spacingOf d 3000) gaps passed (λ y h. on-knob y h .1)
 
     abbrev Keeps : ℕ → ℕ → Type 0
     Keeps u x = ((fastestAt (st x) u ≡ 0) × (ageAt (st x) u ≡ longestGap d u)) ⊎ ((200 ≤ fastestAt (st x) u) × (fastestAt (st x) u ≤ 3000))
@@ -145,16 +147,16 @@ module _ (d : Description) (wf : WellFormed d) (L : Loaded (system d)) (G : Shap
     kept : (u : ℕ) → u < d .«source_count» → (x : ℕ) → Keeps u x
     kept u p zero =
         inl (kept-first u, age-first u (omega (arith, wf .fields .few-sources)) ∙ rw (lt-ltb u (d .«source_count») p) refl)
-    kept u p (suc x) = go (getD (marksAt d wf ks x) u false) refl (kept u p x)
+    kept u p (suc x) = go (getD (marksAt pol d wf ks x) u false) refl (kept u p x)
       where
-        next : fastestAt (st (suc x)) u ≡ keptAfter (tempoAt d wf ks x) (getD (marksAt d wf ks x) u false) (fastestAt (st x) u)
-        next = at-step d wf ks x .fastest u (omega (arith, wf .fields .few-sources))
+        next : fastestAt (st (suc x)) u ≡ keptAfter (tempoAt pol d wf ks x) (getD (marksAt pol d wf ks x) u false) (fastestAt (st x) u)
+        next = at-step pol d wf ks x .fastest u (omega (arith, wf .fields .few-sources))
 
-        older : ageAt (st (suc x)) u ≡ min (longestGap d u) (cond (getD (marksAt d wf ks x) u false) 0 (ageAt (st x) u) + 1)
-        older = at-step d wf ks x .age u p
+        older : ageAt (st (suc x)) u ≡ min (longestGap d u) (cond (getD (marksAt pol d wf ks x) u false) 0 (ageAt (st x) u) + 1)
+        older = at-step pol d wf ks x .age u p
 
-        go : (b : Bool) → getD (marksAt d wf ks x) u false ≡ b → Keeps u x → Keeps u (suc x)
-        go true e k = let h = on-knob x (marked-in d wf ks x u e) in inr (rw (next, e) (h .0), rw (next, e) (h .1))
+        go : (b : Bool) → getD (marksAt pol d wf ks x) u false ≡ b → Keeps u x → Keeps u (suc x)
+        go true e k = let h = on-knob x (marked-in pol d wf ks x u e) in inr (rw (next, e) (h .0), rw (next, e) (h .1))
         go false e (inl w) = inl (rw (next, e, w .0) refl, rw (older, e, w .1) (omega arith))
         go false e (inr w) =
             let f : eqb (fastestAt (st x) u) 0 ≡ false = ne-eqb (fastestAt (st x) u) 0 (λ z. omega (arith, w .0)) in
@@ -164,29 +166,29 @@ module _ (d : Description) (wf : WellFormed d) (L : Loaded (system d)) (G : Shap
     unfolding strangers
     kept-none u q p zero = kept-first u
     kept-none u q p (suc x) =
-        at-step d wf ks x .fastest u q ∙ rw (absent, kept-none u q p x) refl
+        at-step pol d wf ks x .fastest u q ∙ rw (absent, kept-none u q p x) refl
       where
-        absent : getD (marksAt d wf ks x) u false ≡ false
+        absent : getD (marksAt pol d wf ks x) u false ≡ false
         absent = false-of _ (λ e.
-            not-both (both (getD (marksAt d wf ks x) u false) _ e (le-leb (d .«source_count») u p))
-            (none-any _ 0 16 (passed x (marked-in d wf ks x u e) .known) u (omega arith) (omega arith)))
+            not-both (both (getD (marksAt pol d wf ks x) u false) _ e (le-leb (d .«source_count») u p))
+            (none-any _ 0 16 (passed x (marked-in pol d wf ks x u e) .known) u (omega arith) (omega arith)))
 
     -- the rules, one by one
     task-kept : (x k : ℕ) → 1 ≤ k → taskRule d (st x) k ≡ true
     task-kept x k o = go (leb k (d .«task_count»)) refl
       where
         here : k ≤ d .«task_count» → (ltb (usedAt (st x) k) (runOf d k) && (awakeAt (st x) k || eqb (usedAt (st x) k) 0)) ≡ true
-        here p = both (ltb (usedAt (st x) k) (runOf d k)) _ (lt-ltb (usedAt (st x) k) (runOf d k) (at-below d wf ks 3000 (spacingOf d 3000) gaps passed (λ y h. on-knob y h .1) G x k o p)) (by (awakeAt (st x) k) refl)
+        here p = both (ltb (usedAt (st x) k) (runOf d k)) _ (lt-ltb (usedAt (st x) k) (runOf d k) (at-below pol d wf ks 3000 (spacingOf d 3000) gaps passed (λ y h. on-knob y h .1) G x k o p)) (by (awakeAt (st x) k) refl)
           where
             by : (b : Bool) → awakeAt (st x) k ≡ b → (awakeAt (st x) k || eqb (usedAt (st x) k) 0) ≡ true
             by true e = or-left (awakeAt (st x) k) _ e
             by false e =
-                or-right (awakeAt (st x) k) _ (eq-eqb (usedAt (st x) k) 0 (at-rests d wf ks x k o e))
+                or-right (awakeAt (st x) k) _ (eq-eqb (usedAt (st x) k) 0 (at-rests pol d wf ks x k o e))
 
         absent : d .«task_count» < k → (not (awakeAt (st x) k) && eqb (usedAt (st x) k) 0) ≡ true
         absent p =
             let e : awakeAt (st x) k ≡ false = absent-asleep x k o p in
-            both (not (awakeAt (st x) k)) _ (rw e refl) (eq-eqb (usedAt (st x) k) 0 (at-rests d wf ks x k o e))
+            both (not (awakeAt (st x) k)) _ (rw e refl) (eq-eqb (usedAt (st x) k) 0 (at-rests pol d wf ks x k o e))
 
         go : (b : Bool) → leb k (d .«task_count») ≡ b → taskRule d (st x) k ≡ true
         go true e = rw e (here (leb-true k (d .«task_count») e))
@@ -221,25 +223,53 @@ module _ (d : Description) (wf : WellFormed d) (L : Loaded (system d)) (G : Shap
             let p : d .«source_count» ≤ u = ltb-false u (d .«source_count») e in
             rw e (both (eqb (ageAt (st x) u) 0) _ (eq-eqb (ageAt (st x) u) 0 (age-none u q p x)) (eq-eqb (fastestAt (st x) u) 0 (kept-none u q p x)))
 
-    pub lawful-at : (x : ℕ) → lawful d (st x) ≡ true
-    unfolding lawful
-    lawful-at x =
+    kept-at : (x : ℕ) → rulesKept d (st x) ≡ true
+    unfolding rulesKept
+    kept-at x =
         both (allN (taskRule d (st x)) 1 32) _ (all-of _ 1 32 (λ k a b. task-kept x k a))
         (both (allN (linkRule d (st x)) 0 256) _ (all-of _ 0 256 (λ l a b. link-kept x l)) (all-of _ 0 16 (λ u a b. source-kept x u b)))
 
+    -- on the hold-on model at most one task is part done
+    part-here : (x k : ℕ) → 1 ≤ k → ltb 0 (usedAt (st x) k) ≡ true → (k ≤ d .«task_count») × (0 < usedAt (st x) k)
+    part-here x k o e = (here (cmp k (suc (d .«task_count»))), ltb-true 0 (usedAt (st x) k) e)
+      where
+        past : d .«task_count» < k → ⊥
+        past p = omega (arith, ltb-true 0 (usedAt (st x) k) e, at-rests pol d wf ks x k o (absent-asleep x k o p))
+
+        here : Cmp k (suc (d .«task_count»)) → k ≤ d .«task_count»
+        here (less p) = omega arith
+        here (same p) = absurd (past (omega arith))
+        here (more p) = absurd (past (omega arith))
+
+    parts-most : pol ≡ HoldOn → (x : ℕ) → partsDone (st x) ≤ 1
+    unfolding partsDone
+    parts-most e x = at-most-one (λ k. ltb 0 (usedAt (st x) k)) 1 32 (λ k k′ o p o′ p′ f f′.
+        alone pol d wf ks e x k k′ o (part-here x k o f .0) o′ (part-here x k′ o′ f′ .0) (part-here x k o f .1) (part-here x k′ o′ f′ .1))
+
+    alone-at : (x : ℕ) → aloneRule pol (st x) ≡ true
+    alone-at x = by pol refl
+      where
+        by : (o : Policy) → pol ≡ o → aloneRule pol (st x) ≡ true
+        by Preemptive e = rw e refl
+        by HoldOn e = ap (λ (o : Policy). aloneRule o (st x)) e ∙ le-leb (partsDone (st x)) 1 (parts-most e x)
+
+    pub lawful-at : (x : ℕ) → lawful pol d (st x) ≡ true
+    unfolding lawful
+    lawful-at x = both (rulesKept d (st x)) _ (kept-at x) (alone-at x)
+
   -- after every list of calls from the start
-  pub left-lawful : (cs : List Call) → lawful d (left d (idle d) cs) ≡ true
+  pub left-lawful : (cs : List Call) → lawful pol d (left pol d (idle d) cs) ≡ true
   left-lawful cs =
-      let R : Replayed d (idle d) cs (taken d (idle d) cs) = replayed d cs (idle d) in
-      ap (lawful d) (R .ends-at) ∙ lawful-at (taken d (idle d) cs) (R .passed) (length (taken d (idle d) cs))
+      let R : Replayed pol d (idle d) cs (taken pol d (idle d) cs) = replayed pol d cs (idle d) in
+      ap (lawful pol d) (R .ends-at) ∙ lawful-at (taken pol d (idle d) cs) (R .passed) (length (taken pol d (idle d) cs))
 
   -- the next call is refused as a stranger's or as too soon, or else it is a tick
-  pub left-judged : (t : ℕ) → judgeAt d t ≡ Done → (cs : List Call) (marks : List Bool) → judgeTick d t (left d (idle d) cs) marks ≡ cond (strangers d marks) (Refused Stranger 0) (cond (tooSoon d t marks (left d (idle d) cs)) (Refused TooSoon 0) Done)
+  pub left-judged : (t : ℕ) → judgeAt d t ≡ Done → (cs : List Call) (marks : List Bool) → judgeTick pol d t (left pol d (idle d) cs) marks ≡ cond (strangers d marks) (Refused Stranger 0) (cond (tooSoon d t marks (left pol d (idle d) cs)) (Refused TooSoon 0) Done)
   unfolding judgeTick
   left-judged t e cs marks = rw (e, left-lawful cs) refl
 
 -- the same of every accepted description
-pub rules-kept : (d : Description) → WellFormed d → (cs : List Call) → lawful d (left d (idle d) cs) ≡ true
-rules-kept d g cs =
+pub rules-kept : (pol : Policy) (d : Description) → WellFormed d → (cs : List Call) → lawful pol d (left pol d (idle d) cs) ≡ true
+rules-kept pol d g cs =
     let s : Shaped (system d) = shaped d g in
-    left-lawful d g (loaded (system d) s (g .no-cycle)) s cs
+    left-lawful pol d g (loaded (system d) s (g .no-cycle)) s cs

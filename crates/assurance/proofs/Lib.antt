@@ -15,6 +15,7 @@ pub mod Holding
 pub mod Firing
 pub mod Arriving
 pub mod Ending
+pub mod Choosing
 pub mod Stepping
 pub mod Replay
 pub mod Machine

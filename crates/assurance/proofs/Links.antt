@@ -1,5 +1,5 @@
 -- The two kinds of link in History's words: not dropped, and no wait above the bound. Assumes nothing.
-use Prim.Native.Nat.{ℕ, _+_, _-_, _≤_, _<_}
+use Prim.Native.Nat.{ℕ, suc, _+_, _-_, _≤_, _<_}
 use mathlib.Core.Path.{_≡_, sym, ap, _∙_}
 use mathlib.Core.Bool.{Bool, true, false, cond}
 use mathlib.Core.List.{List}
@@ -7,15 +7,20 @@ use mathlib.Core.Logic.{_⊎_, inl, inr}
 use native.Mathlib.Omega.{arith}
 use lib.ListN.{length, getD}
 use borrow.Author.Tests.{lt-ltb}
+use Rattle.model.specs.declared.Policy.{Policy}
+use Rattle.model.specs.declared.Policy.the-variants.{Preemptive, HoldOn}
 use Rattle.model.specs.Graph.{System}
-use Rattle.model.specs.Delays.{roundOf}
+use Rattle.model.specs.Loads.{load}
+use Rattle.model.specs.Delays.{startOf, roundOf, tailOf}
 use Rattle.model.specs.Order.{InOrder}
 use Rattle.model.specs.History.{Tick, fires, ends, tickAt, Dropped, waitOf}
+use Rattle.lemmas.proofs.Range.{All, le-topTo}
 use Rattle.theory.proofs.WellFormed.{Loaded, Shaped, IsTask}
-use Rattle.assurance.proofs.Schedule.{Schedule, endsAt, Preempts}
+use Rattle.assurance.proofs.Schedule.{Schedule, endsAt, Obeys}
 use Rattle.assurance.proofs.Events.{Waits, waits-fresh, Takes, SourceWaits, TaskWaits, task-live}
 use Rattle.assurance.proofs.Response.{kept-apart, delay-some, wait-bound}
 use Rattle.assurance.proofs.Token.{Link, Quiet, token-kept, preempts-quiet}
+use Rattle.assurance.proofs.Holding.{served-within, holds-quiet}
 use Rattle.assurance.proofs.Serving.{Shows, unserved-waits, wait-le}
 
 -- the event before the one that finds it unserved waits in the schedule
@@ -37,15 +42,26 @@ module _ {s : System} (L : Loaded s) (G : Shaped s) {gap : ℕ → ℕ} (S : Sch
       bound-waits o x r e =
           wait-le h S T W j {ev = λ z. S .arr z i} x r (sym (W .arrives-is i x isSource r) ∙ e) B o (λ y w. most y x w)
 
-    -- on a preemptive machine a settled delay is such a bound
-    module _ (P : Preempts S) (D : ℕ) (fixed : roundOf s gap j D ≡ D) where
-      pub source-not-dropped : D < gap i → Dropped h i j → ⊥
-      source-not-dropped q =
-          bound-not-dropped D (wait-bound L G S T spaced i j isSource isSource′ linked D fixed P) (omega arith)
+    -- a settled delay is such a bound, on a machine of its policy
+    module _ (pol : Policy) (P : Obeys S pol) (D : ℕ) (fixed : roundOf pol s gap j D ≡ D) where
+      settled-bound : (pol : Policy) → Obeys S pol → roundOf pol s gap j D ≡ D → (1 ≤ D + tailOf pol s j) × ((y x : ℕ) → SourceWaits G S T i j linked y x → y < x + (D + tailOf pol s j))
+      unfolding roundOf startOf
+      settled-bound Preemptive P fixed =
+          (omega (arith, delay-some L G S T spaced i j isSource isSource′ linked D fixed),
+           λ y x w. omega (arith, wait-bound L G S T spaced i j isSource isSource′ linked D fixed P y x w))
+      settled-bound HoldOn O fixed =
+          let t = G .to-task i j linked in
+          let most : All (λ k. s .run k + load s k (suc j) ≤ startOf HoldOn s j) 1 j = λ k p q. le-topTo (λ k. s .run k + load s k (suc j)) 1 j k p q in
+          (omega (arith, G .runs j (t .0) (t .1)),
+           λ y x w. omega (arith, served-within L G S O j (t .0) (t .1) (startOf HoldOn s j) most T spaced i isSource isSource′ linked D fixed y x w, G .runs j (t .0) (t .1)))
 
-      pub source-waits : (x : ℕ) → x < length h → fires (tickAt h x) i ≡ true → waitOf h j x ≤ D
+      pub source-not-dropped : D + tailOf pol s j < gap i → Dropped h i j → ⊥
+      source-not-dropped q =
+          bound-not-dropped (D + tailOf pol s j) (settled-bound pol P fixed .1) (omega arith)
+
+      pub source-waits : (x : ℕ) → x < length h → fires (tickAt h x) i ≡ true → waitOf h j x ≤ D + tailOf pol s j
       source-waits =
-          bound-waits D (wait-bound L G S T spaced i j isSource isSource′ linked D fixed P) (delay-some L G S T spaced i j isSource isSource′ linked D fixed)
+          bound-waits (D + tailOf pol s j) (settled-bound pol P fixed .1) (settled-bound pol P fixed .0)
 
   -- a link from a task that is in order, where the frontier is quiet
   module _ (own : IsTask s i) (o : InOrder s i j) where
@@ -65,7 +81,9 @@ module _ {s : System} (L : Loaded s) (G : Shaped s) {gap : ℕ → ℕ} (S : Sch
         fires-is x r =
             ap (λ (b : Bool). cond b (ends (tickAt h x) i) (getD (tickAt h x .arrived) (i - 33) false)) (lt-ltb i 33 (omega (arith, own .1, G .few))) ∙ W .ends-is i x r
 
-    -- on a preemptive machine it is
-    pub task-not-dropped : Preempts S → Dropped h i j → ⊥
-    task-not-dropped P =
+    -- it is, on a machine of either policy
+    pub task-not-dropped : (pol : Policy) → Obeys S pol → Dropped h i j → ⊥
+    task-not-dropped Preemptive P =
         quiet-not-dropped (preempts-quiet G S i (o .F) (o .N) (o .hood) (TaskWaits G S T i j linked) P j (G .to-task i j linked .1) (o .below) (task-live G S T i j linked))
+    task-not-dropped HoldOn O =
+        quiet-not-dropped (holds-quiet L G S O i (o .F) (o .N) (o .hood) (TaskWaits G S T i j linked) link j (G .to-task i j linked .1) (o .below) (task-live G S T i j linked))

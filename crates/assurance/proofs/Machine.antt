@@ -1,4 +1,4 @@
--- The accepted ticks of the plain machine are a schedule, and a preemptive one. Assumes nothing.
+-- The accepted ticks of the plain machine are a schedule, and one that obeys its policy. Assumes nothing.
 use Prim.Native.Nat.{ℕ, zero, suc, _+_, _-_, _≤_, _<_, min, max}
 use mathlib.Core.Path.{_≡_, refl, sym, ap, _∙_}
 use mathlib.Core.Bool.{Bool, true, false, _||_, _&&_, not, cond}
@@ -9,23 +9,26 @@ use lib.ListN.{length, getD, length-replicate, List·getD-eq-default}
 use lib.Dec.{ltb, eqb, leb}
 use borrow.Author.Tests.{eqb-true, eqb-false, eq-eqb, ne-eqb, lt-ltb, ltb-false, le-leb, not-true}
 use Rattle.model.specs.declared.Description.{Description}
+use Rattle.model.specs.declared.Policy.{Policy}
+use Rattle.model.specs.declared.Policy.the-variants.{Preemptive, HoldOn}
 use Rattle.model.specs.declared.Machine.{Machine}
 use Rattle.model.specs.Basics.{anyN}
 use Rattle.model.specs.Graph.{system, runOf, linkAt, linked}
 use Rattle.model.specs.Delays.{spacingOf}
-use Rattle.model.specs.Machine.{awakeAt, usedAt, ageAt, fastestAt, idle, arrive, highest, tooSoon}
+use Rattle.model.specs.Machine.{awakeAt, usedAt, ageAt, fastestAt, idle, arrive, running, choose, tooSoon}
 use Rattle.model.specs.History.{Call}
-use Rattle.lemmas.proofs.Tests.{Cmp, less, same, more, cmp, not-both, false-of, and-left, and-right, and-false-left, or-left, or-right, or-false-left, or-cases, both}
+use Rattle.lemmas.proofs.Tests.{Cmp, less, same, more, cmp, not-both, false-of, true-of, and-left, and-right, and-false-left, or-left, or-right, or-false-left, or-cases, both}
 use Rattle.lemmas.proofs.Range.{Found, any-at, any-found, none-any}
 use Rattle.lemmas.proofs.Table.{length-tab, getD-same}
 use Rattle.theory.proofs.WellFormed.{WellFormed, Shaped}
 use Rattle.theory.proofs.FileLaws.{knob-known}
 use Rattle.assurance.proofs.Firing.{Sized}
 use Rattle.assurance.proofs.Arriving.{arrived}
-use Rattle.assurance.proofs.Ending.{highest-le, highest-above, highest-awake}
+use Rattle.assurance.proofs.Ending.{highest-above, highest-awake}
+use Rattle.assurance.proofs.Choosing.{Anew, Kept, chosen, chosen-le, running-le, running-part, part-running, running-used}
 use Rattle.assurance.proofs.Stepping.{after-stays, after-wakes, after-fires, after-on, overAt, Stepped, step}
 use Rattle.assurance.proofs.Potential.{live}
-use Rattle.assurance.proofs.Schedule.{Left, Schedule, beginsAt, endsAt, Preempts, below}
+use Rattle.assurance.proofs.Schedule.{Left, Schedule, beginsAt, endsAt, Preempts, HoldsOn, Obeys, below}
 use Rattle.assurance.proofs.Replay.{quietCall, callAt, stateAt, Passed}
 
 -- a run pends where its task is awake and has used nothing; an awake task is live
@@ -56,10 +59,10 @@ pub record Spaced (d : Description) (q : ℕ) (gap : ℕ → ℕ) : Type 0 where
   pub some : (u : ℕ) → 33 ≤ u → u < 33 + d .«source_count» → 1 ≤ gap u
   pub most : (u t : ℕ) → 33 ≤ u → u < 33 + d .«source_count» → 200 ≤ t → t ≤ q → gap u ≤ spacingOf d t u
 
-module _ (d : Description) (wf : WellFormed d) (ks : List Call) where
+module _ (pol : Policy) (d : Description) (wf : WellFormed d) (ks : List Call) where
   -- the record before tick x, its tempo, its marks of arrival, the task that runs in it and whether its run ends
   abbrev pub at : ℕ → Machine
-  at x = stateAt d (idle d) ks x
+  at x = stateAt pol d (idle d) ks x
 
   abbrev pub tempoAt : ℕ → ℕ
   tempoAt x = callAt ks x .tempo
@@ -68,7 +71,7 @@ module _ (d : Description) (wf : WellFormed d) (ks : List Call) where
   marksAt x = callAt ks x .arrivals .marks
 
   abbrev pub highAt : ℕ → ℕ
-  highAt x = highest d (arrive d (marksAt x) (at x))
+  highAt x = choose pol d (arrive d (marksAt x) (at x))
 
   abbrev pub endAt : ℕ → Bool
   endAt x = overAt d (highAt x) (callAt ks x .finish) (at x)
@@ -76,14 +79,14 @@ module _ (d : Description) (wf : WellFormed d) (ks : List Call) where
   pub at-sized : (x : ℕ) → Sized (at x)
   unfolding stateAt
   at-sized zero = idle-sized d
-  at-sized (suc x) = step d wf (tempoAt x) (marksAt x) (callAt ks x .finish) (at x) (at-sized x) .sized
+  at-sized (suc x) = step d wf pol (tempoAt x) (marksAt x) (callAt ks x .finish) (at x) (at-sized x) .sized
 
   pub at-step : (x : ℕ) → Stepped d wf (tempoAt x) (marksAt x) (highAt x) (endAt x) (at x) (at (suc x))
   unfolding stateAt
-  at-step x = step d wf (tempoAt x) (marksAt x) (callAt ks x .finish) (at x) (at-sized x)
+  at-step x = step d wf pol (tempoAt x) (marksAt x) (callAt ks x .finish) (at x) (at-sized x)
 
   pub high-low : (x : ℕ) → highAt x ≤ d .«task_count»
-  high-low x = highest-le (arrive d (marksAt x) (at x) .awake) (d .«task_count»)
+  high-low x = chosen-le pol d (arrive d (marksAt x) (at x))
 
   -- the record once the sources have fired
   abbrev pub midAt : ℕ → Machine
@@ -98,8 +101,27 @@ module _ (d : Description) (wf : WellFormed d) (ks : List Call) where
   mid-off : (x k : ℕ) → 1 ≤ k → awakeAt (midAt x) k ≡ false → awakeAt (at x) k ≡ false
   mid-off x k o e = or-false-left (awakeAt (at x) k) _ (sym (mid-is x k o) ∙ e)
 
-  high-awake : (x : ℕ) → 0 < highAt x → awakeAt (midAt x) (highAt x) ≡ true
-  high-awake x p = highest-awake (midAt x .awake) (d .«task_count») p
+  -- arrivals leave what is used as it was
+  mid-used : (x k : ℕ) → usedAt (midAt x) k ≡ usedAt (at x) k
+  mid-used x k = ap (λ (us : List ℕ). getD us (k - 1) 0) (arrived d wf (marksAt x) (at x) (at-sized x) .used)
+
+  -- who goes on is part done
+  goes-on : (x : ℕ) → 0 < running pol d (midAt x) → 0 < usedAt (at x) (running pol d (midAt x))
+  goes-on x p = rw (mid-used x (running pol d (midAt x))) at (running-part d (wf .fields .few-tasks) (midAt x) pol p)
+
+  -- who sleeps has used nothing: so the task that runs is awake
+  abbrev Rests : ℕ → Type 0
+  Rests x = (k : ℕ) → 1 ≤ k → awakeAt (at x) k ≡ false → usedAt (at x) k ≡ 0
+
+  high-awake : (x : ℕ) → Rests x → 0 < highAt x → awakeAt (midAt x) (highAt x) ≡ true
+  high-awake x rests p = go (chosen pol d (midAt x))
+    where
+      go : Anew pol d (midAt x) ⊎ Kept pol d (midAt x) → awakeAt (midAt x) (highAt x) ≡ true
+      go (inl c) = rw (c .is) (highest-awake (midAt x .awake) (d .«task_count») (rw (c .is) at p))
+      go (inr c) =
+          let r : ℕ = running pol d (midAt x) in
+          let on : awakeAt (at x) r ≡ true = true-of (awakeAt (at x) r) (λ e. omega (arith, goes-on x (c .some), rests r (c .some) e)) in
+          rw (c .is) (mid-keeps x r (c .some) on)
 
   used-else : (x k : ℕ) → 1 ≤ k → (k ≡ highAt x → ⊥) → usedAt (at (suc x)) k ≡ usedAt (at x) k
   used-else x k o ne = at-step x .used k o ∙ rw (ne-eqb k (highAt x) ne)
@@ -112,27 +134,46 @@ module _ (d : Description) (wf : WellFormed d) (ks : List Call) where
   pub at-rests : (x k : ℕ) → 1 ≤ k → awakeAt (at x) k ≡ false → usedAt (at x) k ≡ 0
   unfolding stateAt idle
   at-rests zero k o e = getD-same 32 (k - 1) 0
-  at-rests (suc x) k o e = go (eqb k (highAt x)) refl (endAt x) refl (at-rests x k o)
+  at-rests (suc x) k o e = go (eqb k (highAt x)) refl (endAt x) refl (at-rests x)
     where
-      go : (b : Bool) → eqb k (highAt x) ≡ b → (c : Bool) → endAt x ≡ c → (awakeAt (at x) k ≡ false → usedAt (at x) k ≡ 0) → usedAt (at (suc x)) k ≡ 0
+      go : (b : Bool) → eqb k (highAt x) ≡ b → (c : Bool) → endAt x ≡ c → Rests x → usedAt (at (suc x)) k ≡ 0
       go true p true q ih = at-step x .used k o ∙ rw (p, q) refl
       go true p false q ih =
           let y : k ≡ highAt x = eqb-true k (highAt x) p in
-          let m : awakeAt (midAt x) k ≡ true = rw y (high-awake x (omega arith)) in
+          let m : awakeAt (midAt x) k ≡ true = rw y (high-awake x ih (omega arith)) in
           absurd (not-both (at-step x .awake k o ∙ (after-on (awakeAt (midAt x) k) (endAt x) (eqb k (highAt x)) (linked d (highAt x) k) q ∙ m)) e)
       go false p c q ih =
           let ne : k ≡ highAt x → ⊥ = eqb-false k (highAt x) p in
           let off : awakeAt (at x) k ≡ false = false-of (awakeAt (at x) k) (λ y. not-both (stays-awake x k o ne (mid-keeps x k o y)) e) in
-          used-else x k o ne ∙ ih off
+          used-else x k o ne ∙ ih k o off
 
   mid-rests : (x k : ℕ) → 1 ≤ k → awakeAt (midAt x) k ≡ false → usedAt (at x) k ≡ 0
   mid-rests x k o e = at-rests x k o (mid-off x k o e)
 
-  -- above the task that runs all sleep
-  high-above : (x k : ℕ) → highAt x < k → k ≤ d .«task_count» → live (usedAt (at x)) (pend (awakeAt (midAt x)) (usedAt (at x))) k ≡ false
-  high-above x k p q =
-      let e : awakeAt (midAt x) k ≡ false = highest-above (midAt x .awake) (d .«task_count») k p q in
-      rw (mid-rests x k (omega arith) e, e) refl
+  -- where none goes on, all above the task that runs sleep
+  high-above : (x k : ℕ) → running pol d (midAt x) ≡ 0 → highAt x < k → k ≤ d .«task_count» → live (usedAt (at x)) (pend (awakeAt (midAt x)) (usedAt (at x))) k ≡ false
+  high-above x k z p q = go (chosen pol d (midAt x))
+    where
+      go : Anew pol d (midAt x) ⊎ Kept pol d (midAt x) → live (usedAt (at x)) (pend (awakeAt (midAt x)) (usedAt (at x))) k ≡ false
+      go (inl c) =
+          let e : awakeAt (midAt x) k ≡ false = highest-above (midAt x .awake) (d .«task_count») k (rw (c .is) at p) q in
+          rw (mid-rests x k (omega arith) e, e) refl
+      go (inr c) = absurd (omega (arith, c .some))
+
+  -- so it is where its run begins in this tick, or none runs
+  high-begins : (x : ℕ) → usedAt (at x) (highAt x) ≡ 0 → running pol d (midAt x) ≡ 0
+  high-begins x z = go (chosen pol d (midAt x))
+    where
+      go : Anew pol d (midAt x) ⊎ Kept pol d (midAt x) → running pol d (midAt x) ≡ 0
+      go (inl c) = c .none
+      go (inr c) = absurd (omega (arith, goes-on x (c .some), rw (c .is) at z))
+
+  high-none : (x : ℕ) → highAt x ≡ 0 → running pol d (midAt x) ≡ 0
+  high-none x z = go (chosen pol d (midAt x))
+    where
+      go : Anew pol d (midAt x) ⊎ Kept pol d (midAt x) → running pol d (midAt x) ≡ 0
+      go (inl c) = c .none
+      go (inr c) = absurd (omega (arith, c .some, rw (c .is) at z))
 
   -- what is pending, from tick to tick
   abbrev pendAt : ℕ → ℕ → Bool
@@ -172,7 +213,36 @@ module _ (d : Description) (wf : WellFormed d) (ks : List Call) where
           let z : usedAt (at x) k ≡ 0 = sym (used-else x k o ne) ∙ none in
           inl (both (awakeAt (midAt x) k) _ (w .0) (eq-eqb (usedAt (at x) k) 0 z), λ q. absurd (ne q))
 
-  -- a link leads to a task
+  -- on the hold-on model a task that is part done is the one that runs, for there is but one
+  abbrev pub Alone : ℕ → Type 0
+  Alone x = (k k′ : ℕ) → 1 ≤ k → k ≤ d .«task_count» → 1 ≤ k′ → k′ ≤ d .«task_count» → 0 < usedAt (at x) k → 0 < usedAt (at x) k′ → k ≡ k′
+
+  ran-part : pol ≡ HoldOn → (x : ℕ) → Alone x → (k : ℕ) → 1 ≤ k → k ≤ d .«task_count» → 0 < usedAt (at x) k → highAt x ≡ k
+  ran-part e x a k o p u = go (chosen pol d (midAt x))
+    where
+      some : 0 < running pol d (midAt x)
+      some = omega (arith, ap (λ (o : Policy). running o d (midAt x)) e, part-running d (wf .fields .few-tasks) (midAt x) k o p (rw (mid-used x k) u))
+
+      go : Anew pol d (midAt x) ⊎ Kept pol d (midAt x) → highAt x ≡ k
+      go (inl c) = absurd (omega (arith, some, c .none))
+      go (inr c) = c .is ∙ a (running pol d (midAt x)) k some (running-le pol d (midAt x)) o p (goes-on x some) u
+
+  part-next : pol ≡ HoldOn → (x : ℕ) → Alone x → (k : ℕ) → 1 ≤ k → k ≤ d .«task_count» → 0 < usedAt (at (suc x)) k → highAt x ≡ k
+  part-next e x a k o p u = go (eqb k (highAt x)) refl
+    where
+      go : (b : Bool) → eqb k (highAt x) ≡ b → highAt x ≡ k
+      go true f = sym (eqb-true k (highAt x) f)
+      go false f = ran-part e x a k o p (rw (used-else x k o (eqb-false k (highAt x) f)) at u)
+
+  pub alone : pol ≡ HoldOn → (x : ℕ) → Alone x
+  unfolding stateAt idle
+  alone e zero k k′ o p o′ p′ u u′ = absurd (omega (arith, getD-same {A = ℕ} 32 (k - 1) 0))
+  alone e (suc x) k k′ o p o′ p′ u u′ = sym (part-next e x (alone e x) k o p u) ∙ part-next e x (alone e x) k′ o′ p′ u′
+
+  part-ran : pol ≡ HoldOn → (x k : ℕ) → 1 ≤ k → k ≤ d .«task_count» → 0 < usedAt (at x) k → highAt x ≡ k
+  part-ran e x = ran-part e x (alone e x)
+
+    -- a link leads to a task
   link-some : (i k : ℕ) → linked d i k ≡ true → 1 ≤ k
   unfolding linked
   link-some i k e =
@@ -263,9 +333,9 @@ module _ (d : Description) (wf : WellFormed d) (ks : List Call) where
       mid-from = pend-mid;
       mid-live = λ x u k p q e l. live-on (awakeAt (midAt x)) (usedAt (at x)) k (mid-is x k (link-some u k l) ∙ or-right (awakeAt (at x) k) _ (any-at _ 33 (d .«source_count») u p q (both (getD (marksAt x) (u - 33) false) _ e l)));
       ran-task = high-low;
-      ran-live = λ x p. live-on (awakeAt (midAt x)) (usedAt (at x)) (highAt x) (high-awake x p);
-      ran-begins = λ x z k p q. high-above x k p q;
-      ran-none = λ x z k p q. high-above x k (omega arith) q;
+      ran-live = λ x p. live-on (awakeAt (midAt x)) (usedAt (at x)) (highAt x) (high-awake x (at-rests x) p);
+      ran-begins = λ x z k p q. high-above x k (high-begins x z) p q;
+      ran-none = λ x z k p q. high-above x k (high-none x z) (omega arith) q;
       over-ran = end-runs;
       over-full = end-full;
       used-next = λ x k o. at-step x .used k o;
@@ -282,9 +352,13 @@ module _ (d : Description) (wf : WellFormed d) (ks : List Call) where
         older true m a = omega arith
         older false m a = omega arith
 
-    pub preempts : Preempts schedule
+    pub preempts : pol ≡ Preemptive → Preempts schedule
     unfolding schedule system
-    preempts = record { above = high-above }
+    preempts e = record { above = λ x k p q. high-above x k (ap (λ (o : Policy). running o d (midAt x)) e) p q }
+
+    pub holds-on : pol ≡ HoldOn → HoldsOn schedule
+    unfolding schedule system
+    holds-on e = record { holds = part-ran e }
 
     -- the same run, read off the record
     pub schedule-arr : (x u : ℕ) → schedule .arr x u ≡ getD (marksAt x) (u - 33) false
@@ -309,3 +383,8 @@ module _ (d : Description) (wf : WellFormed d) (ks : List Call) where
     at-below G x k o p =
         let h : usedAt (at x) k < cond (leb k (d .«task_count»)) (runOf d k) 0 = below schedule G x k o p in
         rw (le-leb k (d .«task_count») p) at h
+
+-- a schedule's policy, from both
+pub obeys : (pol : Policy) (d : Description) (wf : WellFormed d) (ks : List Call) (q : ℕ) (gap : ℕ → ℕ) (spaced : Spaced d q gap) (passed : (x : ℕ) → x < length ks → Passed d (tempoAt pol d wf ks x) (at pol d wf ks x) (marksAt pol d wf ks x)) (slow : (x : ℕ) → x < length ks → tempoAt pol d wf ks x ≤ q) → Obeys (schedule pol d wf ks q gap spaced passed slow) pol
+obeys Preemptive d wf ks q gap spaced passed slow = preempts Preemptive d wf ks q gap spaced passed slow refl
+obeys HoldOn d wf ks q gap spaced passed slow = holds-on HoldOn d wf ks q gap spaced passed slow refl

@@ -8,6 +8,7 @@ use native.Mathlib.Omega.{arith}
 use lib.ListN.{getD}
 use lib.Dec.{ltb, eqb}
 use borrow.Author.Tests.{eqb-true, ne-eqb, lt-ltb, le-ltb, not-true}
+use Rattle.model.specs.declared.Policy.{Policy}
 use Rattle.model.specs.declared.Description.{Description}
 use Rattle.model.specs.Graph.{system, linkAt, linked}
 use Rattle.model.specs.Machine.{waitingAt, droppedAt, idle}
@@ -199,13 +200,13 @@ module _ (marks : List Bool) (n from to h : ℕ) (low : h ≤ 32) (differ : from
       rw (comes-source (q .0) (q .1), le-ltb from 33 (q .0), ne-eqb from h (λ e. omega (arith, q .0)))
       (source-drop d w (getD marks (from - 33) false) o (eqb to h))
 
-module _ (d : Description) (wf : WellFormed d) (L : Loaded (system d)) (ks : List Call) where
+module _ (pol : Policy) (d : Description) (wf : WellFormed d) (L : Loaded (system d)) (ks : List Call) where
   -- node i fires in tick x; the run of j ends in it
   abbrev pub firesIn : ℕ → ℕ → Bool
-  firesIn i x = cond (ltb i 33) (eqb (highAt d wf ks x) i && endAt d wf ks x) (getD (marksAt d wf ks x) (i - 33) false)
+  firesIn i x = cond (ltb i 33) (eqb (highAt pol d wf ks x) i && endAt pol d wf ks x) (getD (marksAt pol d wf ks x) (i - 33) false)
 
   abbrev pub endsIn : ℕ → ℕ → Bool
-  endsIn j x = eqb (highAt d wf ks x) j && endAt d wf ks x
+  endsIn j x = eqb (highAt pol d wf ks x) j && endAt pol d wf ks x
 
   module _ (l : ℕ) (p : l < d .«link_count») where
     abbrev from : ℕ
@@ -223,8 +224,8 @@ module _ (d : Description) (wf : WellFormed d) (L : Loaded (system d)) (ks : Lis
         let h : linked d from from ≡ true = subst (λ (k : ℕ). linked d from k ≡ true) (sym e) link-here in
         omega (arith, L .falls from from h)
 
-    low : (x : ℕ) → highAt d wf ks x ≤ 32
-    low x = omega (arith, high-low d wf ks x, wf .fields .few-tasks)
+    low : (x : ℕ) → highAt pol d wf ks x ≤ 32
+    low x = omega (arith, high-low pol d wf ks x, wf .fields .few-tasks)
 
     pub kind : (from ≤ 32) ⊎ ((33 ≤ from) × (from < 33 + d .«source_count»))
     unfolding system
@@ -234,20 +235,20 @@ module _ (d : Description) (wf : WellFormed d) (L : Loaded (system d)) (ks : Lis
         go (inl q) = let h : from ≤ d .«task_count» = q .1 in inl (omega (arith, wf .fields .few-tasks))
         go (inr q) = inr q
 
-    pub waiting-next : (x : ℕ) → waitingAt (at d wf ks (suc x)) l ≡ ((waitingAt (at d wf ks x) l || firesIn from x) && not (endsIn to x))
+    pub waiting-next : (x : ℕ) → waitingAt (at pol d wf ks (suc x)) l ≡ ((waitingAt (at pol d wf ks x) l || firesIn from x) && not (endsIn to x))
     waiting-next x =
-        at-step d wf ks x .waiting l p ∙ waits-after (marksAt d wf ks x) (d .«source_count») from to (highAt d wf ks x) (low x) not-self (waitingAt (at d wf ks x) l) (endAt d wf ks x) kind
+        at-step pol d wf ks x .waiting l p ∙ waits-after (marksAt pol d wf ks x) (d .«source_count») from to (highAt pol d wf ks x) (low x) not-self (waitingAt (at pol d wf ks x) l) (endAt pol d wf ks x) kind
 
-    pub dropped-next : (x : ℕ) → droppedAt (at d wf ks (suc x)) l ≡ (droppedAt (at d wf ks x) l || (waitingAt (at d wf ks x) l && firesIn from x))
+    pub dropped-next : (x : ℕ) → droppedAt (at pol d wf ks (suc x)) l ≡ (droppedAt (at pol d wf ks x) l || (waitingAt (at pol d wf ks x) l && firesIn from x))
     dropped-next x =
-        at-step d wf ks x .dropped l p ∙ drops-after (marksAt d wf ks x) (d .«source_count») from to (highAt d wf ks x) (low x) not-self (droppedAt (at d wf ks x) l) (waitingAt (at d wf ks x) l) (endAt d wf ks x) kind
+        at-step pol d wf ks x .dropped l p ∙ drops-after (marksAt pol d wf ks x) (d .«source_count») from to (highAt pol d wf ks x) (low x) not-self (droppedAt (at pol d wf ks x) l) (waitingAt (at pol d wf ks x) l) (endAt pol d wf ks x) kind
 
-    pub waiting-first : waitingAt (at d wf ks 0) l ≡ false
+    pub waiting-first : waitingAt (at pol d wf ks 0) l ≡ false
     unfolding stateAt idle
     waiting-first = getD-same 256 l false
 
     -- the marks of the link at place l
-    pub link-marked : Marked (firesIn from) (endsIn to) (λ x. waitingAt (at d wf ks x) l) (λ x. droppedAt (at d wf ks x) l)
+    pub link-marked : Marked (firesIn from) (endsIn to) (λ x. waitingAt (at pol d wf ks x) l) (λ x. droppedAt (at pol d wf ks x) l)
     unfolding stateAt idle
     link-marked = record {
       wa-first = getD-same 256 l false;

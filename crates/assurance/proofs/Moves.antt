@@ -9,6 +9,7 @@ use borrow.Author.Tests.{eq-eqb, ne-eqb, eqb-true, ltb-true}
 use Rattle.model.specs.Basics.{sumN, sumTo, given}
 use Rattle.model.specs.Graph.{System}
 use Rattle.model.specs.Loads.{work, added, load}
+use Rattle.model.specs.declared.Policy.the-variants.{Preemptive}
 use Rattle.model.specs.Delays.{startOf}
 use Rattle.lemmas.proofs.Tests.{not-both, false-of, or-cases, and-left, and-right, both}
 use Rattle.lemmas.proofs.Range.{All, Found, sumN-add, sumN-zero, le-sumN, le-given, sumN-cong, le-topTo}
@@ -204,14 +205,14 @@ module _ {s : System} (L : Loaded s) (G : Shaped s) {gap : ℕ → ℕ} (S : Sch
   none-phiMid j x h = none-owed s L _ _ j h
 
   -- on a preemptive machine it starts anew where no task at or above j runs
-  pub rests : Preempts S → (x j : ℕ) → 1 ≤ j → S .ran x < j → phi j (suc x) ≤ startOf s j
+  pub rests : Preempts S → (x j : ℕ) → 1 ≤ j → S .ran x < j → phi j (suc x) ≤ startOf Preemptive s j
   unfolding startOf
   rests P x j o p = go (S .over x) refl
     where
       none : phiMid j x ≡ 0
       none = none-phiMid j x (λ k q t. P .above x k (omega arith) t)
 
-      go : (b : Bool) → S .over x ≡ b → phi j (suc x) ≤ startOf s j
+      go : (b : Bool) → S .over x ≡ b → phi j (suc x) ≤ startOf Preemptive s j
       go true e =
           let r : phi j (suc x) ≤ phiMid j x + load s (S .ran x) j = rw e at (rises x j p) in
           omega (arith, none, le-topTo (λ k. load s k j) 1 (j - 1) (S .ran x) (S .over-ran x e) (omega arith))

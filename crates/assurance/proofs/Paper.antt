@@ -1,13 +1,14 @@
--- The printed page alone: a first line `tempo a.b` says that the file is accepted, what its quote is and that the promise holds up to it, and each line
+-- The printed page alone: its line `tempo a.b` says that the file is accepted, what its quote is and that the promise holds up to it, and each line
 -- of a held source link says how long its events wait. Assumes nothing.
 use Prim.Native.Nat.{ℕ, suc, _-_, _≤_, _<_}
 use mathlib.Core.Path.{_≡_, refl, ap}
 use mathlib.Core.Bool.{not}
-use mathlib.Core.List.{List}
+use mathlib.Core.List.{List, _++_}
 use native.Mathlib.Omega.{arith}
 use borrow.Author.Tests.{not-true}
 use lib.ListN.{take}
 use Rattle.model.specs.declared.Description.{Description}
+use Rattle.model.specs.declared.Policy.{Policy}
 use Rattle.model.specs.declared.Outcome.{Outcome}
 use Rattle.model.specs.declared.Outcome.the-variants.{Done, Refused}
 use Rattle.model.specs.declared.Quote.{Quote}
@@ -18,28 +19,28 @@ use Rattle.model.specs.Graph.{linkAt}
 use Rattle.model.specs.File.{Widths, readFile, filledBy}
 use Rattle.model.specs.Delays.{spacingOf}
 use Rattle.model.specs.Verdicts.{verdictAt, doubtful, allHeld, largestBelow, quoteOf, quotedFile}
-use Rattle.model.specs.Report.{reportFor, reportOf, reported, pageReported, printed}
-use Rattle.model.specs.Page.{FirstLine, HasLine, tempoWords, heldWords, HeldLine, FromPage, Paper}
+use Rattle.model.specs.Report.{refusedLine, reportFor, plainReport, policyLine, reportOf, reported, pageReported, printed}
+use Rattle.model.specs.Page.{TempoLine, HasLine, tempoWords, heldWords, HeldLine, FromPage, Paper}
 use Rattle.lemmas.proofs.Range.{all-at}
 use Rattle.theory.proofs.WellFormed.{Fielded}
 use Rattle.theory.proofs.NumberBytes.{Bytes}
 use Rattle.theory.proofs.FileLaws.{judge-well-formed}
 use Rattle.theory.proofs.ReadBack.{read-whence, read-judged}
 use Rattle.theory.proofs.Quotes.{largest-found, quoted}
-use Rattle.theory.proofs.Pages.{Named, held-says, source-held, page-held, page-told, page-first, page-tempo, refused-no-tempo, printed-whole, filled-page}
+use Rattle.theory.proofs.Pages.{Named, held-says, source-held, page-held, page-told, page-first, page-tempo, tempo-line, held-line, refused-no-tempo, printed-whole, filled-page}
 use Rattle.assurance.proofs.Demand3.{promise}
 use Rattle.assurance.proofs.PlainCalls.{plain-assured}
 
 -- of a description with a quote
-module _ (d : Description) (q : ℕ) (w : Widths d) (e : quoteOf d ≡ Tempo q) where
+module _ (pol : Policy) (d : Description) (q : ℕ) (w : Widths d) (e : quoteOf pol d ≡ Tempo q) where
   fields : Fielded d
-  fields = judge-well-formed d w (quoted d q e .judged) .fields
+  fields = judge-well-formed d w (quoted pol d q e .judged) .fields
 
   -- what a held line says of the link that it names
-  line-true : (k l i j D M : ℕ) → k < d .«link_count» → Named k (linkAt d k) (verdictAt d q k) l i j D M → HeldLine d q l i j D M
+  line-true : (k l i j D M : ℕ) → k < d .«link_count» → Named k (linkAt d k) (verdictAt pol d q k) l i j D M → HeldLine pol d q l i j D M
   line-true k l i j D M h n =
       let p : l - 1 ≡ k = omega (arith, n .place-is) in
-      let s = held-says d fields q k D M h (n .verdict-is) in
+      let s = held-says pol d fields q k D M h (n .verdict-is) in
       record {
         first = omega (arith, n .place-is);
         last = omega (arith, n .place-is);
@@ -51,49 +52,49 @@ module _ (d : Description) (q : ℕ) (w : Widths d) (e : quoteOf d ≡ Tempo q) 
         spacing = rw (n .from-is) at (s .spacing);
         below = s .below;
         waits = λ x cs up inside f.
-            rw (n .to-is, n .verdict-is) at (plain-assured d q w e cs up .waited k x h (s .critical) (s .source) inside (rw (n .from-is) f));
+            rw (n .to-is, n .verdict-is) at (plain-assured pol d q w e cs up .waited k x h (s .critical) (s .source) inside (rw (n .from-is) f));
       }
 
   -- and every critical link from a source is held
-  line-there : (l : ℕ) → l < d .«link_count» → linkAt d l .critical ≡ 1 → 33 ≤ linkAt d l .from → (D : ℕ) × (M : ℕ) × HasLine (reportFor d (Tempo q)) (heldWords (suc l) (linkAt d l .from) (linkAt d l .to) D M)
+  line-there : (l : ℕ) → l < d .«link_count» → linkAt d l .critical ≡ 1 → 33 ≤ linkAt d l .from → (D : ℕ) × (M : ℕ) × HasLine (reportFor pol d (Tempo q)) (heldWords (suc l) (linkAt d l .from) (linkAt d l .to) D M)
   unfolding allHeld
   line-there l h c s =
-      let v = source-held d q l c s (not-true _ (all-at (λ k. not (doubtful (verdictAt d q k))) 0 (d .«link_count») (quoted d q e .held) l (omega arith) (omega arith))) in
-      (v .0, spacingOf d q (linkAt d l .from), page-told d (Tempo q) l (v .0) (spacingOf d q (linkAt d l .from)) h (v .1))
+      let v = source-held pol d q l c s (not-true _ (all-at (λ k. not (doubtful (verdictAt pol d q k))) 0 (d .«link_count») (quoted pol d q e .held) l (omega arith) (omega arith))) in
+      (v .0, spacingOf d q (linkAt d l .from), page-told pol d (Tempo q) l (v .0) (spacingOf d q (linkAt d l .from)) h (v .1))
 
 pub from-page : Paper
-unfolding reportOf quotedFile quoteOf
-from-page file q b e = go (readFile file .outcome) refl
+unfolding reportOf plainReport quotedFile quoteOf
+from-page pol file q b e = go (readFile file .outcome) refl
   where
     d : Description
     d = readFile file .description
 
     found : Quote
-    found = largestBelow (allHeld d) 2801
+    found = largestBelow (allHeld pol d) 2801
 
-    go : (o : Outcome) → readFile file .outcome ≡ o → FromPage file (reportOf file) q
-    go (Refused r place) a = absurd (refused-no-tempo r place q (rw a at e))
+    go : (o : Outcome) → readFile file .outcome ≡ o → FromPage pol file (reportOf pol file) q
+    go (Refused r place) a = absurd (refused-no-tempo r place q (tempo-line pol (refusedLine r place) (tempoWords q) .0 (rw a at e)))
     go Done a =
-        let k : found ≡ Tempo q = page-tempo d found q (λ t f. omega (arith, largest-found (allHeld d) 2801 t f .high)) (rw a at e) in
+        let k : found ≡ Tempo q = page-tempo pol d found q (λ t f. omega (arith, largest-found (allHeld pol d) 2801 t f .high)) (tempo-line pol (reportFor pol d found) (tempoWords q) .0 (rw a at e)) in
         let w : Widths d = read-whence file b a .widths in
-        let z : quoteOf d ≡ Tempo q = rw (read-judged file b a) k in
-        let page : reportOf file ≡ reportFor d (Tempo q) = rw a (ap (reportFor d) k) in
+        let z : quoteOf pol d ≡ Tempo q = rw (read-judged file b a) k in
+        let page : reportOf pol file ≡ policyLine pol ++ reportFor pol d (Tempo q) = rw a (ap (λ (x : Quote). policyLine pol ++ reportFor pol d x) k) in
         record {
           accepted = a;
           quoted = rw a z;
-          low = quoted d q z .low;
-          high = quoted d q z .high;
-          assured = λ s cs rs m a c up. promise d q s cs rs m w z a c up;
+          low = quoted pol d q z .low;
+          high = quoted pol d q z .high;
+          assured = λ s cs rs m a c up. promise pol d q s cs rs m w z a c up;
           held = λ l i j D M h.
-              let n = page-held d (Tempo q) (fields d q w z) l i j D M (rw page at h) in
-              line-true d q w z (n .0) l i j D M (n .1) (n .2);
-          told = λ l h c s. rw page (line-there d q w z l h c s);
+              let n = page-held pol d (Tempo q) (fields pol d q w z) l i j D M (held-line pol (reportFor pol d (Tempo q)) l i j D M .0 (rw page at h)) in
+              line-true pol d q w z (n .0) l i j D M (n .1) (n .2);
+          told = λ l h c s. let x = line-there pol d q w z l h c s in (x .0, x .1, rw page (held-line pol (reportFor pol d (Tempo q)) (suc l) (linkAt d l .from) (linkAt d l .to) (x .0) (x .1) .1 (x .2)));
         }
 
--- the converse: the page of a file with a quote begins with that tempo
-pub quoted-page : (file : List ℕ) (q : ℕ) → Bytes file → quotedFile file ≡ Tempo q → FirstLine (reportOf file) (tempoWords q)
-unfolding reportOf quotedFile quoteOf
-quoted-page file q b e = go (readFile file .outcome) refl
+-- the converse: the page of a file with a quote has that tempo
+pub quoted-page : (pol : Policy) (file : List ℕ) (q : ℕ) → Bytes file → quotedFile pol file ≡ Tempo q → TempoLine pol (reportOf pol file) (tempoWords q)
+unfolding reportOf plainReport quotedFile quoteOf
+quoted-page pol file q b e = go (readFile file .outcome) refl
   where
     d : Description
     d = readFile file .description
@@ -101,19 +102,19 @@ quoted-page file q b e = go (readFile file .outcome) refl
     not-tempo : (r : Refusal) (place : ℕ) → Unquoted r place ≡ Tempo q → ⊥
     not-tempo r place f = let z : _≡_ {A = ℕ} 0 1 = cc in omega arith
 
-    go : (o : Outcome) → readFile file .outcome ≡ o → FirstLine (reportOf file) (tempoWords q)
+    go : (o : Outcome) → readFile file .outcome ≡ o → TempoLine pol (reportOf pol file) (tempoWords q)
     go (Refused r place) a = absurd (not-tempo r place (rw a at e))
     go Done a =
-        let k : largestBelow (allHeld d) 2801 ≡ Tempo q = rw (a, read-judged file b a) at e in
-        rw (a, k) (page-first d (Tempo q))
+        let k : largestBelow (allHeld pol d) 2801 ≡ Tempo q = rw (a, read-judged file b a) at e in
+        rw (a, k) (tempo-line pol (reportFor pol d (Tempo q)) (tempoWords q) .1 (page-first pol d (Tempo q)))
 
 -- what holds of the report holds of the page that the program prints for its input
-pub from-printed : (input : List ℕ) (q : ℕ) → Bytes input → FirstLine (printed input) (tempoWords q) → FromPage input (printed input) q
-from-printed input q b e = rw printed-whole (from-page input q b (rw printed-whole at e))
+pub from-printed : (pol : Policy) (input : List ℕ) (q : ℕ) → Bytes input → TempoLine pol (printed pol input) (tempoWords q) → FromPage pol input (printed pol input) q
+from-printed pol input q b e = rw (printed-whole pol input) (from-page pol input q b (rw (printed-whole pol input) at e))
 
 -- and of the page that the report call leaves at the front of a lent buffer
-pub from-buffer : (file buffer : List ℕ) (n q : ℕ) → Bytes file → reported file buffer ≡ Filled.Bytes n → FirstLine (take n (pageReported file buffer)) (tempoWords q) → FromPage file (take n (pageReported file buffer)) q
+pub from-buffer : (pol : Policy) (file buffer : List ℕ) (n q : ℕ) → Bytes file → reported pol file buffer ≡ Filled.Bytes n → TempoLine pol (take n (pageReported pol file buffer)) (tempoWords q) → FromPage pol file (take n (pageReported pol file buffer)) q
 unfolding reported pageReported
-from-buffer file buffer n q b f e =
-    let p : take n (filledBy (reportOf file) buffer) ≡ reportOf file = filled-page (reportOf file) buffer n f in
-    rw p (from-page file q b (rw p at e))
+from-buffer pol file buffer n q b f e =
+    let p : take n (filledBy (reportOf pol file) buffer) ≡ reportOf pol file = filled-page (reportOf pol file) buffer n f in
+    rw p (from-page pol file q b (rw p at e))

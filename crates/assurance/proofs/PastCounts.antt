@@ -9,19 +9,21 @@ use lib.Dec.{eqb, ltb, leb}
 use borrow.Author.Tests.{ltb-true, leb-true}
 use Rattle.model.specs.declared.Link.{Link}
 use Rattle.model.specs.declared.Description.{Description}
+use Rattle.model.specs.declared.Policy.{Policy}
+use Rattle.model.specs.declared.Policy.the-variants.{Preemptive, HoldOn}
 use Rattle.model.specs.declared.Machine.{Machine}
 use Rattle.model.specs.declared.Arrivals.{Arrivals}
 use Rattle.model.specs.declared.Ticked.{Ticked}
 use Rattle.model.specs.declared.Outcome.{Outcome}
 use Rattle.model.specs.declared.Outcome.the-variants.{Done}
 use Rattle.model.specs.declared.Refusal.the-variants.{ShortPage}
-use Rattle.model.specs.Basics.{upTo, allN, anyN}
+use Rattle.model.specs.Basics.{upTo, tab, allN, anyN}
 use Rattle.model.specs.Delays.{spacingOf}
 use Rattle.model.specs.Graph.{runOf}
 use Rattle.model.specs.Refusals.{onDone}
 use Rattle.model.specs.File.{SameTo, Widths, filledBy, judge}
 use Rattle.model.specs.Verdicts.{onKnob, judgeAt}
-use Rattle.model.specs.Machine.{awakeAt, usedAt, waitingAt, ageAt, fastestAt, setAwake, setUsed, setWaiting, setAge, markDropped, idle, unstarted, started, taskRule, linkRule, sourceRule, lawful, fireLink, fire, arriveOne, arrive, highestIn, highest, runTask, clearLink, clearInto, endRun, ageOne, ageAll, keep, stepped, strangers, tooSoon, judgeTick, plainTick}
+use Rattle.model.specs.Machine.{awakeAt, usedAt, waitingAt, ageAt, fastestAt, setAwake, setUsed, setWaiting, setAge, markDropped, idle, unstarted, started, taskRule, linkRule, sourceRule, rulesKept, lawful, fireLink, fire, arriveOne, arrive, highestIn, choose, runTask, clearLink, clearInto, endRun, ageOne, ageAll, keep, stepped, strangers, tooSoon, judgeTick, plainTick}
 use Rattle.model.specs.History.{Call, plainCall, answers, left}
 use Rattle.model.specs.Run.{codes, page, ranFrom, ran, pageRan}
 use Rattle.lemmas.proofs.Range.{any-cong, all-cong, upTo-alike}
@@ -29,7 +31,7 @@ use Rattle.lemmas.proofs.Table.{tab-cong}
 use Rattle.theory.proofs.FileLaws.{at-known}
 use Rattle.lemmas.proofs.Tests.{cond-same}
 use Rattle.theory.proofs.PastCounts.{done-same, same-judge, same-knob, same-run, same-spacing}
-use Rattle.assurance.proofs.Ending.{highest-le}
+use Rattle.assurance.proofs.Choosing.{chosen-le}
 use Rattle.assurance.proofs.Replay.{judge-passed}
 
 module _ (d e : Description) (s : SameTo d e) where
@@ -49,9 +51,9 @@ module _ (d e : Description) (s : SameTo d e) where
       done-same (judge d) (judge e) _ _ _ (same-judge d e s) (λ j. ap (λ (m : Machine). record { outcome = Done; machine = m }) same-idle)
 
   -- the rules
-  pub same-lawful : (m : Machine) → lawful d m ≡ lawful e m
-  unfolding lawful
-  same-lawful m = rw (tasks, links, sources)
+  pub same-lawful : (pol : Policy) (m : Machine) → lawful pol d m ≡ lawful pol e m
+  unfolding lawful rulesKept
+  same-lawful pol m = rw (tasks, links, sources)
     where
       tasks : allN (taskRule d m) 1 32 ≡ allN (taskRule e m) 1 32
       tasks = all-cong _ _ 1 32 (λ k p q.
@@ -82,9 +84,9 @@ module _ (d e : Description) (s : SameTo d e) where
       any-cong _ _ 0 (d .«source_count») (λ u p q. ap (λ (g : ℕ). getD marks u false && ltb (ageAt m u) g) (same-spacing d e s (max (fastestAt m u) t) (33 + u) (omega arith)))
       ∙ ap (anyN (λ u. getD marks u false && ltb (ageAt m u) (spacingOf e (max (fastestAt m u) t) (33 + u))) 0) (s .sources)
 
-  pub same-judge-tick : (t : ℕ) (m : Machine) (marks : List Bool) → judgeTick d t m marks ≡ judgeTick e t m marks
+  pub same-judge-tick : (pol : Policy) (t : ℕ) (m : Machine) (marks : List Bool) → judgeTick pol d t m marks ≡ judgeTick pol e t m marks
   unfolding judgeTick
-  same-judge-tick t m marks = rw (same-knob d e s t, same-lawful m, same-strangers marks, same-soon t marks m)
+  same-judge-tick pol t m marks = rw (same-knob d e s t, same-lawful pol m, same-strangers marks, same-soon t marks m)
 
   -- the steps of a tick
   same-fire : (x : ℕ) (m : Machine) → fire d x m ≡ fire e x m
@@ -121,49 +123,55 @@ module _ (d e : Description) (s : SameTo d e) where
       (λ u h y. ap (λ (g : ℕ). setAge u (min g (ageAt y u + 1)) y) (same-spacing d e s 200 (33 + u) (omega arith)))
       ∙ ap (λ (n : ℕ). upTo n (ageOne e) m) (s .sources)
 
-  same-stepped : (t : ℕ) (marks : List Bool) (finish : Bool) (m : Machine) → 1 ≤ d .«task_count» → stepped d t marks finish m ≡ stepped e t marks finish m
+  same-choose : (pol : Policy) (m : Machine) → choose pol d m ≡ choose pol e m
+  unfolding choose
+  same-choose Preemptive m = ap (highestIn (m .awake)) (s .tasks)
+  same-choose HoldOn m =
+      ap (λ (n : ℕ). let r = highestIn (tab 32 (λ k. ltb 0 (getD (m .used) k 0))) n in cond (eqb r 0) (highestIn (m .awake) n) r) (s .tasks)
+
+  same-stepped : (pol : Policy) (t : ℕ) (marks : List Bool) (finish : Bool) (m : Machine) → 1 ≤ d .«task_count» → stepped pol d t marks finish m ≡ stepped pol e t marks finish m
   unfolding stepped
-  same-stepped t marks finish m some = ap (worked d) (same-arrive marks m) ∙ go (arrive e marks m)
+  same-stepped pol t marks finish m some = ap (worked d) (same-arrive marks m) ∙ go (arrive e marks m)
     where
       worked : Description → Machine → Machine
-      worked x y = keep t marks (ageAll x (endRun x (highest x y) finish (runTask (highest x y) y)))
+      worked x y = keep t marks (ageAll x (endRun x (choose pol x y) finish (runTask (choose pol x y) y)))
 
       go : (y : Machine) → worked d y ≡ worked e y
       go y =
-          ap (λ (z : Machine). keep t marks (ageAll d z)) (same-end (highest d y) finish (runTask (highest d y) y) (omega (arith, highest-le (y .awake) (d .«task_count»))))
-          ∙ ap (keep t marks) (same-age (endRun e (highest d y) finish (runTask (highest d y) y)))
-          ∙ ap (λ (n : ℕ). keep t marks (ageAll e (endRun e (highestIn (y .awake) n) finish (runTask (highestIn (y .awake) n) y)))) (s .tasks)
+          ap (λ (z : Machine). keep t marks (ageAll d z)) (same-end (choose pol d y) finish (runTask (choose pol d y) y) (omega (arith, chosen-le pol d y)))
+          ∙ ap (keep t marks) (same-age (endRun e (choose pol d y) finish (runTask (choose pol d y) y)))
+          ∙ ap (λ (h : ℕ). keep t marks (ageAll e (endRun e h finish (runTask h y)))) (same-choose pol y)
 
   -- a tick and a run
-  module _ (w : Widths d) where
-    pub same-tick : (t : ℕ) (m : Machine) (a : Arrivals) (finish : Bool) → plainTick d t m a finish ≡ plainTick e t m a finish
+  module _ (pol : Policy) (w : Widths d) where
+    pub same-tick : (t : ℕ) (m : Machine) (a : Arrivals) (finish : Bool) → plainTick pol d t m a finish ≡ plainTick pol e t m a finish
     unfolding plainTick
     same-tick t m a finish =
-        done-same (judgeTick d t m (a .marks)) (judgeTick e t m (a .marks)) _ _ _ (same-judge-tick t m (a .marks))
-        (λ j. ap (λ (x : Machine). record { outcome = Done; machine = x }) (same-stepped t (a .marks) finish m (at-known d t w (judge-passed d t m (a .marks) j .judged) .0 .some-task)))
+        done-same (judgeTick pol d t m (a .marks)) (judgeTick pol e t m (a .marks)) _ _ _ (same-judge-tick pol t m (a .marks))
+        (λ j. ap (λ (x : Machine). record { outcome = Done; machine = x }) (same-stepped pol t (a .marks) finish m (at-known d t w (judge-passed pol d t m (a .marks) j .judged) .0 .some-task)))
 
-    pub same-answers : (m : Machine) (cs : List Call) → answers d m cs ≡ answers e m cs
+    pub same-answers : (m : Machine) (cs : List Call) → answers pol d m cs ≡ answers pol e m cs
     unfolding answers
     same-answers m [] = refl
     same-answers m (c ∷ cs) =
-        ap (λ (r : Ticked). r ∷ answers d (r .machine) cs) (same-tick (c .tempo) m (c .arrivals) (c .finish))
-        ∙ ap (λ (l : List Ticked). plainCall e m c ∷ l) (same-answers (plainCall e m c .machine) cs)
+        ap (λ (r : Ticked). r ∷ answers pol d (r .machine) cs) (same-tick (c .tempo) m (c .arrivals) (c .finish))
+        ∙ ap (λ (l : List Ticked). plainCall pol e m c ∷ l) (same-answers (plainCall pol e m c .machine) cs)
 
-    pub same-left : (m : Machine) (cs : List Call) → left d m cs ≡ left e m cs
+    pub same-left : (m : Machine) (cs : List Call) → left pol d m cs ≡ left pol e m cs
     unfolding left
     same-left m [] = refl
     same-left m (c ∷ cs) =
-        ap (λ (r : Ticked). left d (r .machine) cs) (same-tick (c .tempo) m (c .arrivals) (c .finish)) ∙ same-left (plainCall e m c .machine) cs
+        ap (λ (r : Ticked). left pol d (r .machine) cs) (same-tick (c .tempo) m (c .arrivals) (c .finish)) ∙ same-left (plainCall pol e m c .machine) cs
 
     -- the run call: its answer, and the buffer it leaves
-    pub same-ran : (cs : List Call) (buffer : List ℕ) → ran d cs buffer ≡ ran e cs buffer
+    pub same-ran : (cs : List Call) (buffer : List ℕ) → ran pol d cs buffer ≡ ran pol e cs buffer
     unfolding ran
     same-ran cs buffer =
-        ap (λ (m : Machine). onDone (judge d) (cond (ltb (length buffer) (length cs)) (unstarted ShortPage 0) (record { outcome = Done; machine = m })) unstarted) (same-left (idle d) cs ∙ ap (λ (m : Machine). left e m cs) same-idle)
-        ∙ ap (λ (o : Outcome). onDone o (ranFrom e cs buffer) unstarted) (same-judge d e s)
+        ap (λ (m : Machine). onDone (judge d) (cond (ltb (length buffer) (length cs)) (unstarted ShortPage 0) (record { outcome = Done; machine = m })) unstarted) (same-left (idle d) cs ∙ ap (λ (m : Machine). left pol e m cs) same-idle)
+        ∙ ap (λ (o : Outcome). onDone o (ranFrom pol e cs buffer) unstarted) (same-judge d e s)
 
-    pub same-page-ran : (cs : List Call) (buffer : List ℕ) → pageRan d cs buffer ≡ pageRan e cs buffer
+    pub same-page-ran : (cs : List Call) (buffer : List ℕ) → pageRan pol d cs buffer ≡ pageRan pol e cs buffer
     unfolding pageRan
     same-page-ran cs buffer =
-        ap (λ (rs : List Ticked). onDone (judge d) (filledBy (codes rs) buffer) (λ r place. buffer)) (same-answers (idle d) cs ∙ ap (λ (m : Machine). answers e m cs) same-idle)
-        ∙ ap (λ (o : Outcome). onDone o (filledBy (page e cs) buffer) (λ r place. buffer)) (same-judge d e s)
+        ap (λ (rs : List Ticked). onDone (judge d) (filledBy (codes rs) buffer) (λ r place. buffer)) (same-answers (idle d) cs ∙ ap (λ (m : Machine). answers pol e m cs) same-idle)
+        ∙ ap (λ (o : Outcome). onDone o (filledBy (page pol e cs) buffer) (λ r place. buffer)) (same-judge d e s)

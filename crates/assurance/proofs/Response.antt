@@ -7,6 +7,7 @@ use native.Mathlib.Omega.{arith}
 use native.Mathlib.Nat.{mul-le-mul-left}
 use lib.Dec.{leb}
 use borrow.Author.Tests.{leb-true, leb-false}
+use Rattle.model.specs.declared.Policy.the-variants.{Preemptive}
 use Rattle.model.specs.Graph.{System}
 use Rattle.model.specs.Loads.{added, load}
 use Rattle.model.specs.Delays.{spacings, startOf, roundOf}
@@ -44,7 +45,7 @@ module _ {s : System} (L : Loaded s) (G : Shaped s) {gap : ℕ → ℕ} (S : Sch
       omega
       (arith, apart (gap i) (λ z. S .arr z i) (λ z. S .age z i) (ages S i isSource isSource′) x y (came S j (w .unserved) .0) e (w .before))
 
-  module _ (D : ℕ) (fixed : roundOf s gap j D ≡ D) where
+  module _ (D : ℕ) (fixed : roundOf Preemptive s gap j D ≡ D) where
     -- the D is at least a run of j
     pub delay-some : 1 ≤ D
     unfolding roundOf load
@@ -54,7 +55,7 @@ module _ {s : System} (L : Loaded s) (G : Shaped s) {gap : ℕ → ℕ} (S : Sch
 
     module _ (P : Preempts S) where
       -- the schedule as j sees it
-      run : Run (λ u. load s u j) gap 33 (s .sources) (startOf s j) 0
+      run : Run (λ u. load s u j) gap 33 (s .sources) (startOf Preemptive s j) 0
       run = record {
         fire = λ u x. S .arr x u;
         phi = phi L G S j;
@@ -76,4 +77,4 @@ module _ {s : System} (L : Loaded s) (G : Shaped s) {gap : ℕ → ℕ} (S : Sch
 
       pub wait-bound : (y x : ℕ) → waits y x → y < x + D
       unfolding roundOf run
-      wait-bound y x w = bounded (λ u. load s u j) gap 33 (s .sources) (startOf s j) 0 D delay-some fixed run y x w
+      wait-bound y x w = bounded (λ u. load s u j) gap 33 (s .sources) (startOf Preemptive s j) 0 D delay-some fixed run y x w

@@ -6,6 +6,8 @@ use mathlib.Core.Logic.{_⊎_}
 use native.Mathlib.Omega.{arith}
 use lib.Dec.{eqb}
 use borrow.Author.Tests.{eq-eqb, ne-eqb, eqb-true, eqb-false}
+use Rattle.model.specs.declared.Policy.{Policy}
+use Rattle.model.specs.declared.Policy.the-variants.{Preemptive, HoldOn}
 use Rattle.model.specs.Graph.{System}
 use Rattle.lemmas.proofs.Tests.{both, and-left, and-right}
 use Rattle.lemmas.proofs.Range.{All, Found}
@@ -75,6 +77,10 @@ module _ {s : System} {gap : ℕ → ℕ} (S : Schedule s gap) where
 
   pub record HoldsOn : Type 0 where
     pub holds : (x k : ℕ) → 1 ≤ k → k ≤ s .tasks → 0 < S .used x k → S .ran x ≡ k
+
+  abbrev pub Obeys : Policy → Type 0
+  Obeys Preemptive = Preempts
+  Obeys HoldOn = HoldsOn
 
   pub used-other : (x k : ℕ) → 1 ≤ k → (k ≡ S .ran x → ⊥) → S .used (suc x) k ≡ S .used x k
   used-other x k o ne = S .used-next x k o ∙ rw (ne-eqb k (S .ran x) ne)

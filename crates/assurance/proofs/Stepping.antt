@@ -11,16 +11,18 @@ use lib.Seq.{getD-set-same}
 use lib.Dec.{eqb}
 use borrow.Author.Tests.{eqb-true, ne-eqb, lt-ltb, le-ltb}
 use Rattle.model.specs.declared.Description.{Description}
+use Rattle.model.specs.declared.Policy.{Policy}
 use Rattle.model.specs.declared.Machine.{Machine}
 use Rattle.model.specs.Graph.{linkAt, linked, runOf}
-use Rattle.model.specs.Machine.{awakeAt, usedAt, waitingAt, droppedAt, ageAt, fastestAt, longestGap, setAwake, setUsed, fire, arrive, highest, runTask, clearInto, endRun, ageAll, keptAfter, keep, stepped}
+use Rattle.model.specs.Machine.{awakeAt, usedAt, waitingAt, droppedAt, ageAt, fastestAt, longestGap, setAwake, setUsed, fire, arrive, choose, runTask, clearInto, endRun, ageAll, keptAfter, keep, stepped}
 use Rattle.lemmas.proofs.Tests.{not-both, or-right}
 use Rattle.lemmas.proofs.Bools.{or-off, or-idle-right, and-on, set-false}
 use Rattle.lemmas.proofs.Table.{length-tab, getD-tab}
 use Rattle.theory.proofs.WellFormed.{WellFormed}
 use Rattle.assurance.proofs.Firing.{Sized, Fired, fired, fired-past, getD-task}
 use Rattle.assurance.proofs.Arriving.{comes, Arrived, arrived}
-use Rattle.assurance.proofs.Ending.{highest-le, Cleared, cleared, Aged, aged}
+use Rattle.assurance.proofs.Choosing.{chosen-le}
+use Rattle.assurance.proofs.Ending.{Cleared, cleared, Aged, aged}
 
 -- a task once the run of one has gone on: awake before it, whether the run ended, whether it was this task's, whether the one that ended has a link to it
 abbrev pub awakeAfter : Bool → Bool → Bool → Bool → Bool
@@ -170,14 +172,14 @@ module _ (d : Description) (wf : WellFormed d) where
     pub age : (v : ℕ) → v < d .«source_count» → ageAt m′ v ≡ min (longestGap d v) (cond (getD marks v false) 0 (ageAt m v) + 1)
     pub fastest : (v : ℕ) → v < 16 → fastestAt m′ v ≡ keptAfter t (getD marks v false) (fastestAt m v)
 
-  pub step : (t : ℕ) (marks : List Bool) (finish : Bool) (m : Machine) → Sized m → Stepped t marks (highest d (arrive d marks m)) (overAt d (highest d (arrive d marks m)) finish m) m (stepped d t marks finish m)
+  pub step : (pol : Policy) (t : ℕ) (marks : List Bool) (finish : Bool) (m : Machine) → Sized m → Stepped t marks (choose pol d (arrive d marks m)) (overAt d (choose pol d (arrive d marks m)) finish m) m (stepped pol d t marks finish m)
   unfolding stepped keep
-  step t marks finish m z =
+  step pol t marks finish m z =
       let m₁ : Machine = arrive d marks m in
-      let h : ℕ = highest d m₁ in
+      let h : ℕ = choose pol d m₁ in
       let a : Arrived d marks (d .«source_count») m m₁ = arrived d wf marks m z in
       let same : overAt d h finish m₁ ≡ overAt d h finish m = ap (λ (l : List ℕ). not (eqb h 0) && (eqb (getD l (h - 1) 0 + 1) (runOf d h) || finish)) (a .used) in
-      let r : Ran d h (overAt d h finish m) m₁ (endRun d h finish (runTask h m₁)) = rw same at (ran h finish m₁ (a .sized) (omega (arith, highest-le (m₁ .awake) (d .«task_count»), wf .fields .few-tasks))) in
+      let r : Ran d h (overAt d h finish m) m₁ (endRun d h finish (runTask h m₁)) = rw same at (ran h finish m₁ (a .sized) (omega (arith, chosen-le pol d m₁, wf .fields .few-tasks))) in
       let g : Aged d (d .«source_count») (endRun d h finish (runTask h m₁)) (ageAll d (endRun d h finish (runTask h m₁))) = aged d wf (endRun d h finish (runTask h m₁)) (r .sized) in
       record {
         sized = record { awakes = g .sized .awakes; useds = g .sized .useds; waitings = g .sized .waitings; droppeds = g .sized .droppeds; ages = g .sized .ages; fastests = length-tab 16 _ };

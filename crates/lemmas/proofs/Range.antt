@@ -158,6 +158,19 @@ given-cong false x y h = refl
 pub given-off : (b : Bool) (x : ℕ) → b ≡ false → given b x ≡ 0
 given-off b x e = rw e
 
+-- a test that passes at no two numbers is counted once at most
+pub at-most-one : (p : ℕ → Bool) (a n : ℕ) → ((k k′ : ℕ) → a ≤ k → k < a + n → a ≤ k′ → k′ < a + n → p k ≡ true → p k′ ≡ true → k ≡ k′) → sumN (λ k. given (p k) 1) a n ≤ 1
+unfolding sumN
+at-most-one p a zero h = omega arith
+at-most-one p a (suc n) h =
+    go (p (a + n)) refl (at-most-one p a n (λ k k′ b c b′ c′ e e′. h k k′ b (omega arith) b′ (omega arith) e e′))
+  where
+    go : (b : Bool) → p (a + n) ≡ b → sumN (λ k. given (p k) 1) a n ≤ 1 → sumN (λ k. given (p k) 1) a (suc n) ≤ 1
+    go false e fewer = rw (e, sumN) (omega arith)
+    go true e fewer =
+        let none : sumN (λ k. given (p k) 1) a n ≡ 0 = sumN-zero (λ k. given (p k) 1) a n (λ k b c. given-off (p k) 1 (false-of (p k) (λ f. omega (arith, h k (a + n) b (omega arith) (omega arith) (omega arith) f e)))) in
+        rw (e, sumN) (omega arith)
+
 -- tests over a range
 pub any-at : (p : ℕ → Bool) (a n k : ℕ) → a ≤ k → k < a + n → p k ≡ true → anyN p a n ≡ true
 unfolding anyN

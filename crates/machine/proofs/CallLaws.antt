@@ -12,6 +12,7 @@ use lib.Seq.{ext-getD}
 use lib.Dec.{ltb, leb, eqb}
 use borrow.Author.Tests.{ltb-true, lt-ltb, le-ltb, eqb-true, eqb-false, ne-eqb, leb-true, le-leb}
 use Rattle.model.specs.declared.Description.{Description}
+use Rattle.model.specs.declared.Policy.{Policy}
 use Rattle.model.specs.declared.Machine.{Machine}
 use Rattle.model.specs.declared.Arrivals.{Arrivals}
 use Rattle.model.specs.declared.Ticked.{Ticked}
@@ -24,12 +25,13 @@ use Rattle.model.specs.Graph.{runOf}
 use Rattle.model.specs.Delays.{spacingOf}
 use Rattle.model.specs.File.{judge}
 use Rattle.model.specs.Verdicts.{onKnob, judgeAt}
-use Rattle.model.specs.Machine.{awakeAt, usedAt, ageAt, fastestAt, longestGap, taskRule, linkRule, sourceRule, lawful, arrive, highest, ageAll, keptAfter, keep, stepped, strangers, tooSoon, judgeTick, plainTick}
+use Rattle.model.specs.Machine.{awakeAt, usedAt, ageAt, fastestAt, longestGap, taskRule, linkRule, sourceRule, rulesKept, lawful, arrive, choose, ageAll, keptAfter, keep, stepped, strangers, tooSoon, judgeTick, plainTick}
 use Rattle.model.specs.Run.{heard, marksIn}
-use Rattle.lemmas.proofs.Tests.{not-both, true-of, false-of, both, and-left, and-right, and-false-left, and-false-right, within}
+use Rattle.lemmas.proofs.Tests.{not-both, true-of, false-of, both, or-left, or-else, and-left, and-right, and-false-left, and-false-right, within}
 use Rattle.lemmas.proofs.Range.{all-at, any-at, any-none, none-any}
 use Rattle.theory.proofs.WellFormed.{WellFormed}
 use Rattle.theory.proofs.Spacing.{gap-anti}
+use Rattle.assurance.proofs.Arriving.{arrived}
 use Rattle.assurance.proofs.Stepping.{overAt, Stepped, step}
 use Rattle.sets.specs.Sets.{member}
 use Rattle.spacings.specs.Sources.{sourcesWith, SourcesOf}
@@ -38,7 +40,7 @@ use Rattle.spacings.proofs.SourceLaws.{plain-pulses}
 use Rattle.spacings.proofs.GapLaws.{gap-of}
 use Rattle.steps.specs.declared.words.Words.{Words}
 use Rattle.steps.specs.Parts.{Known, Sourced}
-use Rattle.steps.specs.Words.{Ages, Holds, Keeps, Workable, worked, Above, raisedTo}
+use Rattle.steps.specs.Words.{Ages, Holds, holdsOn, Goes, Keeps, Workable, worked, Above, raisedTo}
 use Rattle.steps.proofs.MaskLaws.{none-above, mark-in, heard-under}
 use Rattle.steps.proofs.StepLaws.{arrive-none, ages-same}
 use Rattle.machine.specs.declared.call.Call.{Call}
@@ -98,15 +100,15 @@ raised-twice s t (suc n) =
     ap (raisedTo t) a ∙ raised-some t (max (suc n) s) (omega arith) ∙ (let q : max (max (suc n) s) t ≡ max (suc n) (max s t) = omega arith in q) ∙ sym (raised-some (max s t) (suc n) (omega arith))
 
 -- the rule of a source in a lawful record
-source-rule : (d : Description) (m : Machine) → WellFormed d → lawful d m ≡ true → (u : ℕ) → u < d .«source_count» → (leb (ageAt m u) (longestGap d u) && cond (eqb (fastestAt m u) 0) (eqb (ageAt m u) (longestGap d u)) (onKnob (fastestAt m u))) ≡ true
-unfolding lawful
+source-rule : (d : Description) (m : Machine) → WellFormed d → rulesKept d m ≡ true → (u : ℕ) → u < d .«source_count» → (leb (ageAt m u) (longestGap d u) && cond (eqb (fastestAt m u) 0) (eqb (ageAt m u) (longestGap d u)) (onKnob (fastestAt m u))) ≡ true
+unfolding rulesKept
 source-rule d m g e u p =
     let r : sourceRule d m u ≡ true = all-at (sourceRule d m) 0 16 (and-right (allN (linkRule d m) 0 256) _ (and-right (allN (taskRule d m) 1 32) _ e)) u (omega arith) (omega (arith, g .fields .few-sources)) in
     rw (lt-ltb u (d .«source_count») p) at r
 
 -- so that a kept tempo is 0 or at least 200
-pub kept-rule : (d : Description) (m : Machine) → WellFormed d → lawful d m ≡ true → (u : ℕ) → u < 16 → (fastestAt m u ≡ 0) ⊎ (200 ≤ fastestAt m u)
-unfolding lawful
+pub kept-rule : (d : Description) (m : Machine) → WellFormed d → rulesKept d m ≡ true → (u : ℕ) → u < 16 → (fastestAt m u ≡ 0) ⊎ (200 ≤ fastestAt m u)
+unfolding rulesKept
 kept-rule d m g e u p = go (ltb u (d .«source_count»)) refl (eqb (fastestAt m u) 0) refl
   where
     rule : sourceRule d m u ≡ true
@@ -126,7 +128,7 @@ pub rests-on : (t peak : ℕ) → 200 ≤ t → t ≤ peak → peak ≤ 3000 →
 rests-on t peak a b c = both (leb 200 t) (leb t 3000) (le-leb 200 t a) (le-leb t 3000 (omega arith))
 
 -- an arrival that is too soon, and none that is
-module _ (d : Description) (t mask peak tick sources : ℕ) (ticks pulses longest since fastest : List ℕ) (w : Words) (m : Machine) (g : WellFormed d) (s : SourcesOf d (sourcesWith sources ticks pulses)) (G : GapsOf d 200 longest) (k : Known d mask) (l : lawful d m ≡ true) (a : Ages d tick since m) (K : Keeps w fastest m) (q : peak ≡ max (w .peak) t) (low : 200 ≤ t) where
+module _ (d : Description) (t mask peak tick sources : ℕ) (ticks pulses longest since fastest : List ℕ) (w : Words) (m : Machine) (g : WellFormed d) (s : SourcesOf d (sourcesWith sources ticks pulses)) (G : GapsOf d 200 longest) (k : Known d mask) (l : rulesKept d m ≡ true) (a : Ages d tick since m) (K : Keeps w fastest m) (q : peak ≡ max (w .peak) t) (low : 200 ≤ t) where
   abbrev due : ℕ → ℕ
   due u = dueBy ticks pulses fastest peak u
 
@@ -193,25 +195,66 @@ used-low d m g j o e = go (leb j (d .«task_count»)) refl
         let h : (not (awakeAt m j) && eqb (usedAt m j) 0) ≡ true = rw f at e in
         omega (arith, eqb-true (usedAt m j) 0 (and-right (not (awakeAt m j)) (eqb (usedAt m j) 0) h))
 
-lawful-low : (d : Description) (m : Machine) → WellFormed d → lawful d m ≡ true → (k : ℕ) → k < 32 → getD (m .used) k 0 ≤ 10000000
-unfolding lawful
+lawful-low : (d : Description) (m : Machine) → WellFormed d → rulesKept d m ≡ true → (k : ℕ) → k < 32 → getD (m .used) k 0 ≤ 10000000
+unfolding rulesKept
 lawful-low d m g e k h =
     let s : 1 + k - 1 ≡ k = omega arith in
     rw s at (used-low d m g (1 + k) (omega arith) (all-at (taskRule d m) 1 32 (and-left (allN (taskRule d m) 1 32) _ e) (1 + k) (omega arith) (omega arith)))
 
--- so that the task that runs may be worked on, other words holding some record with what tasks have used in this one
-pub workable : (d : Description) (w w′ : Words) (used since since′ : List ℕ) (m m′ : Machine) → WellFormed d → lawful d m ≡ true → Holds d w used since m → Holds d w′ used since′ m′ → Workable w′ used
-workable d w w′ used since since′ m m′ g l h h′ = record {
-  low = λ k e. (some k e, omega (arith, h′ .marks .present k e, g .fields .few-tasks));
+-- a record that keeps the rules of its model keeps those of both
+pub lawful-rules : (pol : Policy) (d : Description) (m : Machine) → lawful pol d m ≡ true → rulesKept d m ≡ true
+unfolding lawful
+lawful-rules pol d m e = and-left (rulesKept d m) _ e
+
+-- a task that is part done is awake, and so are those that go on
+part-awake : (d : Description) (m : Machine) (k : ℕ) → taskRule d m k ≡ true → ltb 0 (usedAt m k) ≡ true → awakeAt m k ≡ true
+part-awake d m k e u = go (leb k (d .«task_count»)) refl
+  where
+    used : eqb (usedAt m k) 0 ≡ false
+    used = ne-eqb (usedAt m k) 0 (λ z. omega (arith, ltb-true 0 (usedAt m k) u))
+
+    go : (b : Bool) → leb k (d .«task_count») ≡ b → awakeAt m k ≡ true
+    go true f =
+        let h : (ltb (usedAt m k) (runOf d k) && (awakeAt m k || eqb (usedAt m k) 0)) ≡ true = rw f at e in
+        or-else (awakeAt m k) (eqb (usedAt m k) 0) used (and-right (ltb (usedAt m k) (runOf d k)) _ h)
+    go false f =
+        let h : (not (awakeAt m k) && eqb (usedAt m k) 0) ≡ true = rw f at e in
+        absurd (not-both (and-right (not (awakeAt m k)) (eqb (usedAt m k) 0) h) used)
+
+goes-awake : (pol : Policy) (d : Description) (w : Words) (used since : List ℕ) (m : Machine) → rulesKept d m ≡ true → Goes pol (w .running) used → Holds d w used since m → (k : ℕ) → member (w .running) k ≡ true → (1 ≤ k) × (awakeAt m k ≡ true)
+unfolding rulesKept
+goes-awake pol d w used since m l r h k e =
+    let b = r .low k e in
+    let u : ltb 0 (getD used (k - 1) 0) ≡ true = and-right (holdsOn pol) _ (sym (r .here k (b .0) (b .1)) ∙ e) in
+    (b .0, part-awake d m k (all-at (taskRule d m) 1 32 (and-left (allN (taskRule d m) 1 32) _ l) k (b .0) (omega (arith, b .1))) (ap (λ (us : List ℕ). ltb 0 (getD us (k - 1) 0)) (sym (h .same-used)) ∙ u))
+
+pub going-awake : (pol : Policy) (d : Description) (w : Words) (used since : List ℕ) (m : Machine) → rulesKept d m ≡ true → Goes pol (w .running) used → Holds d w used since m → (k : ℕ) → member (w .running) k ≡ true → member (w .awake) k ≡ true
+going-awake pol d w used since m l r h k e =
+    let b = goes-awake pol d w used since m l r h k e in
+    h .marks .awake k (b .0) ∙ b .1
+
+-- so that the task that runs may be worked on, other words holding some record with what tasks have used in this one, in which no fewer are awake
+pub workable : (pol : Policy) (d : Description) (w w′ : Words) (used since since′ : List ℕ) (m m′ : Machine) → WellFormed d → rulesKept d m ≡ true → Goes pol (w .running) used → w′ .running ≡ w .running → ((k : ℕ) → 1 ≤ k → awakeAt m k ≡ true → awakeAt m′ k ≡ true) → Holds d w used since m → Holds d w′ used since′ m′ → Workable w′ used
+workable pol d w w′ used since since′ m m′ g l r e still h h′ = record {
+  low = λ k f. (some k f, omega (arith, h′ .marks .present k f, g .fields .few-tasks));
+  going = λ k f. let b = goes-awake pol d w used since m l r h k (sym (ap (λ s. member s k) e) ∙ f) in h′ .marks .awake k (b .0) ∙ still k (b .0) (b .1);
   countable = λ k p. let q : getD used k 0 ≡ getD (m .used) k 0 = ap (λ (us : List ℕ). getD us k 0) (h .same-used) in omega (arith, lawful-low d m g l k p);
 }
   where
     some : (k : ℕ) → member (w′ .awake) k ≡ true → 1 ≤ k
-    some zero e = absurd (not-both e (h′ .marks .no-zero))
-    some (suc k) e = omega arith
+    some zero f = absurd (not-both f (h′ .marks .no-zero))
+    some (suc k) f = omega arith
+
+-- words hold as many numbers as there may be tasks
+pub same-length : {d : Description} {w : Words} {used since : List ℕ} {m : Machine} → Holds d w used since m → length used ≡ 32
+same-length h = ap (λ (us : List ℕ). length us) (h .same-used) ∙ h .marks .sized .useds
+
+-- arrivals wake, and put none to sleep
+pub arrive-still : (d : Description) (marks : List Bool) (w : Words) (used since : List ℕ) (m : Machine) → WellFormed d → Holds d w used since m → (k : ℕ) → 1 ≤ k → awakeAt m k ≡ true → awakeAt (arrive d marks m) k ≡ true
+arrive-still d marks w used since m g h k o e = arrived d g marks m (h .marks .sized) .awake k o ∙ or-left (awakeAt m k) _ e
 
 -- and kept tempos are on the knob
-kept-most : (d : Description) (w : Words) (fastest : List ℕ) (m : Machine) → WellFormed d → lawful d m ≡ true → Keeps w fastest m → (u : ℕ) → u < d .«source_count» → getD fastest u 0 ≤ 3000
+kept-most : (d : Description) (w : Words) (fastest : List ℕ) (m : Machine) → WellFormed d → rulesKept d m ≡ true → Keeps w fastest m → (u : ℕ) → u < d .«source_count» → getD fastest u 0 ≤ 3000
 kept-most d w fastest m g e K u p = go (getD fastest u 0) refl
   where
     here : fastestAt m u ≡ raisedTo (w .peak) (getD fastest u 0)
@@ -226,8 +269,8 @@ kept-most d w fastest m g e K u p = go (getD fastest u 0) refl
         omega (arith, within 200 (fastestAt m u) 3000 o .1)
 
 -- so that the spacings of arriving sources can be worked out
-pub timed : (d : Description) (t mask peak sources : ℕ) (w : Words) (rows runs ticks pulses longest used since fastest tempos gaps : List ℕ) (m : Machine) → TablesOf d rows runs ticks pulses longest sources → Tracks d w used since fastest m → lawful d m ≡ true → w .tick < 2 ^ 63 → Asked ticks pulses tempos gaps → Sourced mask → Known d mask → onKnob t ≡ true → peak ≡ max (w .peak) t → Timed mask peak ticks pulses since fastest tempos gaps
-timed d t mask peak sources w rows runs ticks pulses longest used since fastest tempos gaps m T R l early asked sourced k knob q = record {
+pub timed : (pol : Policy) (d : Description) (t mask peak sources : ℕ) (w : Words) (rows runs ticks pulses longest used since fastest tempos gaps : List ℕ) (m : Machine) → TablesOf d rows runs ticks pulses longest sources → Tracks pol d w used since fastest m → rulesKept d m ≡ true → w .tick < 2 ^ 63 → Asked ticks pulses tempos gaps → Sourced mask → Known d mask → onKnob t ≡ true → peak ≡ max (w .peak) t → Timed mask peak ticks pulses since fastest tempos gaps
+timed pol d t mask peak sources w rows runs ticks pulses longest used since fastest tempos gaps m T R l early asked sourced k knob q = record {
   sourced = sourced;
   at = λ u e. record {
     here = sourced u e;
@@ -248,23 +291,23 @@ pub judged-at : (d : Description) (t : ℕ) → judge d ≡ Done → onKnob t �
 unfolding judgeAt
 judged-at d t j k = rw (j, k) refl
 
-pub tick-off : (d : Description) (t : ℕ) (m : Machine) (a : Arrivals) (finish : Bool) → judge d ≡ Done → onKnob t ≡ false → record { outcome = Refused OffKnob 0; machine = m } ≡ plainTick d t m a finish
+pub tick-off : (pol : Policy) (d : Description) (t : ℕ) (m : Machine) (a : Arrivals) (finish : Bool) → judge d ≡ Done → onKnob t ≡ false → record { outcome = Refused OffKnob 0; machine = m } ≡ plainTick pol d t m a finish
 unfolding plainTick judgeTick judgeAt
-tick-off d t m a finish j k = rw (j, k) refl
+tick-off pol d t m a finish j k = rw (j, k) refl
 
 -- the answers of the tick call, the description being judged
-pub tick-foreign : (d : Description) (t : ℕ) (m : Machine) (a : Arrivals) (finish : Bool) → judgeAt d t ≡ Done → lawful d m ≡ false → record { outcome = Refused ForeignState 0; machine = m } ≡ plainTick d t m a finish
+pub tick-foreign : (pol : Policy) (d : Description) (t : ℕ) (m : Machine) (a : Arrivals) (finish : Bool) → judgeAt d t ≡ Done → lawful pol d m ≡ false → record { outcome = Refused ForeignState 0; machine = m } ≡ plainTick pol d t m a finish
 unfolding plainTick judgeTick
-tick-foreign d t m a finish e l = rw (e, l) refl
+tick-foreign pol d t m a finish e l = rw (e, l) refl
 
 -- it ends as its arrivals do
-pub tick-refused : (d : Description) (t mask : ℕ) (m : Machine) (finish : Bool) (r : Refusal) (place : ℕ) → judgeAt d t ≡ Done → lawful d m ≡ true → arrivalsEnd d t mask m ≡ Refused r place → record { outcome = Refused r place; machine = m } ≡ plainTick d t m (record { marks = marksIn mask }) finish
+pub tick-refused : (pol : Policy) (d : Description) (t mask : ℕ) (m : Machine) (finish : Bool) (r : Refusal) (place : ℕ) → judgeAt d t ≡ Done → lawful pol d m ≡ true → arrivalsEnd d t mask m ≡ Refused r place → record { outcome = Refused r place; machine = m } ≡ plainTick pol d t m (record { marks = marksIn mask }) finish
 unfolding plainTick judgeTick
-tick-refused d t mask m finish r place e l a = rw (e, l, a) refl
+tick-refused pol d t mask m finish r place e l a = rw (e, l, a) refl
 
-pub tick-done : (d : Description) (t mask : ℕ) (m : Machine) (finish : Bool) → judgeAt d t ≡ Done → lawful d m ≡ true → arrivalsEnd d t mask m ≡ Done → record { outcome = Done; machine = stepped d t (marksIn mask) finish m } ≡ plainTick d t m (record { marks = marksIn mask }) finish
+pub tick-done : (pol : Policy) (d : Description) (t mask : ℕ) (m : Machine) (finish : Bool) → judgeAt d t ≡ Done → lawful pol d m ≡ true → arrivalsEnd d t mask m ≡ Done → record { outcome = Done; machine = stepped pol d t (marksIn mask) finish m } ≡ plainTick pol d t m (record { marks = marksIn mask }) finish
 unfolding plainTick judgeTick
-tick-done d t mask m finish e l a = rw (e, l, a) refl
+tick-done pol d t mask m finish e l a = rw (e, l, a) refl
 
 -- their ends
 pub end-stranger : (d : Description) (t mask : ℕ) (m : Machine) → strangers d (marksIn mask) ≡ true → Refused Stranger 0 ≡ arrivalsEnd d t mask m
@@ -331,9 +374,9 @@ arrived-keeps t mask peak w w′ fastest fastest′ m low high q k K z fired oth
     above u p false e = rest u (getD fastest u 0) (others (K .above) u p e)
 
 -- the words hold what the steps make of a record, and the tempos those that it keeps
-pub tracked : (d : Description) (t mask : ℕ) (finish : Bool) (w w₁ w₂ : Words) (used used′ since since′ fastest fastest′ : List ℕ) (m : Machine) → WellFormed d → t ≤ 3000 → Tracks d w used since fastest m → KeepsAfter t mask w₁ fastest′ m → w₂ .low ≡ w₁ .low → w₂ .peak ≡ max (w₁ .peak) t → Holds d w₂ used′ since′ (ageAll d (worked d finish (arrive d (marksIn mask) m))) → Tracks d w₂ used′ since′ fastest′ (stepped d t (marksIn mask) finish m)
+pub tracked : (pol : Policy) (d : Description) (t mask : ℕ) (finish : Bool) (w w₁ w₂ : Words) (used used′ since since′ fastest fastest′ : List ℕ) (m : Machine) → WellFormed d → t ≤ 3000 → Tracks pol d w used since fastest m → KeepsAfter t mask w₁ fastest′ m → w₂ .low ≡ w₁ .low → w₂ .peak ≡ max (w₁ .peak) t → Goes pol (w₂ .running) used′ → Holds d w₂ used′ since′ (ageAll d (worked pol d finish (arrive d (marksIn mask) m))) → Tracks pol d w₂ used′ since′ fastest′ (stepped pol d t (marksIn mask) finish m)
 unfolding stepped keep
-tracked d t mask finish w w₁ w₂ used used′ since since′ fastest fastest′ m g high R K a b h = record {
+tracked pol d t mask finish w w₁ w₂ used used′ since since′ fastest fastest′ m g high R K a b r h = record {
   holds = record {
     marks = record {
       sized = T .sized;
@@ -344,8 +387,9 @@ tracked d t mask finish w w₁ w₂ used used′ since since′ fastest fastest�
       dropped = h .marks .dropped;
     };
     same-used = h .same-used;
-    ages = ages-same d (w₂ .tick) since′ (ageAll d (worked d finish (arrive d (marksIn mask) m))) (stepped d t (marksIn mask) finish m) refl (h .ages);
+    ages = ages-same d (w₂ .tick) since′ (ageAll d (worked pol d finish (arrive d (marksIn mask) m))) (stepped pol d t (marksIn mask) finish m) refl (h .ages);
   };
+  goes = r;
   keeps = record {
     many = K .many;
     here = λ u p. T .fastest u p ∙ sym (K .here u p) ∙ ap (λ x. raisedTo x (getD fastest′ u 0)) (sym b);
@@ -355,21 +399,21 @@ tracked d t mask finish w w₁ w₂ used used′ since since′ fastest fastest�
   };
 }
   where
-    T : Stepped d g t (marksIn mask) (highest d (arrive d (marksIn mask) m)) (overAt d (highest d (arrive d (marksIn mask) m)) finish m) m (stepped d t (marksIn mask) finish m)
-    T = step d g t (marksIn mask) finish m (R .holds .marks .sized)
+    T : Stepped d g t (marksIn mask) (choose pol d (arrive d (marksIn mask) m)) (overAt d (choose pol d (arrive d (marksIn mask) m)) finish m) m (stepped pol d t (marksIn mask) finish m)
+    T = step d g pol t (marksIn mask) finish m (R .holds .marks .sized)
 
 -- kept tempos raised to the fastest given are the record's
-pub raised-same : (d : Description) (w : Words) (used since fastest fastest′ : List ℕ) (m : Machine) → Tracks d w used since fastest m → length fastest′ ≡ 16 → ((u : ℕ) → u < 16 → getD fastest′ u 0 ≡ raisedTo (w .peak) (getD fastest u 0)) → fastest′ ≡ m .fastest
-raised-same d w used since fastest fastest′ m R z h =
+pub raised-same : (pol : Policy) (d : Description) (w : Words) (used since fastest fastest′ : List ℕ) (m : Machine) → Tracks pol d w used since fastest m → length fastest′ ≡ 16 → ((u : ℕ) → u < 16 → getD fastest′ u 0 ≡ raisedTo (w .peak) (getD fastest u 0)) → fastest′ ≡ m .fastest
+raised-same pol d w used since fastest fastest′ m R z h =
     ext-getD 0 fastest′ (m .fastest) (z ∙ sym (R .holds .marks .sized .fastests)) (λ u p. h u (omega arith) ∙ sym (R .keeps .here u (omega arith)))
 
 -- a refused call leaves all as it was, and ends as the plain machine's
-pub refused-advances : (rows runs ticks pulses longest : List ℕ) (sources : ℕ) (call : Call) (w : Words) (used since fastest tempos gaps : List ℕ) (o : Outcome) (r : Advanced) → r ≡ record { outcome = o; words = w } → ((d : Description) (m : Machine) → TablesOf d rows runs ticks pulses longest sources → judge d ≡ Done → lawful d m ≡ true → Tracks d w used since fastest m → record { outcome = o; machine = m } ≡ plainAnswer d m call) → Asked ticks pulses tempos gaps
-    → Advances rows runs ticks pulses longest sources call w used since fastest r used since fastest tempos gaps
-refused-advances rows runs ticks pulses longest sources call w used since fastest tempos gaps o r e plain asked = record {
+pub refused-advances : (pol : Policy) (rows runs ticks pulses longest : List ℕ) (sources : ℕ) (call : Call) (w : Words) (used since fastest tempos gaps : List ℕ) (o : Outcome) (r : Advanced) → r ≡ record { outcome = o; words = w } → ((d : Description) (m : Machine) → TablesOf d rows runs ticks pulses longest sources → judge d ≡ Done → lawful pol d m ≡ true → Tracks pol d w used since fastest m → record { outcome = o; machine = m } ≡ plainAnswer pol d m call) → Asked ticks pulses tempos gaps
+    → Advances pol rows runs ticks pulses longest sources call w used since fastest r used since fastest tempos gaps
+refused-advances pol rows runs ticks pulses longest sources call w used since fastest tempos gaps o r e plain asked = record {
   ends = λ d m T j l R. ap (λ (x : Advanced). x .outcome) e ∙ ap (λ (x : Ticked). x .outcome) (plain d m T j l R);
   leaves = λ d m T j l R.
-      subst (λ (k : Machine). Tracks d (r .words) used since fastest k) (ap (λ (x : Ticked). x .machine) (plain d m T j l R)) (subst (λ (k : Words). Tracks d k used since fastest m) (sym (ap (λ (x : Advanced). x .words) e)) R);
+      subst (λ (k : Machine). Tracks pol d (r .words) used since fastest k) (ap (λ (x : Ticked). x .machine) (plain d m T j l R)) (subst (λ (k : Words). Tracks pol d k used since fastest m) (sym (ap (λ (x : Advanced). x .words) e)) R);
   asked = asked;
   soon = let q : r .words .tick ≡ w .tick = ap (λ (x : Advanced). x .words .tick) e in omega arith;
 }

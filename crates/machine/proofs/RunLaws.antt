@@ -9,6 +9,7 @@ use lib.ListN.{length, getD, set, take, drop}
 use lib.Seq.{take-all}
 use borrow.Author.Tests.{lt-ltb, le-ltb}
 use Rattle.model.specs.declared.Description.{Description}
+use Rattle.model.specs.declared.Policy.{Policy}
 use Rattle.model.specs.declared.Machine.{Machine}
 use Rattle.model.specs.declared.Refusal.the-variants.{ShortPage}
 use Rattle.model.specs.declared.Outcome.the-variants.{Done, Refused}
@@ -30,53 +31,53 @@ pub calls-at : (bytes : List ℕ) (i : ℕ) → i < length bytes / 6 → callAt 
 calls-at bytes i h = getD-tab (length bytes / 6) (callIn bytes) quietCall i h
 
 -- the record after one call more, and that call's code
-pub left-more : (d : Description) (cs : List Call) (m : Machine) (i : ℕ) → i < length cs → left d m (take (i + 1) cs) ≡ plainCall d (left d m (take i cs)) (callAt cs i) .machine
+pub left-more : (pol : Policy) (d : Description) (cs : List Call) (m : Machine) (i : ℕ) → i < length cs → left pol d m (take (i + 1) cs) ≡ plainCall pol d (left pol d m (take i cs)) (callAt cs i) .machine
 unfolding left
-left-more d cs m i h = rw add-one (go cs m i h)
+left-more pol d cs m i h = rw add-one (go cs m i h)
   where
-    go : (cs : List Call) (m : Machine) (i : ℕ) → i < length cs → left d m (take (suc i) cs) ≡ plainCall d (left d m (take i cs)) (callAt cs i) .machine
+    go : (cs : List Call) (m : Machine) (i : ℕ) → i < length cs → left pol d m (take (suc i) cs) ≡ plainCall pol d (left pol d m (take i cs)) (callAt cs i) .machine
     go [] m i h = absurd (omega arith)
     go (c ∷ cs) m zero h = refl
-    go (c ∷ cs) m (suc i) h = go cs (plainCall d m c .machine) i (omega arith)
+    go (c ∷ cs) m (suc i) h = go cs (plainCall pol d m c .machine) i (omega arith)
 
-pub code-at : (d : Description) (cs : List Call) (m : Machine) (i : ℕ) → i < length cs → getD (codes (answers d m cs)) i 0 ≡ ofOutcome (plainCall d (left d m (take i cs)) (callAt cs i) .outcome) .number
+pub code-at : (pol : Policy) (d : Description) (cs : List Call) (m : Machine) (i : ℕ) → i < length cs → getD (codes (answers pol d m cs)) i 0 ≡ ofOutcome (plainCall pol d (left pol d m (take i cs)) (callAt cs i) .outcome) .number
 unfolding codes answers left
-code-at d [] m i h = absurd (omega arith)
-code-at d (c ∷ cs) m zero h = refl
-code-at d (c ∷ cs) m (suc i) h = code-at d cs (plainCall d m c .machine) i (omega arith)
+code-at pol d [] m i h = absurd (omega arith)
+code-at pol d (c ∷ cs) m zero h = refl
+code-at pol d (c ∷ cs) m (suc i) h = code-at pol d cs (plainCall pol d m c .machine) i (omega arith)
 
-pub codes-length : (d : Description) (cs : List Call) (m : Machine) → length (codes (answers d m cs)) ≡ length cs
+pub codes-length : (pol : Policy) (d : Description) (cs : List Call) (m : Machine) → length (codes (answers pol d m cs)) ≡ length cs
 unfolding codes answers
-codes-length d [] m = refl
-codes-length d (c ∷ cs) m = ap suc (codes-length d cs (plainCall d m c .machine))
+codes-length pol d [] m = refl
+codes-length pol d (c ∷ cs) m = ap suc (codes-length pol d cs (plainCall pol d m c .machine))
 
 -- one turn of a run
-pub run-left : (d : Description) (cs : List Call) (m : Machine) (i : ℕ) (c : Call) → i < length cs → callAt cs i ≡ c → plainCall d (left d m (take i cs)) c .machine ≡ left d m (take (i + 1) cs)
-run-left d cs m i c h q = sym (rw q at (left-more d cs m i h))
+pub run-left : (pol : Policy) (d : Description) (cs : List Call) (m : Machine) (i : ℕ) (c : Call) → i < length cs → callAt cs i ≡ c → plainCall pol d (left pol d m (take i cs)) c .machine ≡ left pol d m (take (i + 1) cs)
+run-left pol d cs m i c h q = sym (rw q at (left-more pol d cs m i h))
 
-pub run-code : (d : Description) (cs : List Call) (m : Machine) (i : ℕ) (c : Call) → i < length cs → callAt cs i ≡ c → ofOutcome (plainCall d (left d m (take i cs)) c .outcome) .number ≡ getD (codes (answers d m cs)) i 0
-run-code d cs m i c h q = sym (rw q at (code-at d cs m i h))
+pub run-code : (pol : Policy) (d : Description) (cs : List Call) (m : Machine) (i : ℕ) (c : Call) → i < length cs → callAt cs i ≡ c → ofOutcome (plainCall pol d (left pol d m (take i cs)) c .outcome) .number ≡ getD (codes (answers pol d m cs)) i 0
+run-code pol d cs m i c h q = sym (rw q at (code-at pol d cs m i h))
 
 pub store-turn : (out out₁ text : List ℕ) (i code : ℕ) → i < length out → i < length text → out₁ ≡ take i text ++ drop i out → code ≡ getD text i 0 → set out₁ i code ≡ take (i + 1) text ++ drop (i + 1) out
 store-turn out out₁ text i code a b e f = rw (e, f) (store-more out text i a b)
 
 -- the run's answer and its buffer, where the buffer is too short and where it is not
-pub ran-short : (d : Description) (cs : List Call) (buffer : List ℕ) → length buffer < length cs → record { outcome = Refused ShortPage 0; machine = blankMachine } ≡ ranFrom d cs buffer
-ran-short d cs buffer h = rw (lt-ltb (length buffer) (length cs) h) refl
+pub ran-short : (pol : Policy) (d : Description) (cs : List Call) (buffer : List ℕ) → length buffer < length cs → record { outcome = Refused ShortPage 0; machine = blankMachine } ≡ ranFrom pol d cs buffer
+ran-short pol d cs buffer h = rw (lt-ltb (length buffer) (length cs) h) refl
 
-pub ran-whole : (d : Description) (cs : List Call) (buffer : List ℕ) (m : Machine) → length cs ≤ length buffer → m ≡ left d (idle d) cs → record { outcome = Done; machine = m } ≡ ranFrom d cs buffer
-ran-whole d cs buffer m h e = rw (le-ltb (length buffer) (length cs) h, e) refl
+pub ran-whole : (pol : Policy) (d : Description) (cs : List Call) (buffer : List ℕ) (m : Machine) → length cs ≤ length buffer → m ≡ left pol d (idle d) cs → record { outcome = Done; machine = m } ≡ ranFrom pol d cs buffer
+ran-whole pol d cs buffer m h e = rw (le-ltb (length buffer) (length cs) h, e) refl
 
-pub filled-short : (d : Description) (cs : List Call) (buffer : List ℕ) → length buffer < length cs → buffer ≡ filledBy (page d cs) buffer
+pub filled-short : (pol : Policy) (d : Description) (cs : List Call) (buffer : List ℕ) → length buffer < length cs → buffer ≡ filledBy (page pol d cs) buffer
 unfolding filledBy
-filled-short d cs buffer h = rw (codes-length d cs (idle d), lt-ltb (length buffer) (length cs) h) refl
+filled-short pol d cs buffer h = rw (codes-length pol d cs (idle d), lt-ltb (length buffer) (length cs) h) refl
 
-pub filled-whole : (d : Description) (cs : List Call) (buffer : List ℕ) → length cs ≤ length buffer → take (length cs) (page d cs) ++ drop (length cs) buffer ≡ filledBy (page d cs) buffer
+pub filled-whole : (pol : Policy) (d : Description) (cs : List Call) (buffer : List ℕ) → length cs ≤ length buffer → take (length cs) (page pol d cs) ++ drop (length cs) buffer ≡ filledBy (page pol d cs) buffer
 unfolding filledBy
-filled-whole d cs buffer h =
-    let e : length (page d cs) ≡ length cs = codes-length d cs (idle d) in
-    rw (take-all (length cs) (page d cs) (omega (arith, e)), e, le-ltb (length buffer) (length cs) h) refl
+filled-whole pol d cs buffer h =
+    let e : length (page pol d cs) ≡ length cs = codes-length pol d cs (idle d) in
+    rw (take-all (length cs) (page pol d cs) (omega (arith, e)), e, le-ltb (length buffer) (length cs) h) refl
 
 -- the record before each call keeps the rules
-pub kept : (d : Description) (cs : List Call) (m : Machine) → WellFormed d → m ≡ left d (idle d) cs → lawful d m ≡ true
-kept d cs m g e = ap (lawful d) e ∙ rules-kept d g cs
+pub kept : (pol : Policy) (d : Description) (cs : List Call) (m : Machine) → WellFormed d → m ≡ left pol d (idle d) cs → lawful pol d m ≡ true
+kept pol d cs m g e = ap (lawful pol d) e ∙ rules-kept pol d g cs

@@ -9,10 +9,11 @@ use lib.ListN.{getD, length}
 use lib.Dec.{ltb}
 use borrow.Author.Tests.{lt-ltb, ltb-true}
 use Rattle.model.specs.declared.Description.{Description}
+use Rattle.model.specs.declared.Policy.{Policy}
 use Rattle.model.specs.declared.Machine.{Machine}
 use Rattle.model.specs.declared.Ticked.{Ticked}
 use Rattle.model.specs.declared.Outcome.{Outcome}
-use Rattle.model.specs.Machine.{fastestAt, lawful}
+use Rattle.model.specs.Machine.{fastestAt, rulesKept}
 use Rattle.lemmas.proofs.Tests.{and-left}
 use Rattle.lemmas.proofs.Table.{is-tab}
 use Rattle.theory.proofs.WellFormed.{WellFormed}
@@ -42,9 +43,10 @@ tables-of d w s longest r h g = record {
 }
 
 -- the words of a record that keeps the rules, beside its kept tempos
-pub packed-tracks : (d : Description) (m : Machine) (w : Words) (since : List ℕ) → WellFormed d → lawful d m ≡ true → Packs m w since → Tracks d w (m .used) since (m .fastest) m
-packed-tracks d m w since g l p = record {
+pub packed-tracks : (pol : Policy) (d : Description) (m : Machine) (w : Words) (since : List ℕ) → WellFormed d → rulesKept d m ≡ true → Packs pol m w since → Tracks pol d w (m .used) since (m .fastest) m
+packed-tracks pol d m w since g l p = record {
   holds = p .holds d g l;
+  goes = p .goes;
   keeps = record {
     many = p .holds d g l .marks .sized .fastests;
     here = λ u h. at (fastestAt m u) (kept-rule d m g l u h);

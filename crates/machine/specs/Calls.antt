@@ -6,6 +6,7 @@ use mathlib.Core.Path.{_≡_}
 use mathlib.Core.Logic.{_⊎_}
 use lib.ListN.{getD, length}
 use Rattle.model.specs.declared.Description.{Description}
+use Rattle.model.specs.declared.Policy.{Policy}
 use Rattle.model.specs.declared.Machine.{Machine}
 use Rattle.model.specs.declared.Arrivals.{Arrivals}
 use Rattle.model.specs.declared.Ticked.{Ticked}
@@ -14,7 +15,7 @@ use Rattle.model.specs.declared.Outcome.the-variants.{Done, Refused}
 use Rattle.model.specs.declared.Refusal.the-variants.{Stranger, TooSoon}
 use Rattle.model.specs.File.{judge}
 use Rattle.model.specs.Verdicts.{judgeAt}
-use Rattle.model.specs.Machine.{fastestAt, ageAll, keptAfter, lawful, strangers, tooSoon, plainTick}
+use Rattle.model.specs.Machine.{fastestAt, ageAll, keptAfter, rulesKept, lawful, strangers, tooSoon, plainTick}
 use Rattle.model.specs.History.{plainCall}
 use Rattle.model.specs.Run.{heard, marksIn, callOf}
 use Rattle.theory.proofs.WellFormed.{WellFormed}
@@ -25,7 +26,7 @@ use Rattle.spacings.specs.Sources.{spacingBy, sourcesWith, SourcesOf}
 use Rattle.spacings.specs.Gaps.{Asked, GapsOf}
 use Rattle.steps.specs.declared.words.Words.{Words}
 use Rattle.steps.specs.Parts.{Known, Sourced}
-use Rattle.steps.specs.Words.{Ages, Holds, Keeps, Above, raisedTo, worked}
+use Rattle.steps.specs.Words.{Ages, Holds, Goes, Keeps, Above, raisedTo, worked}
 use Rattle.machine.specs.declared.call.Call.{Call}
 use Rattle.machine.specs.declared.call.Advanced.{Advanced}
 
@@ -39,8 +40,9 @@ pub record TablesOf (d : Description) (rows runs ticks pulses longest : List ℕ
   pub spaced : GapsOf d 200 longest
 
 -- the words and tables that hold a whole record
-pub record Tracks (d : Description) (w : Words) (used since fastest : List ℕ) (m : Machine) : Type 0 where
+pub record Tracks (p : Policy) (d : Description) (w : Words) (used since fastest : List ℕ) (m : Machine) : Type 0 where
   pub holds : Holds d w used since m
+  pub goes : Goes p (w .running) used
   pub keeps : Keeps w fastest m
 
 -- a source's numbers are such that its spacing can be worked out
@@ -70,15 +72,16 @@ pub record Timed (mask peak : ℕ) (ticks pulses since fastest tempos gaps : Lis
 
 -- whether an arriving source comes too soon, peak being the fastest tempo given since the last arrival
 pub record SoonIs (mask peak : ℕ) (ticks pulses longest since fastest : List ℕ) (tick : ℕ) (r : Bool) (tempos′ gaps′ : List ℕ) : Type 0 where
-  pub told : (d : Description) (t sources : ℕ) (w : Words) (m : Machine) → WellFormed d → SourcesOf d (sourcesWith sources ticks pulses) → GapsOf d 200 longest → Known d mask → lawful d m ≡ true
+  pub told : (d : Description) (t sources : ℕ) (w : Words) (m : Machine) → WellFormed d → SourcesOf d (sourcesWith sources ticks pulses) → GapsOf d 200 longest → Known d mask → rulesKept d m ≡ true
       → Ages d tick since m → Keeps w fastest m → peak ≡ max (w .peak) t → 200 ≤ t → r ≡ tooSoon d t (marksIn mask) m
   pub asked : Asked ticks pulses tempos′ gaps′
 
 -- steps 2 to 4 are made
-pub record RunsOn (rows runs : List ℕ) (finish : Bool) (w : Words) (used : List ℕ) (r : Advanced) (used′ : List ℕ) : Type 0 where
+pub record RunsOn (p : Policy) (rows runs : List ℕ) (finish : Bool) (w : Words) (used : List ℕ) (r : Advanced) (used′ : List ℕ) : Type 0 where
   pub done : r .outcome ≡ Done
   pub ran : (d : Description) (since : List ℕ) (m : Machine) → WellFormed d → RowsOf d (d .«link_count») rows → runs ≡ d .runs
-      → Holds d w used since m → Holds d (r .words) used′ since (ageAll d (worked d finish m))
+      → Goes p (w .running) used → Holds d w used since m → Holds d (r .words) used′ since (ageAll d (worked p d finish m))
+  pub goes : length used ≡ 32 → Goes p (w .running) used → Goes p (r .words .running) used′
   pub then : r .words .tick ≡ w .tick + 1
   pub knob : (r .words .low ≡ w .low) × (r .words .peak ≡ w .peak)
 
@@ -98,27 +101,27 @@ arrivalsEnd d t mask m =
     Done)
 
 -- a call may be made: its tables are those of some accepted description, and the words hold a record that keeps the rules
-pub record Going (rows runs ticks pulses longest : List ℕ) (sources mask : ℕ) (w : Words) (used since fastest tempos gaps : List ℕ) : Type 0 where
+pub record Going (p : Policy) (rows runs ticks pulses longest : List ℕ) (sources mask : ℕ) (w : Words) (used since fastest tempos gaps : List ℕ) : Type 0 where
   pub description : Description
   pub machine : Machine
   pub tables : TablesOf description rows runs ticks pulses longest sources
-  pub tracks : Tracks description w used since fastest machine
-  pub keeps : lawful description machine ≡ true
+  pub tracks : Tracks p description w used since fastest machine
+  pub keeps : lawful p description machine ≡ true
   pub sourced : Sourced mask
   pub fits : mask < 2 ^ 64
   pub early : w .tick < 2 ^ 63
   pub asked : Asked ticks pulses tempos gaps
 
 -- the plain machine's answer to a call
-abbrev pub plainAnswer : Description → Machine → Call → Ticked
-plainAnswer d m call = plainCall d m (callOf (call .mask) (call .tempo) (call .finish))
+abbrev pub plainAnswer : Policy → Description → Machine → Call → Ticked
+plainAnswer p d m call = plainCall p d m (callOf (call .mask) (call .tempo) (call .finish))
 
 -- the call ends as the plain machine's, and its words hold the record which that leaves
-pub record Advances (rows runs ticks pulses longest : List ℕ) (sources : ℕ) (call : Call) (w : Words) (used since fastest : List ℕ) (r : Advanced) (used′ since′ fastest′ tempos′ gaps′ : List ℕ) : Type 0 where
-  pub ends : (d : Description) (m : Machine) → TablesOf d rows runs ticks pulses longest sources → judge d ≡ Done → lawful d m ≡ true → Tracks d w used since fastest m
-      → r .outcome ≡ plainAnswer d m call .outcome
-  pub leaves : (d : Description) (m : Machine) → TablesOf d rows runs ticks pulses longest sources → judge d ≡ Done → lawful d m ≡ true → Tracks d w used since fastest m
-      → Tracks d (r .words) used′ since′ fastest′ (plainAnswer d m call .machine)
+pub record Advances (p : Policy) (rows runs ticks pulses longest : List ℕ) (sources : ℕ) (call : Call) (w : Words) (used since fastest : List ℕ) (r : Advanced) (used′ since′ fastest′ tempos′ gaps′ : List ℕ) : Type 0 where
+  pub ends : (d : Description) (m : Machine) → TablesOf d rows runs ticks pulses longest sources → judge d ≡ Done → lawful p d m ≡ true → Tracks p d w used since fastest m
+      → r .outcome ≡ plainAnswer p d m call .outcome
+  pub leaves : (d : Description) (m : Machine) → TablesOf d rows runs ticks pulses longest sources → judge d ≡ Done → lawful p d m ≡ true → Tracks p d w used since fastest m
+      → Tracks p d (r .words) used′ since′ fastest′ (plainAnswer p d m call .machine)
   pub asked : Asked ticks pulses tempos′ gaps′
   pub soon : r .words .tick ≤ w .tick + 1
 
@@ -131,6 +134,6 @@ pub record Accepted (w : Wiring) (s : Sources) (longest : List ℕ) : Type 0 whe
   pub judged : judge description ≡ Done
 
 -- the tick call, the description being judged at its tempo
-abbrev pub TickIs : Wiring → Sources → List ℕ → ℕ → Machine → Arrivals → Bool → Ticked → Type 0
-TickIs w s longest t m a finish r =
-    (d : Description) → WiringOf d w → SourcesOf d s → GapsOf d 200 longest → judgeAt d t ≡ Done → r ≡ plainTick d t m a finish
+abbrev pub TickIs : Policy → Wiring → Sources → List ℕ → ℕ → Machine → Arrivals → Bool → Ticked → Type 0
+TickIs p w s longest t m a finish r =
+    (d : Description) → WiringOf d w → SourcesOf d s → GapsOf d 200 longest → judgeAt d t ≡ Done → r ≡ plainTick p d t m a finish

@@ -4,6 +4,7 @@ use mathlib.Core.List.{List, _++_}
 use mathlib.Core.Path.{_≡_}
 use lib.ListN.{length, getD, take, drop}
 use Rattle.model.specs.declared.Description.{Description}
+use Rattle.model.specs.declared.Policy.{Policy}
 use Rattle.model.specs.declared.Ticked.{Ticked}
 use Rattle.model.specs.declared.Outcome.the-variants.{Done}
 use Rattle.model.specs.Field.{numberIn}
@@ -33,13 +34,13 @@ pub record Skips (calls : List ℕ) (from n peak : ℕ) (outcomes : List ℕ) (r
 
 -- words so many ticks later
 abbrev pub laterBy : ℕ → Words → Words
-laterBy k w = record { awake = w .awake; waiting = w .waiting; dropped = w .dropped; tick = w .tick + k; low = w .low; peak = w .peak }
+laterBy k w = record { awake = w .awake; running = w .running; waiting = w .waiting; dropped = w .dropped; tick = w .tick + k; low = w .low; peak = w .peak }
 
 -- the record after the last call, or 13; and the codes of the calls in the buffer
-abbrev pub RunOf : Description → List Call → List ℕ → List ℕ → Ticked → Type 0
-RunOf d cs buffer buffer′ r = (r ≡ ranFrom d cs buffer) × (buffer′ ≡ filledBy (page d cs) buffer)
+abbrev pub RunOf : Policy → Description → List Call → List ℕ → List ℕ → Ticked → Type 0
+RunOf p d cs buffer buffer′ r = (r ≡ ranFrom p d cs buffer) × (buffer′ ≡ filledBy (page p d cs) buffer)
 
 -- the same of every accepted description whose tables are given
-abbrev pub RunIs : Wiring → Sources → List ℕ → List Call → List ℕ → List ℕ → Ticked → Type 0
-RunIs w s longest cs buffer buffer′ r =
-    (d : Description) → WiringOf d w → SourcesOf d s → GapsOf d 200 longest → judge d ≡ Done → RunOf d cs buffer buffer′ r
+abbrev pub RunIs : Policy → Wiring → Sources → List ℕ → List Call → List ℕ → List ℕ → Ticked → Type 0
+RunIs p w s longest cs buffer buffer′ r =
+    (d : Description) → WiringOf d w → SourcesOf d s → GapsOf d 200 longest → judge d ≡ Done → RunOf p d cs buffer buffer′ r

@@ -1,6 +1,7 @@
 // One call of the tick machine on words of bits: the refusals of its arrivals, and the four steps.
 
 use model::Outcome;
+use model::Policy;
 use model::Refusal;
 use spacings::gap_at;
 use spacings::on_knob;
@@ -121,6 +122,7 @@ fn refused(why: Refusal, words: Words) -> Advanced
 
 // Steps 2 to 4, once the arrivals have fired.
 fn run_on<'a>(
+    p: Policy,
     rows: &'a [u64; 576],
     runs: &'a [u32; 32],
     finish: bool,
@@ -128,9 +130,9 @@ fn run_on<'a>(
     used: &mut [u32; 32],
 ) -> Advanced
     requires { ⌜ Workable w (now used) × (w .tick < 2 ^ 63) ⌝ }
-    ensures { λ r. ⌜ RunsOn (now (rows .entry)) (now (runs .entry)) finish w (now (used .entry)) r (now (used .exit)) ⌝ }
+    ensures { λ r. ⌜ RunsOn p (now (rows .entry)) (now (runs .entry)) finish w (now (used .entry)) r (now (used .exit)) ⌝ }
 {
-    let worked = work(rows, runs, finish, w, used);
+    let worked = work(p, rows, runs, finish, w, used);
     let words = pass(worked);
     let outcome = Outcome::Done;
     Advanced { outcome, words }
@@ -139,6 +141,7 @@ fn run_on<'a>(
 // 11, 15 and 14 in this order, or else a tick. The record keeps the rules, so that 16 is not looked for. Whether a source comes is asked first: that is what
 // a processor foretells least.
 pub fn advance<'a>(
+    p: Policy,
     rows: &'a [u64; 576],
     runs: &'a [u32; 32],
     ticks: &'a [u32; 16],
@@ -153,8 +156,8 @@ pub fn advance<'a>(
     tempos: &mut [u32; 16],
     gaps: &mut [u32; 16],
 ) -> Advanced
-    requires { ⌜ Going (now rows) (now runs) (now ticks) (now pulses) (now longest) sources (call .mask) w (now used) (now since) (now fastest) (now tempos) (now gaps) ⌝ }
-    ensures { λ r. ⌜ Advances (now (rows .entry)) (now (runs .entry)) (now (ticks .entry)) (now (pulses .entry)) (now (longest .entry)) sources call w (now (used .entry)) (now (since .entry)) (now (fastest .entry)) r (now (used .exit)) (now (since .exit)) (now (fastest .exit)) (now (tempos .exit)) (now (gaps .exit)) ⌝ }
+    requires { ⌜ Going p (now rows) (now runs) (now ticks) (now pulses) (now longest) sources (call .mask) w (now used) (now since) (now fastest) (now tempos) (now gaps) ⌝ }
+    ensures { λ r. ⌜ Advances p (now (rows .entry)) (now (runs .entry)) (now (ticks .entry)) (now (pulses .entry)) (now (longest .entry)) sources call w (now (used .entry)) (now (since .entry)) (now (fastest .entry)) r (now (used .exit)) (now (since .exit)) (now (fastest .exit)) (now (tempos .exit)) (now (gaps .exit)) ⌝ }
 {
     let mask = call.mask;
     let t = call.tempo;
@@ -164,6 +167,7 @@ pub fn advance<'a>(
             return refused(Refusal::OffKnob, w);
         }
         return run_on(
+            p,
             rows,
             runs,
             finish,
@@ -193,5 +197,5 @@ pub fn advance<'a>(
         return refused(Refusal::TooSoon, w);
     }
     let arrived = arrive(rows, t, peak, mask, w, since, fastest);
-    run_on(rows, runs, finish, arrived, used)
+    run_on(p, rows, runs, finish, arrived, used)
 }

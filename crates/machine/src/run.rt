@@ -6,6 +6,7 @@ use crate::tick::refused;
 use fields::half_at;
 use model::Description;
 use model::Outcome;
+use model::Policy;
 use model::Refusal;
 use model::Ticked;
 use refusals::blank_machine;
@@ -120,6 +121,7 @@ fn later(w: Words, ticks: usize) -> Words
     let dropped = w.dropped;
     Words {
         awake: w.awake,
+        running: w.running,
         waiting,
         dropped,
         tick: w.tick + ticks as u64,
@@ -132,6 +134,7 @@ fn later(w: Words, ticks: usize) -> Words
 // not hold them all is refused as too short (13). A call's head is read while the one before is worked out, so that nothing waits
 // for it.
 pub fn run_wired(
+    p: Policy,
     w: Wiring,
     s: Sources,
     longest: [u32; 16],
@@ -139,7 +142,7 @@ pub fn run_wired(
     outcomes: &mut [u8],
 ) -> Ticked
     requires { ⌜ Accepted w s longest ⌝ }
-    ensures { λ r. ⌜ RunIs w s longest (callsIn (now (calls .entry))) (now (outcomes .entry)) (now (outcomes .exit)) r ⌝ }
+    ensures { λ r. ⌜ RunIs p w s longest (callsIn (now (calls .entry))) (now (outcomes .entry)) (now (outcomes .exit)) r ⌝ }
 {
     let n = calls.len() / 6;
     if outcomes.len() < n {
@@ -162,6 +165,7 @@ pub fn run_wired(
             finish: calls[6 * i + 4] != 0,
         };
         let done = advance(
+            p,
             &w.rows,
             &w.runs,
             &s.ticks,
@@ -197,11 +201,11 @@ pub fn run_wired(
 }
 
 // The same of a description that is judged as done.
-pub fn run_judged(d: Description, calls: &[u8], outcomes: &mut [u8]) -> Ticked
+pub fn run_judged(p: Policy, d: Description, calls: &[u8], outcomes: &mut [u8]) -> Ticked
     requires { ⌜ WellFormed d × (judge d ≡ Done) ⌝ }
-    ensures { λ r. ⌜ RunOf d (callsIn (now (calls .entry))) (now (outcomes .entry)) (now (outcomes .exit)) r ⌝ }
+    ensures { λ r. ⌜ RunOf p d (callsIn (now (calls .entry))) (now (outcomes .entry)) (now (outcomes .exit)) r ⌝ }
 {
     let s = sources_of(d);
     let longest = gaps_by(&s.ticks, &s.pulses, s.count, 200);
-    run_wired(wiring_of(d), s, longest, calls, outcomes)
+    run_wired(p, wiring_of(d), s, longest, calls, outcomes)
 }

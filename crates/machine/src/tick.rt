@@ -5,6 +5,7 @@ use crate::call::advance;
 use model::Arrivals;
 use model::Machine;
 use model::Outcome;
+use model::Policy;
 use model::Refusal;
 use model::Ticked;
 use rules::lawful;
@@ -41,6 +42,7 @@ pub fn refused(why: Refusal, m: Machine) -> Ticked
 
 // The tick call at a tempo on the knob: 16, 15 and 14 in this order, or else the record one tick later.
 pub fn tick_judged(
+    p: Policy,
     w: Wiring,
     s: Sources,
     longest: [u32; 16],
@@ -50,9 +52,9 @@ pub fn tick_judged(
     finish: bool,
 ) -> Ticked
     requires { ⌜ Accepted w s longest ⌝ }
-    ensures { λ r. ⌜ TickIs w s longest t m a finish r ⌝ }
+    ensures { λ r. ⌜ TickIs p w s longest t m a finish r ⌝ }
 {
-    if !lawful(w, longest, m) {
+    if !lawful(p, w, longest, m) {
         return refused(Refusal::ForeignState, m);
     }
     let call = Call {
@@ -60,7 +62,7 @@ pub fn tick_judged(
         tempo: t,
         finish,
     };
-    let packed = pack(m);
+    let packed = pack(p, m);
     let words = packed.words;
     let mut since = packed.since;
     let mut used = m.used;
@@ -69,6 +71,7 @@ pub fn tick_judged(
     let mut gaps = [0u32; 16];
     let sources = w.sources;
     let done = advance(
+        p,
         &w.rows,
         &w.runs,
         &s.ticks,

@@ -4,6 +4,7 @@ use mathlib.Core.Bool.{Bool, true, false}
 use mathlib.Core.List.{List}
 use mathlib.Core.Path.{_≡_, refl, ap}
 use lib.Dec.{eqb}
+use Rattle.model.specs.declared.Policy.the-variants.{Preemptive}
 use Rattle.model.specs.Figures.{twin, quick, callsWhere, history, Figures, CallOrder}
 use Rattle.model.specs.Basics.{sumN, topN, anyN, allN, upTo, tab, joined}
 use Rattle.model.specs.Field.{bytesOf, numberIn, bodyOf, fieldBytes, fieldIn, takeField, checkField, fieldOf}
@@ -13,36 +14,36 @@ use Rattle.model.specs.File.{fileOf, lastChecks, parseFrom, parseFile, r
 use Rattle.model.specs.Delays.{spacing, spacingOf, spacings, startOf, roundOf, settle, delayOf}
 use Rattle.model.specs.Order.{visit, walk, inOrder}
 use Rattle.model.specs.Verdicts.{sourceVerdict, orderVerdict, verdictOf, verdictAt, allHeld, judgeAt, largestBelow, quoteOf}
-use Rattle.model.specs.Machine.{idle, lawful, fireLink, fire, arriveOne, arrive, highestIn, runTask, clearLink, clearInto, endRun, ageOne, ageAll, keep, stepped, strangers, tooSoon, judgeTick, plainTick}
+use Rattle.model.specs.Machine.{idle, rulesKept, partsDone, lawful, fireLink, fire, arriveOne, arrive, highestIn, choose, runTask, clearLink, clearInto, endRun, ageOne, ageAll, keep, stepped, strangers, tooSoon, judgeTick, plainTick}
 use Rattle.model.specs.History.{Tick, answers, left, observe, ticks, endsWithin, ticksUntil, servedBefore, waitOf}
 use Rattle.model.specs.Run.{codes}
-use Rattle.model.specs.Report.{digits, decimal, tempoText, tempoLine, verdictText, linkLine, linkLines, refusedLine, reportFor, reportOf}
+use Rattle.model.specs.Report.{digits, decimal, tempoText, tempoLine, verdictText, linkLine, linkLines, refusedLine, reportFor, plainReport, reportOf}
 use Rattle.model.specs.Page.{linesOf, tempoWords, heldWords}
 
 -- to unfold this is to unfold every definition that a row computes with
 unfoldable pub computing : ℕ
-unfolding sumN topN anyN allN upTo tab joined bytesOf numberIn bodyOf fieldBytes fieldIn takeField checkField fieldOf linked system walks cyclic workF work added load tooHeavy fileOf lastChecks parseFrom parseFile readFile overfull judge spacing spacingOf spacings startOf roundOf settle delayOf visit walk inOrder sourceVerdict orderVerdict verdictOf verdictAt allHeld judgeAt largestBelow quoteOf idle lawful fireLink fire arriveOne arrive highestIn runTask clearLink clearInto endRun ageOne ageAll keep stepped strangers tooSoon judgeTick plainTick answers left observe ticks endsWithin ticksUntil servedBefore waitOf codes digits decimal tempoText tempoLine verdictText linkLine linkLines refusedLine reportFor reportOf linesOf tempoWords heldWords
+unfolding sumN topN anyN allN upTo tab joined bytesOf numberIn bodyOf fieldBytes fieldIn takeField checkField fieldOf linked system walks cyclic workF work added load tooHeavy fileOf lastChecks parseFrom parseFile readFile overfull judge spacing spacingOf spacings startOf roundOf settle delayOf visit walk inOrder sourceVerdict orderVerdict verdictOf verdictAt allHeld judgeAt largestBelow quoteOf idle rulesKept partsDone lawful fireLink fire arriveOne arrive highestIn choose runTask clearLink clearInto endRun ageOne ageAll keep stepped strangers tooSoon judgeTick plainTick answers left observe ticks endsWithin ticksUntil servedBefore waitOf codes digits decimal tempoText tempoLine verdictText linkLine linkLines refusedLine reportFor plainReport reportOf linesOf tempoWords heldWords
 computing = 0
 
 -- what is asked of one list of ticks is computed at once
 abbrev asked-served : List Tick → ℕ × ℕ × Bool × Bool
 asked-served h = (waitOf h 2 0, waitOf h 1 0, servedBefore h 1 0 6, servedBefore h 1 0 5)
 
-twin-served : asked-served (history (twin 9) (callsWhere 9 (λ x. eqb x 0))) ≡ (2, 6, true, false)
+twin-served : asked-served (history Preemptive (twin 9) (callsWhere 9 (λ x. eqb x 0))) ≡ (2, 6, true, false)
 unfolding computing
 twin-served = refl
 
 abbrev asked-cut : List Tick → ℕ × Bool
 asked-cut h = (waitOf h 1 0, servedBefore h 1 0 4)
 
-twin-cut : asked-cut (history (twin 9) (callsWhere 4 (λ x. eqb x 0))) ≡ (4, false)
+twin-cut : asked-cut (history Preemptive (twin 9) (callsWhere 4 (λ x. eqb x 0))) ≡ (4, false)
 unfolding computing
 twin-cut = refl
 
 abbrev asked-quick : List Tick → ℕ × ℕ × ℕ
 asked-quick h = (waitOf h 1 2, waitOf h 1 4, waitOf h 1 8)
 
-quick-served : asked-quick (history quick (callsWhere 9 (λ x. eqb (x % 2) 0))) ≡ (2, 4, 1)
+quick-served : asked-quick (history Preemptive quick (callsWhere 9 (λ x. eqb (x % 2) 0))) ≡ (2, 4, 1)
 unfolding computing
 quick-served = refl
 

@@ -3,4 +3,5 @@ pub mod Figures
 pub mod SwingFigures
 pub mod SpacingFigures
 pub mod KnobFigures
+pub mod HoldFigures
 pub mod Steps

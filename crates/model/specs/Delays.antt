@@ -5,6 +5,8 @@ use lib.Dec.{ltb, eqb}
 use Rattle.model.specs.declared.Source.{Source}
 use Rattle.model.specs.declared.Source.the-variants.{Fixed, Paced, Swung}
 use Rattle.model.specs.declared.Description.{Description}
+use Rattle.model.specs.declared.Policy.{Policy}
+use Rattle.model.specs.declared.Policy.the-variants.{Preemptive, HoldOn}
 use Rattle.model.specs.Basics.{sumN, topTo}
 use Rattle.model.specs.Graph.{System, sourceAt}
 use Rattle.model.specs.Loads.{load}
@@ -27,13 +29,25 @@ spacingOf d t u = spacing (sourceAt d u) t
 unfoldable pub spacings : ℕ → ℕ → ℕ
 spacings d m = max 1 ((d + (m - 1)) / m)
 
--- "start S = the largest load(k, j) over tasks k < j, or 0"
-unfoldable pub startOf : System → ℕ → ℕ
-startOf s j = topTo (λ k. load s k j) 1 (j - 1)
+-- "start S = the largest load(k, j) over tasks k < j, or 0"; on the hold-on model "D starts as the largest e(k) + load(k, j + 1) over tasks k ≤ j"
+-- (C-14)
+unfoldable pub startOf : Policy → System → ℕ → ℕ
+startOf Preemptive s j = topTo (λ k. load s k j) 1 (j - 1)
+startOf HoldOn s j = topTo (λ k. s .run k + load s k (suc j)) 1 j
+
+-- the task whose loads the rounds of task j go by: "load(u, j)", on the hold-on model "load(u, j + 1)"
+abbrev pub levelOf : Policy → ℕ → ℕ
+levelOf Preemptive j = j
+levelOf HoldOn j = suc j
 
 -- "the next D is S plus, over all sources u, load(u, j) × spacings(D, u)"
-unfoldable pub roundOf : System → (ℕ → ℕ) → ℕ → ℕ → ℕ
-roundOf s gap j d = startOf s j + sumN (λ u. load s u j * spacings d (gap u)) 33 (s .sources)
+unfoldable pub roundOf : Policy → System → (ℕ → ℕ) → ℕ → ℕ → ℕ
+roundOf p s gap j d = startOf p s j + sumN (λ u. load s u (levelOf p j) * spacings d (gap u)) 33 (s .sources)
+
+-- what a delay has beyond its D: nothing, or on the hold-on model the task's own run, "D + e(j) is the delay printed"
+abbrev pub tailOf : Policy → System → ℕ → ℕ
+tailOf Preemptive s j = 0
+tailOf HoldOn s j = s .run j
 
 -- how a working out ends: at the D that a round leaves unchanged, or at one that reaches the limit
 pub data Settled : Type 0 where
@@ -48,6 +62,6 @@ settle (suc n) next limit d = elim (ltb d limit) [
   | true ↦ elim (eqb (next d) d) [ true ↦ unchanged d | false ↦ settle n next limit (next d) ]
 ]
 
--- "the first D is S"; "a D that reaches the spacing settles it"
-unfoldable pub delayOf : System → (ℕ → ℕ) → ℕ → ℕ → Settled
-delayOf s gap i j = settle (suc (gap i)) (roundOf s gap j) (gap i) (startOf s j)
+-- "the first D is S"; "a D that reaches the spacing settles it", on the hold-on model one for which D + e(j) does
+unfoldable pub delayOf : Policy → System → (ℕ → ℕ) → ℕ → ℕ → Settled
+delayOf p s gap i j = settle (suc (gap i - tailOf p s j)) (roundOf p s gap j) (gap i - tailOf p s j) (startOf p s j)

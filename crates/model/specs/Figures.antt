@@ -9,6 +9,8 @@ use Rattle.model.specs.declared.Source.{Source}
 use Rattle.model.specs.declared.Source.the-variants.{Fixed, Paced}
 use Rattle.model.specs.declared.SourceSlot.{SourceSlot}
 use Rattle.model.specs.declared.Link.{Link}
+use Rattle.model.specs.declared.Policy.{Policy}
+use Rattle.model.specs.declared.Policy.the-variants.{Preemptive}
 use Rattle.model.specs.declared.Description.{Description}
 use Rattle.model.specs.declared.Refusal.the-variants.{CutShort, StrangeTag, WrongLength, OutOfTurn, TooMany, OffScale, NoSuchEnd, NoTask, Loop, TooHeavy, OffKnob, NoTempo, ShortPage, TooSoon, Stranger, ForeignState}
 use Rattle.model.specs.declared.Outcome.{Outcome}
@@ -29,7 +31,7 @@ use Rattle.model.specs.Machine.{idle, droppedAt, setAge, setFastest, set
 use Rattle.model.specs.History.{Call, Tick, answers, ticks, servedBefore, waitOf}
 use Rattle.model.specs.Run.{page}
 use Rattle.model.specs.Report.{reportFor, reportOf}
-use Rattle.model.specs.Page.{linesOf, lineAt, FirstLine, tempoWords, heldWords}
+use Rattle.model.specs.Page.{linesOf, lineAt, TempoLine, tempoWords, heldWords}
 
 -- a list filled up to n places
 abbrev pub upToLength : {A : Type 0} → ℕ → A → List A → List A
@@ -119,8 +121,8 @@ abbrev pub callsWhere : ℕ → (ℕ → Bool) → List Call
 callsWhere = callsTurned (λ x. 200)
 
 -- the ticks of a list of calls from the start
-abbrev pub history : Description → List Call → List Tick
-history d cs = ticks d (idle d) cs
+abbrev pub history : Policy → Description → List Call → List Tick
+history p d cs = ticks p d (idle d) cs
 
 abbrev pub sevenths : ℕ → Bool
 sevenths x = eqb (x % 7) 0
@@ -132,55 +134,55 @@ marksOf l (r ∷ rs) = (r .outcome, droppedAt (r .machine) l) ∷ marksOf l rs
 
 pub record Figures : Type 0 where
   pub p1-empty : ofReading (readFile []) ≡ record { number = 8; value = 0 }
-  pub p1-alone : ofQuote (quoteOf alone) ≡ record { number = 0; value = 3000 }
+  pub p1-alone : ofQuote (quoteOf Preemptive alone) ≡ record { number = 0; value = 3000 }
   pub p2-load-33-1 : load (system box) 33 1 ≡ 900
   pub p2-load-2-3 : load (system box) 2 3 ≡ 200
   pub p2-read : readFile boxFile ≡ record { outcome = Done; description = box }
   pub p2-written : fileOf box ≡ boxFile
   pub p2-length : length boxFile ≡ 57
-  pub p3-held : verdictAt box 1783 2 ≡ Held 700 701
+  pub p3-held : verdictAt Preemptive box 1783 2 ≡ Held 700 701
   pub p3-spacing : spacingOf box 1784 33 ≡ 700
-  pub p3-first : startOf (system box) 2 ≡ 0
-  pub p3-next : roundOf (system box) (spacingOf box 1784) 2 0 ≡ 700
-  pub p3-delay : roundOf (system box) (spacingOf box 1784) 2 700 ≡ 700
-  pub p3-doubtful : verdictAt box 1784 2 ≡ Doubt 700
+  pub p3-first : startOf Preemptive (system box) 2 ≡ 0
+  pub p3-next : roundOf Preemptive (system box) (spacingOf box 1784) 2 0 ≡ 700
+  pub p3-delay : roundOf Preemptive (system box) (spacingOf box 1784) 2 700 ≡ 700
+  pub p3-doubtful : verdictAt Preemptive box 1784 2 ≡ Doubt 700
   pub p4-load : load (system (twin 9)) 33 1 ≡ 8
-  pub p4-first : verdictAt (twin 9) 200 2 ≡ Held 8 9
-  pub p4-second : verdictAt (twin 9) 200 3 ≡ Held 6 9
-  pub p4-doubtful : verdictAt (twin 8) 200 2 ≡ Doubt 8
-  pub p5-dropped-at-21 : marksOf 2 (answers (twin 7) (idle (twin 7)) (callsWhere 22 sevenths)) ≡ replicate 21 (Done, false) ++ ((Done, true) ∷ [])
-  pub p6-held : verdictAt order 200 1 ≡ HeldOrder
-  pub p6-doubtful : verdictAt orderWithSource 200 1 ≡ DoubtOrder
+  pub p4-first : verdictAt Preemptive (twin 9) 200 2 ≡ Held 8 9
+  pub p4-second : verdictAt Preemptive (twin 9) 200 3 ≡ Held 6 9
+  pub p4-doubtful : verdictAt Preemptive (twin 8) 200 2 ≡ Doubt 8
+  pub p5-dropped-at-21 : marksOf 2 (answers Preemptive (twin 7) (idle (twin 7)) (callsWhere 22 sevenths)) ≡ replicate 21 (Done, false) ++ ((Done, true) ∷ [])
+  pub p6-held : verdictAt Preemptive order 200 1 ≡ HeldOrder
+  pub p6-doubtful : verdictAt Preemptive orderWithSource 200 1 ≡ DoubtOrder
   pub p6-source : walk (system orderWithSource) 3 2 .failed ≡ 33
-  pub p7-doubtful : verdictAt metTwice 200 3 ≡ DoubtOrder
+  pub p7-doubtful : verdictAt Preemptive metTwice 200 3 ≡ DoubtOrder
   pub p7-met-twice : walk (system metTwice) 4 2 .failed ≡ 1
   pub p8-480 : spacing (Paced 480) 1200 ≡ 1041
   pub p8-24 : spacing (Paced 24) 1200 ≡ 20833
-  pub p9-refused : page pulse (callsWhere 5 (λ x. eqb x 0 || eqb x 4)) ≡ 0 ∷ 0 ∷ 0 ∷ 0 ∷ 14 ∷ []
-  pub p9-pass : page pulse (callsWhere 6 (λ x. eqb x 0 || eqb x 5)) ≡ replicate 6 0
+  pub p9-refused : page Preemptive pulse (callsWhere 5 (λ x. eqb x 0 || eqb x 4)) ≡ 0 ∷ 0 ∷ 0 ∷ 0 ∷ 14 ∷ []
+  pub p9-pass : page Preemptive pulse (callsWhere 6 (λ x. eqb x 0 || eqb x 5)) ≡ replicate 6 0
   pub p10-twice : ofReading (readFile (fileOf sameTwice)) ≡ record { number = 4; value = 20 }
   -- document 01's numbers, in its order
   pub numbers : numberOf CutShort ∷ numberOf StrangeTag ∷ numberOf WrongLength ∷ numberOf OutOfTurn ∷ numberOf TooMany ∷ numberOf OffScale ∷ numberOf NoSuchEnd ∷ numberOf NoTask ∷ numberOf Loop ∷ numberOf TooHeavy ∷ numberOf OffKnob ∷ numberOf NoTempo ∷ numberOf ShortPage ∷ numberOf TooSoon ∷ numberOf Stranger ∷ numberOf ForeignState ∷ []
       ≡ 1 ∷ 2 ∷ 3 ∷ 4 ∷ 5 ∷ 6 ∷ 7 ∷ 8 ∷ 9 ∷ 10 ∷ 11 ∷ 12 ∷ 13 ∷ 14 ∷ 15 ∷ 16 ∷ []
   -- Twin with the spacing 9 and one arrival, at tick 0: task 2 runs in ticks 0 and 1, task 3 in 2 and 3, task 1 in 4 and 5
-  pub waits-second : waitOf (history (twin 9) (callsWhere 9 (λ x. eqb x 0))) 2 0 ≡ 2
-  pub waits-first : waitOf (history (twin 9) (callsWhere 9 (λ x. eqb x 0))) 1 0 ≡ 6
-  pub served : servedBefore (history (twin 9) (callsWhere 9 (λ x. eqb x 0))) 1 0 6 ≡ true
-  pub not-yet-served : servedBefore (history (twin 9) (callsWhere 9 (λ x. eqb x 0))) 1 0 5 ≡ false
+  pub waits-second : waitOf (history Preemptive (twin 9) (callsWhere 9 (λ x. eqb x 0))) 2 0 ≡ 2
+  pub waits-first : waitOf (history Preemptive (twin 9) (callsWhere 9 (λ x. eqb x 0))) 1 0 ≡ 6
+  pub served : servedBefore (history Preemptive (twin 9) (callsWhere 9 (λ x. eqb x 0))) 1 0 6 ≡ true
+  pub not-yet-served : servedBefore (history Preemptive (twin 9) (callsWhere 9 (λ x. eqb x 0))) 1 0 5 ≡ false
   -- a list that ends before the event is served: "or else to the last of the list"
-  pub waits-to-last : waitOf (history (twin 9) (callsWhere 4 (λ x. eqb x 0))) 1 0 ≡ 4
-  pub not-served-in-list : servedBefore (history (twin 9) (callsWhere 4 (λ x. eqb x 0))) 1 0 4 ≡ false
+  pub waits-to-last : waitOf (history Preemptive (twin 9) (callsWhere 4 (λ x. eqb x 0))) 1 0 ≡ 4
+  pub not-served-in-list : servedBefore (history Preemptive (twin 9) (callsWhere 4 (λ x. eqb x 0))) 1 0 4 ≡ false
   -- an event of tick 2 finds its task part done, and the run of ticks 0 to 3 takes it; one of tick 4 is taken by the run begun then
-  pub waits-part-done : waitOf (history quick (callsWhere 9 (λ x. eqb (x % 2) 0))) 1 2 ≡ 2
-  pub waits-next-run : waitOf (history quick (callsWhere 9 (λ x. eqb (x % 2) 0))) 1 4 ≡ 4
+  pub waits-part-done : waitOf (history Preemptive quick (callsWhere 9 (λ x. eqb (x % 2) 0))) 1 2 ≡ 2
+  pub waits-next-run : waitOf (history Preemptive quick (callsWhere 9 (λ x. eqb (x % 2) 0))) 1 4 ≡ 4
   -- an event of the last tick waits one
-  pub waits-last-tick : waitOf (history quick (callsWhere 9 (λ x. eqb (x % 2) 0))) 1 8 ≡ 1
-  pub page-box : reportFor box (Tempo 1783) ≡ boxPage
+  pub waits-last-tick : waitOf (history Preemptive quick (callsWhere 9 (λ x. eqb (x % 2) 0))) 1 8 ≡ 1
+  pub page-box : reportFor Preemptive box (Tempo 1783) ≡ boxPage
   pub page-box-lines : length (linesOf boxPage) ≡ 5
-  pub page-box-tempo : FirstLine boxPage (tempoWords 1783)
+  pub page-box-tempo : TempoLine Preemptive boxPage (tempoWords 1783)
   pub page-box-link-3 : lineAt boxPage 3 ≡ heldWords 3 33 2 700 701
   pub page-box-link-4 : lineAt boxPage 4 ≡ heldWords 4 34 3 400 2000
-  pub page-refused : reportOf (fileOf sameTwice) ≡ refusedPage
+  pub page-refused : reportOf Preemptive (fileOf sameTwice) ≡ refusedPage
 
 -- "calls then check 11, 16, 15, 14": a call that breaks all four, and then one fewer each time. Its record has task 1 asleep with
 -- a tick used; sources 33 and 34 arrive, 33 too soon, and 34 does not exist.
@@ -194,7 +196,7 @@ abbrev pub arriving : ℕ → List Bool
 arriving n = upToLength 16 false (replicate n true)
 
 pub record CallOrder : Type 0 where
-  pub first-11 : ofOutcome (judgeTick pulse 199 foreign (arriving 2)) .number ≡ 11
-  pub then-16 : ofOutcome (judgeTick pulse 200 foreign (arriving 2)) .number ≡ 16
-  pub then-15 : ofOutcome (judgeTick pulse 200 early (arriving 2)) .number ≡ 15
-  pub then-14 : ofOutcome (judgeTick pulse 200 early (arriving 1)) .number ≡ 14
+  pub first-11 : ofOutcome (judgeTick Preemptive pulse 199 foreign (arriving 2)) .number ≡ 11
+  pub then-16 : ofOutcome (judgeTick Preemptive pulse 200 foreign (arriving 2)) .number ≡ 16
+  pub then-15 : ofOutcome (judgeTick Preemptive pulse 200 early (arriving 2)) .number ≡ 15
+  pub then-14 : ofOutcome (judgeTick Preemptive pulse 200 early (arriving 1)) .number ≡ 14

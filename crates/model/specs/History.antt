@@ -6,13 +6,14 @@ use mathlib.Core.Path.{_≡_}
 use lib.ListN.{getD, length}
 use lib.Dec.{ltb, eqb}
 use Rattle.model.specs.declared.Description.{Description}
+use Rattle.model.specs.declared.Policy.{Policy}
 use Rattle.model.specs.declared.Machine.{Machine}
 use Rattle.model.specs.declared.Arrivals.{Arrivals}
 use Rattle.model.specs.declared.Ticked.{Ticked}
 use Rattle.model.specs.declared.Outcome.{Outcome}
 use Rattle.model.specs.declared.Outcome.the-variants.{Done, Refused}
 use Rattle.model.specs.Graph.{runOf}
-use Rattle.model.specs.Machine.{plainTick, arrive, highest, usedAt}
+use Rattle.model.specs.Machine.{plainTick, arrive, choose, usedAt}
 
 -- a call: "arrivals and finish are free in each", and "its tempos now free"
 pub record Call : Type 0 where
@@ -21,16 +22,16 @@ pub record Call : Type 0 where
   pub finish : Bool
 
 -- the plain machine's answer to each call, each lent the record that the one before left; and the record after the last
-abbrev pub plainCall : Description → Machine → Call → Ticked
-plainCall d m c = plainTick d (c .tempo) m (c .arrivals) (c .finish)
+abbrev pub plainCall : Policy → Description → Machine → Call → Ticked
+plainCall p d m c = plainTick p d (c .tempo) m (c .arrivals) (c .finish)
 
-unfoldable pub answers : Description → Machine → List Call → List Ticked
-answers d m [] = []
-answers d m (c ∷ cs) = let r = plainCall d m c in r ∷ answers d (r .machine) cs
+unfoldable pub answers : Policy → Description → Machine → List Call → List Ticked
+answers p d m [] = []
+answers p d m (c ∷ cs) = let r = plainCall p d m c in r ∷ answers p d (r .machine) cs
 
-unfoldable pub left : Description → Machine → List Call → Machine
-left d m [] = m
-left d m (c ∷ cs) = left d (plainCall d m c .machine) cs
+unfoldable pub left : Policy → Description → Machine → List Call → Machine
+left p d m [] = m
+left p d m (c ∷ cs) = left p d (plainCall p d m c .machine) cs
 
 -- what one tick shows: its tempo, the sources that arrived, the task that ran (0 for none), whether its run began and whether it ended in
 -- this tick, and the ticks that each task had used before it
@@ -42,9 +43,9 @@ pub record Tick : Type 0 where
   pub ended : Bool
   pub used : List ℕ
 
-unfoldable pub observe : Description → Machine → Call → Tick
-observe d m c =
-    let h = highest d (arrive d (c .arrivals .marks) m) in
+unfoldable pub observe : Policy → Description → Machine → Call → Tick
+observe p d m c =
+    let h = choose p d (arrive d (c .arrivals .marks) m) in
     record {
       tempo = c .tempo;
       arrived = c .arrivals .marks;
@@ -59,11 +60,11 @@ abbrev pub isDone : Outcome → Bool
 isDone Done = true
 isDone (Refused r place) = false
 
-unfoldable pub ticks : Description → Machine → List Call → List Tick
-ticks d m [] = []
-ticks d m (c ∷ cs) =
-    let r = plainCall d m c in
-    elim (isDone (r .outcome)) [ true ↦ observe d m c ∷ ticks d (r .machine) cs | false ↦ ticks d m cs ]
+unfoldable pub ticks : Policy → Description → Machine → List Call → List Tick
+ticks p d m [] = []
+ticks p d m (c ∷ cs) =
+    let r = plainCall p d m c in
+    elim (isDone (r .outcome)) [ true ↦ observe p d m c ∷ ticks p d (r .machine) cs | false ↦ ticks p d m cs ]
 
 -- a node fires: a source when it arrives, a task when its run ends
 abbrev pub fires : Tick → ℕ → Bool

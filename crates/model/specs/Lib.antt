@@ -18,3 +18,4 @@ pub mod Figures
 pub mod SwingFigures
 pub mod SpacingFigures
 pub mod KnobFigures
+pub mod HoldFigures

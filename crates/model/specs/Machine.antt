@@ -1,4 +1,5 @@
--- "The tick machine" as C-13 has it, with a tempo in each tick: the record, its rules, its start, the steps of a tick, and the refusals of a call. It is the plain machine.
+-- "The tick machine" as C-13 has it, with a tempo in each tick, and on both models (C-14): the record, its rules, its start, the steps of a tick, and
+-- the refusals of a call. It is the plain machine.
 use Prim.Native.Nat.{ℕ, zero, suc, _+_, _-_, min, max}
 use mathlib.Core.Bool.{Bool, true, false, _||_, _&&_, not, cond}
 use mathlib.Core.List.{List}
@@ -12,7 +13,9 @@ use Rattle.model.specs.declared.Outcome.{Outcome}
 use Rattle.model.specs.declared.Outcome.the-variants.{Done, Refused}
 use Rattle.model.specs.declared.Refusal.{Refusal}
 use Rattle.model.specs.declared.Refusal.the-variants.{TooSoon, Stranger, ForeignState}
-use Rattle.model.specs.Basics.{upTo, tab, allN, anyN}
+use Rattle.model.specs.declared.Policy.{Policy}
+use Rattle.model.specs.declared.Policy.the-variants.{Preemptive, HoldOn}
+use Rattle.model.specs.Basics.{sumN, upTo, tab, allN, anyN, given}
 use Rattle.model.specs.Refusals.{onDone}
 use Rattle.model.specs.File.{judge}
 use Rattle.model.specs.Graph.{linkAt, runOf}
@@ -101,8 +104,19 @@ sourceRule d m u = cond (ltb u (d .«source_count»))
     (leb (ageAt m u) (longestGap d u) && cond (eqb (fastestAt m u) 0) (eqb (ageAt m u) (longestGap d u)) (onKnob (fastestAt m u)))
     (eqb (ageAt m u) 0 && eqb (fastestAt m u) 0)
 
-unfoldable pub lawful : Description → Machine → Bool
-lawful d m = allN (taskRule d m) 1 32 && (allN (linkRule d m) 0 256 && allN (sourceRule d m) 0 16)
+unfoldable pub rulesKept : Description → Machine → Bool
+rulesKept d m = allN (taskRule d m) 1 32 && (allN (linkRule d m) 0 256 && allN (sourceRule d m) 0 16)
+
+-- how many tasks are part done; on the hold-on model "the task that runs is the one whose used is above 0, and the state rule allows only one such"
+unfoldable pub partsDone : Machine → ℕ
+partsDone m = sumN (λ k. given (ltb 0 (usedAt m k)) 1) 1 32
+
+abbrev pub aloneRule : Policy → Machine → Bool
+aloneRule Preemptive m = true
+aloneRule HoldOn m = leb (partsDone m) 1
+
+unfoldable pub lawful : Policy → Description → Machine → Bool
+lawful p d m = rulesKept d m && aloneRule p m
 
 -- "Firing means, for each link out: if waiting, mark dropped; set waiting; wake the task"
 abbrev pub markDropped : ℕ → Machine → Machine
@@ -128,6 +142,14 @@ highestIn awake (suc k) = elim (getD awake k false) [ true ↦ suc k | false ↦
 
 abbrev pub highest : Description → Machine → ℕ
 highest d m = highestIn (m .awake) (d .«task_count»)
+
+-- "the highest awake task is chosen only when none is running": the task that goes on, 0 for none, and the one that runs
+abbrev pub running : Policy → Description → Machine → ℕ
+running Preemptive d m = 0
+running HoldOn d m = highestIn (tab 32 (λ k. ltb 0 (getD (m .used) k 0))) (d .«task_count»)
+
+unfoldable pub choose : Policy → Description → Machine → ℕ
+choose p d m = cond (eqb (running p d m) 0) (highest d m) (running p d m)
 
 unfoldable pub runTask : ℕ → Machine → Machine
 runTask h m = cond (eqb h 0) m (setUsed h (usedAt m h + 1) m)
@@ -167,11 +189,11 @@ keep t marks m = record {
   fastest = tab 16 (λ u. keptAfter t (getD marks u false) (fastestAt m u));
 }
 
--- one tick at tempo t: these steps, the task that runs being the highest awake once the sources have fired
-unfoldable pub stepped : Description → ℕ → List Bool → Bool → Machine → Machine
-stepped d t marks finish m =
+-- one tick at tempo t: these steps, the task that runs being chosen once the sources have fired
+unfoldable pub stepped : Policy → Description → ℕ → List Bool → Bool → Machine → Machine
+stepped p d t marks finish m =
     let m₁ = arrive d marks m in
-    let h = highest d m₁ in
+    let h = choose p d m₁ in
     keep t marks (ageAll d (endRun d h finish (runTask h m₁)))
 
 -- 15: "an arrival from a source that does not exist"; 14: "an arriving source's age is below its spacing", which is that "at the fastest tempo given
@@ -184,16 +206,16 @@ unfoldable pub tooSoon : Description → ℕ → List Bool → Machine → Bool
 tooSoon d t marks m = anyN (λ u. getD marks u false && ltb (ageAt m u) (spacingOf d (max (fastestAt m u) t) (33 + u))) 0 (d .«source_count»)
 
 -- "calls then check 11, 16, 15, 14"
-unfoldable pub judgeTick : Description → ℕ → Machine → List Bool → Outcome
-judgeTick d t m marks = onDone (judgeAt d t)
-    (cond (not (lawful d m)) (Refused ForeignState 0)
+unfoldable pub judgeTick : Policy → Description → ℕ → Machine → List Bool → Outcome
+judgeTick p d t m marks = onDone (judgeAt d t)
+    (cond (not (lawful p d m)) (Refused ForeignState 0)
     (cond (strangers d marks) (Refused Stranger 0)
     (cond (tooSoon d t marks m) (Refused TooSoon 0)
     Done)))
     Refused
 
 -- the tick call; a refusal changes "no part of a lent machine record"
-unfoldable pub plainTick : Description → ℕ → Machine → Arrivals → Bool → Ticked
-plainTick d t m a finish = onDone (judgeTick d t m (a .marks))
-    (record { outcome = Done; machine = stepped d t (a .marks) finish m })
+unfoldable pub plainTick : Policy → Description → ℕ → Machine → Arrivals → Bool → Ticked
+plainTick p d t m a finish = onDone (judgeTick p d t m (a .marks))
+    (record { outcome = Done; machine = stepped p d t (a .marks) finish m })
     (λ r place. record { outcome = Refused r place; machine = m })

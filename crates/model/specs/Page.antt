@@ -6,6 +6,8 @@ use mathlib.Core.Path.{_≡_}
 use lib.ListN.{length, getD}
 use lib.Dec.{eqb}
 use Rattle.model.specs.declared.Description.{Description}
+use Rattle.model.specs.declared.Policy.{Policy}
+use Rattle.model.specs.declared.Policy.the-variants.{Preemptive, HoldOn}
 use Rattle.model.specs.declared.Machine.{Machine}
 use Rattle.model.specs.declared.Ticked.{Ticked}
 use Rattle.model.specs.declared.Outcome.the-variants.{Done}
@@ -33,9 +35,14 @@ linesOf (c ∷ text) = elim (eqb c 10) [ true ↦ [] ∷ linesOf text | false �
 abbrev pub lineAt : List ℕ → ℕ → List ℕ
 lineAt page k = getD (linesOf page) k []
 
--- the first line of a page has these words; one of its lines has them
-abbrev pub FirstLine : List ℕ → List ℕ → Type 0
-FirstLine page words = lineAt page 0 ≡ words
+-- the line that has the tempo: the first, or the one after `hold`
+abbrev pub tempoPlace : Policy → ℕ
+tempoPlace Preemptive = 0
+tempoPlace HoldOn = 1
+
+-- that line of a page has these words; one of its lines has them
+abbrev pub TempoLine : Policy → List ℕ → List ℕ → Type 0
+TempoLine p page words = lineAt page (tempoPlace p) ≡ words
 
 abbrev pub HasLine : List ℕ → List ℕ → Type 0
 HasLine page words = (k : ℕ) × (k < length (linesOf page)) × (lineAt page k ≡ words)
@@ -50,7 +57,7 @@ heldWords l i j D M =
     wLink ++ (decimal l ++ (32 ∷ decimal i ++ (62 ∷ decimal j ++ (wHeld ++ (decimal D ++ (wOf ++ decimal M))))))
 
 -- what a line `link l i>j held D of M` says of a description whose quote is q: the link that it names, and how long events on it wait
-pub record HeldLine (d : Description) (q l i j D M : ℕ) : Type 0 where
+pub record HeldLine (p : Policy) (d : Description) (q l i j D M : ℕ) : Type 0 where
   -- "its place among the file's links, counted from 1, its ends"
   pub first : 1 ≤ l
   pub last : l ≤ d .«link_count»
@@ -59,26 +66,26 @@ pub record HeldLine (d : Description) (q l i j D M : ℕ) : Type 0 where
   pub critical : linkAt d (l - 1) .critical ≡ 1
   pub source : 33 ≤ i
   -- "the verdict, and for a source the delay and spacing at the quoted tempo"
-  pub verdict : verdictAt d q (l - 1) ≡ Held D M
+  pub verdict : verdictAt p d q (l - 1) ≡ Held D M
   pub spacing : spacingOf d q i ≡ M
   pub below : D < M
   -- in every list of calls from the start, however the knob moves up to the quote, every event on the link waits at most D ticks
-  pub waits : (x : ℕ) (cs : List Call) → UpTo q (ticks d (idle d) cs)
-      → x < length (ticks d (idle d) cs) → fires (tickAt (ticks d (idle d) cs) x) i ≡ true
-      → waitOf (ticks d (idle d) cs) j x ≤ D
+  pub waits : (x : ℕ) (cs : List Call) → UpTo q (ticks p d (idle d) cs)
+      → x < length (ticks p d (idle d) cs) → fires (tickAt (ticks p d (idle d) cs) x) i ≡ true
+      → waitOf (ticks p d (idle d) cs) j x ≤ D
 
--- what a page assures that has the tempo q as its first line
-pub record FromPage (file page : List ℕ) (q : ℕ) : Type 0 where
+-- what a page assures that has the tempo q
+pub record FromPage (p : Policy) (file page : List ℕ) (q : ℕ) : Type 0 where
   pub accepted : readFile file .outcome ≡ Done
-  pub quoted : quotedFile file ≡ Tempo q
+  pub quoted : quotedFile p file ≡ Tempo q
   pub low : 200 ≤ q
   pub high : q ≤ 3000
   -- the promise, however the knob moves up to q: of the record that the start call answers and every list of calls on it
   pub assured : (s : Ticked) (cs : List Call) (rs : List Ticked) (m : Machine)
-      → StartMeets (readFile file .description) s → Calls (readFile file .description) (s .machine) cs rs m
-      → UpTo q (ticks (readFile file .description) (idle (readFile file .description)) cs) → Assured (readFile file .description) q cs rs m
+      → StartMeets (readFile file .description) s → Calls p (readFile file .description) (s .machine) cs rs m
+      → UpTo q (ticks p (readFile file .description) (idle (readFile file .description)) cs) → Assured p (readFile file .description) q cs rs m
   -- each line of a held source link is true
-  pub held : (l i j D M : ℕ) → HasLine page (heldWords l i j D M) → HeldLine (readFile file .description) q l i j D M
+  pub held : (l i j D M : ℕ) → HasLine page (heldWords l i j D M) → HeldLine p (readFile file .description) q l i j D M
   -- and each critical link from a source has one
   pub told : (l : ℕ) → l < readFile file .description .«link_count» → linkAt (readFile file .description) l .critical ≡ 1
       → 33 ≤ linkAt (readFile file .description) l .from
@@ -86,4 +93,4 @@ pub record FromPage (file page : List ℕ) (q : ℕ) : Type 0 where
 
 -- the report of any bytes, read as a page
 abbrev pub Paper : Type 0
-Paper = (file : List ℕ) (q : ℕ) → ((i : ℕ) → getD file i 0 < 256) → FirstLine (reportOf file) (tempoWords q) → FromPage file (reportOf file) q
+Paper = (p : Policy) (file : List ℕ) (q : ℕ) → ((i : ℕ) → getD file i 0 < 256) → TempoLine p (reportOf p file) (tempoWords q) → FromPage p file (reportOf p file) q

@@ -8,6 +8,7 @@ use mathlib.Core.Logic.{_↔_}
 use lib.ListN.{length}
 use lib.Dec.{eqb}
 use Rattle.model.specs.declared.Description.{Description}
+use Rattle.model.specs.declared.Policy.{Policy}
 use Rattle.model.specs.declared.Machine.{Machine}
 use Rattle.model.specs.declared.Arrivals.{Arrivals}
 use Rattle.model.specs.declared.Outcome.{Outcome}
@@ -24,41 +25,41 @@ abbrev pub StartMeets : Description → Ticked → Type 0
 StartMeets d r = r ≡ started d
 
 -- what the tick call ensures of its outcome and of the caller's record, lent as m and left as m′
-abbrev pub TickMeets : Description → ℕ → Machine → Arrivals → Bool → Outcome → Machine → Type 0
-TickMeets d t m a finish o m′ = (o ≡ plainTick d t m a finish .outcome) × (m′ ≡ plainTick d t m a finish .machine)
+abbrev pub TickMeets : Policy → Description → ℕ → Machine → Arrivals → Bool → Outcome → Machine → Type 0
+TickMeets p d t m a finish o m′ = (o ≡ plainTick p d t m a finish .outcome) × (m′ ≡ plainTick p d t m a finish .machine)
 
 -- a list of calls with one description: each has its own tempo, is lent the record as the call before left it, nothing else writes it,
 -- and each meets what the tick call ensures
-pub data Calls (d : Description) : Machine → List Call → List Ticked → Machine → Type 0 where
-  none : {m : Machine} → Calls d m [] [] m
+pub data Calls (p : Policy) (d : Description) : Machine → List Call → List Ticked → Machine → Type 0 where
+  none : {m : Machine} → Calls p d m [] [] m
   call : {m : Machine} {c : Call} {r : Ticked} {cs : List Call} {rs : List Ticked} {m′ : Machine}
-      → TickMeets d (c .tempo) m (c .arrivals) (c .finish) (r .outcome) (r .machine) → Calls d (r .machine) cs rs m′ → Calls d m (c ∷ cs) (r ∷ rs) m′
+      → TickMeets p d (c .tempo) m (c .arrivals) (c .finish) (r .outcome) (r .machine) → Calls p d (r .machine) cs rs m′ → Calls p d m (c ∷ cs) (r ∷ rs) m′
 
 -- "no tempo of a run" is above q: of its ticks, for a refused call's tempo is not given
 abbrev pub UpTo : ℕ → List Tick → Type 0
 UpTo q h = (x : ℕ) → x < length h → tickAt h x .tempo ≤ q
 
 -- what is assured of such a list, whose calls were answered by rs and left the record m
-pub record Assured (d : Description) (q : ℕ) (cs : List Call) (rs : List Ticked) (m : Machine) : Type 0 where
+pub record Assured (p : Policy) (d : Description) (q : ℕ) (cs : List Call) (rs : List Ticked) (m : Machine) : Type 0 where
   -- "each call's refusal, or that there is none, and the record it leaves are equal to that machine's"
-  pub plain : rs ≡ answers d (idle d) cs
-  pub plain-left : m ≡ left d (idle d) cs
+  pub plain : rs ≡ answers p d (idle d) cs
+  pub plain-left : m ≡ left p d (idle d) cs
   -- no critical link has been dropped
   pub kept : (l : ℕ) → l < d .«link_count» → linkAt d l .critical ≡ 1
-      → Dropped (ticks d (idle d) cs) (linkAt d l .from) (linkAt d l .to) → ⊥
+      → Dropped (ticks p d (idle d) cs) (linkAt d l .from) (linkAt d l .to) → ⊥
   -- "its dropped mark is set exactly then", for every link
   pub marked : (l : ℕ) → l < d .«link_count»
-      → (droppedAt m l ≡ true) ↔ Dropped (ticks d (idle d) cs) (linkAt d l .from) (linkAt d l .to)
+      → (droppedAt m l ≡ true) ↔ Dropped (ticks p d (idle d) cs) (linkAt d l .from) (linkAt d l .to)
   -- no event from a source on a critical link has waited longer than the delay printed for it, which is the verdict's at the quote
   pub waited : (l x : ℕ) → l < d .«link_count» → linkAt d l .critical ≡ 1 → 33 ≤ linkAt d l .from
-      → x < length (ticks d (idle d) cs) → fires (tickAt (ticks d (idle d) cs) x) (linkAt d l .from) ≡ true
-      → waitOf (ticks d (idle d) cs) (linkAt d l .to) x ≤ delayIn (verdictAt d q l)
+      → x < length (ticks p d (idle d) cs) → fires (tickAt (ticks p d (idle d) cs) x) (linkAt d l .from) ≡ true
+      → waitOf (ticks p d (idle d) cs) (linkAt d l .to) x ≤ delayIn (verdictAt p d q l)
 
 -- The promise: for one accepted file that has a quote (given as a record whose numbers fit their types), the record that the start call answers,
 -- and every list of calls on it, however the knob moves up to the quote
 abbrev pub Promise : Type 0
-Promise = (d : Description) (q : ℕ) (s : Ticked) (cs : List Call) (rs : List Ticked) (m : Machine)
-    → Widths d → quoteOf d ≡ Tempo q → StartMeets d s → Calls d (s .machine) cs rs m → UpTo q (ticks d (idle d) cs) → Assured d q cs rs m
+Promise = (p : Policy) (d : Description) (q : ℕ) (s : Ticked) (cs : List Call) (rs : List Ticked) (m : Machine)
+    → Widths d → quoteOf p d ≡ Tempo q → StartMeets d s → Calls p d (s .machine) cs rs m → UpTo q (ticks p d (idle d) cs) → Assured p d q cs rs m
 
 -- every call of a list is at tempo t
 unfoldable pub atTempo : ℕ → List Call → Bool
@@ -67,5 +68,5 @@ atTempo t (c ∷ cs) = eqb (c .tempo) t && atTempo t cs
 
 -- Demand 3: the same of calls that all have one tempo up to the quote; 01 has "the same T, from 200 to that quote", and below 200 every call is refused
 abbrev pub Demand3 : Type 0
-Demand3 = (d : Description) (q t : ℕ) (s : Ticked) (cs : List Call) (rs : List Ticked) (m : Machine)
-    → Widths d → quoteOf d ≡ Tempo q → t ≤ q → atTempo t cs ≡ true → StartMeets d s → Calls d (s .machine) cs rs m → Assured d q cs rs m
+Demand3 = (p : Policy) (d : Description) (q t : ℕ) (s : Ticked) (cs : List Call) (rs : List Ticked) (m : Machine)
+    → Widths d → quoteOf p d ≡ Tempo q → t ≤ q → atTempo t cs ≡ true → StartMeets d s → Calls p d (s .machine) cs rs m → Assured p d q cs rs m

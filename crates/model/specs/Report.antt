@@ -6,6 +6,8 @@ use lib.ListN.{take}
 use lib.Dec.{ltb}
 use Rattle.model.specs.declared.Link.{Link}
 use Rattle.model.specs.declared.Description.{Description}
+use Rattle.model.specs.declared.Policy.{Policy}
+use Rattle.model.specs.declared.Policy.the-variants.{Preemptive, HoldOn}
 use Rattle.model.specs.declared.Refusal.{Refusal}
 use Rattle.model.specs.declared.Verdict.{Verdict}
 use Rattle.model.specs.declared.Verdict.the-variants.{Free, HeldOrder, DoubtOrder, Held, Doubt}
@@ -71,6 +73,10 @@ wDoubt = 32 ∷ 100 ∷ 111 ∷ 117 ∷ 98 ∷ 116 ∷ []
 abbrev pub wOf : List ℕ
 wOf = 32 ∷ 111 ∷ 102 ∷ 32 ∷ []
 
+-- "hold"
+abbrev pub wHold : List ℕ
+wHold = 104 ∷ 111 ∷ 108 ∷ 100 ∷ []
+
 -- "each line ends in one line feed"
 abbrev pub lineOf : List ℕ → List ℕ
 lineOf text = text ++ (10 ∷ [])
@@ -95,8 +101,8 @@ verdictText (Doubt m) = wDoubt ++ (wOf ++ decimal m)
 unfoldable pub linkLine : ℕ → Link → Verdict → List ℕ
 linkLine l e v = lineOf (wLink ++ (decimal (suc l) ++ (32 ∷ decimal (e .from) ++ (62 ∷ decimal (e .to) ++ verdictText v))))
 
-unfoldable pub linkLines : Description → ℕ → List ℕ
-linkLines d t = joined (d .«link_count») (λ l. linkLine l (linkAt d l) (verdictAt d t l))
+unfoldable pub linkLines : Policy → Description → ℕ → List ℕ
+linkLines p d t = joined (d .«link_count») (λ l. linkLine l (linkAt d l) (verdictAt p d t l))
 
 -- `refused 4 at 26`: number and place
 unfoldable pub refusedLine : Refusal → ℕ → List ℕ
@@ -107,22 +113,30 @@ abbrev pub shownTempo : Quote → ℕ
 shownTempo (Tempo t) = t
 shownTempo (Unquoted r place) = 200
 
-unfoldable pub reportFor : Description → Quote → List ℕ
-reportFor d q = tempoLine q ++ linkLines d (shownTempo q)
+unfoldable pub reportFor : Policy → Description → Quote → List ℕ
+reportFor p d q = tempoLine q ++ linkLines p d (shownTempo q)
 
--- the report of a file: "other refusals print only `refused 4 at 26`"
-unfoldable pub reportOf : List ℕ → List ℕ
-reportOf file =
+-- the report of a file in 01's form: "other refusals print only `refused 4 at 26`"
+unfoldable pub plainReport : Policy → List ℕ → List ℕ
+plainReport p file =
     let r = readFile file in
-    onDone (r .outcome) (reportFor (r .description) (largestBelow (allHeld (r .description)) 2801)) refusedLine
+    onDone (r .outcome) (reportFor p (r .description) (largestBelow (allHeld p (r .description)) 2801)) refusedLine
+
+-- "a line `hold` before its first, a refused line included"
+abbrev pub policyLine : Policy → List ℕ
+policyLine Preemptive = []
+policyLine HoldOn = lineOf wHold
+
+unfoldable pub reportOf : Policy → List ℕ → List ℕ
+reportOf p file = policyLine p ++ plainReport p file
 
 -- the report call: "the call that fills it is itself refused only by 13"
-unfoldable pub reported : List ℕ → List ℕ → Filled
-reported file buffer = fillWith (reportOf file) buffer
+unfoldable pub reported : Policy → List ℕ → List ℕ → Filled
+reported p file buffer = fillWith (reportOf p file) buffer
 
-unfoldable pub pageReported : List ℕ → List ℕ → List ℕ
-pageReported file buffer = filledBy (reportOf file) buffer
+unfoldable pub pageReported : Policy → List ℕ → List ℕ → List ℕ
+pageReported p file buffer = filledBy (reportOf p file) buffer
 
--- the program: "reads the first 4,096 bytes of standard input and ignores the rest"
-unfoldable pub printed : List ℕ → List ℕ
-printed input = reportOf (take 4096 input)
+-- the programs: "reads the first 4,096 bytes of standard input and ignores the rest"
+unfoldable pub printed : Policy → List ℕ → List ℕ
+printed p input = reportOf p (take 4096 input)

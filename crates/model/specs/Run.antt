@@ -6,6 +6,7 @@ use mathlib.Core.Path.{_≡_}
 use lib.ListN.{length, getD, take}
 use lib.Dec.{eqb, ltb}
 use Rattle.model.specs.declared.Description.{Description}
+use Rattle.model.specs.declared.Policy.{Policy}
 use Rattle.model.specs.declared.Ticked.{Ticked}
 use Rattle.model.specs.declared.Outcome.the-variants.{Done}
 use Rattle.model.specs.declared.Refusal.the-variants.{ShortPage}
@@ -43,33 +44,33 @@ codes [] = []
 codes (r ∷ rs) = ofOutcome (r .outcome) .number ∷ codes rs
 
 -- the codes of the plain machine's answers
-abbrev pub page : Description → List Call → List ℕ
-page d cs = codes (answers d (idle d) cs)
+abbrev pub page : Policy → Description → List Call → List ℕ
+page p d cs = codes (answers p d (idle d) cs)
 
 -- the run's answer: 1 to 10 as judged, 13 where the buffer does not hold a byte for each call, or else the record after the last call
-abbrev pub ranFrom : Description → List Call → List ℕ → Ticked
-ranFrom d cs buffer =
+abbrev pub ranFrom : Policy → Description → List Call → List ℕ → Ticked
+ranFrom p d cs buffer =
     cond (ltb (length buffer) (length cs))
     (unstarted ShortPage 0)
-    (record { outcome = Done; machine = left d (idle d) cs })
+    (record { outcome = Done; machine = left p d (idle d) cs })
 
-unfoldable pub ran : Description → List Call → List ℕ → Ticked
-ran d cs buffer = onDone (judge d) (ranFrom d cs buffer) unstarted
+unfoldable pub ran : Policy → Description → List Call → List ℕ → Ticked
+ran p d cs buffer = onDone (judge d) (ranFrom p d cs buffer) unstarted
 
 -- the buffer after it: "a refusal changes no byte of a lent buffer"
-unfoldable pub pageRan : Description → List Call → List ℕ → List ℕ
-pageRan d cs buffer = onDone (judge d) (filledBy (page d cs) buffer) (λ r place. buffer)
+unfoldable pub pageRan : Policy → Description → List Call → List ℕ → List ℕ
+pageRan p d cs buffer = onDone (judge d) (filledBy (page p d cs) buffer) (λ r place. buffer)
 
 -- the promise of a run's own answer and buffer: its record is the one that a list of tick calls from the start leaves, the first bytes
 -- of its buffer are the codes of those calls' answers, and of both all is assured
-pub record RunAssured (d : Description) (q : ℕ) (cs : List Call) (buffer : List ℕ) (r : Ticked) : Type 0 where
+pub record RunAssured (p : Policy) (d : Description) (q : ℕ) (cs : List Call) (buffer : List ℕ) (r : Ticked) : Type 0 where
   pub answered : List Ticked
-  pub called : Calls d (idle d) cs answered (r .machine)
+  pub called : Calls p d (idle d) cs answered (r .machine)
   pub told : take (length cs) buffer ≡ codes answered
-  pub assured : Assured d q cs answered (r .machine)
+  pub assured : Assured p d q cs answered (r .machine)
 
 -- what the run call ensures of its answer and of the caller's buffer
-pub record RunMeets (d : Description) (cs : List Call) (buffer buffer′ : List ℕ) (r : Ticked) : Type 0 where
-  pub answer : r ≡ ran d cs buffer
-  pub filled : buffer′ ≡ pageRan d cs buffer
-  pub assured : (q : ℕ) → quoteOf d ≡ Tempo q → UpTo q (ticks d (idle d) cs) → r .outcome ≡ Done → RunAssured d q cs buffer′ r
+pub record RunMeets (p : Policy) (d : Description) (cs : List Call) (buffer buffer′ : List ℕ) (r : Ticked) : Type 0 where
+  pub answer : r ≡ ran p d cs buffer
+  pub filled : buffer′ ≡ pageRan p d cs buffer
+  pub assured : (q : ℕ) → quoteOf p d ≡ Tempo q → UpTo q (ticks p d (idle d) cs) → r .outcome ≡ Done → RunAssured p d q cs buffer′ r

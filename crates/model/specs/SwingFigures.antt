@@ -3,6 +3,7 @@ use Prim.Native.Nat.{ℕ, _*_, _/_}
 use mathlib.Core.List.{List, [], _∷_, _++_}
 use mathlib.Core.Path.{_≡_}
 use Rattle.model.specs.declared.Source.the-variants.{Paced, Swung}
+use Rattle.model.specs.declared.Policy.the-variants.{Preemptive}
 use Rattle.model.specs.declared.Description.{Description}
 use Rattle.model.specs.declared.Field.the-variants.{OfSource}
 use Rattle.model.specs.declared.Taken.the-variants.{Whole}
@@ -53,5 +54,5 @@ pub record SwingFigures : Type 0 where
   pub length-4-cut : readPaced (0 ∷ 4 ∷ 0 ∷ 24 ∷ []) ≡ refusedAt7 3
   pub length-3-cut : readPaced (0 ∷ 3 ∷ 0 ∷ 24 ∷ []) ≡ refusedAt7 1
   -- link 3 of Box at 121.2 and 121.3
-  pub box-held : verdictAt swungBox 1212 2 ≡ Held 700 701
-  pub box-doubtful : verdictAt swungBox 1213 2 ≡ Doubt 700
+  pub box-held : verdictAt Preemptive swungBox 1212 2 ≡ Held 700 701
+  pub box-doubtful : verdictAt Preemptive swungBox 1213 2 ≡ Doubt 700

@@ -152,6 +152,12 @@ pub enum Quote {
     Unquoted(Refusal, usize),
 }
 
+// Who goes on: the highest awake task at every tick, or the one that runs until its run ends (the hold-on model).
+pub enum Policy {
+    Preemptive,
+    HoldOn,
+}
+
 // The tick machine's record. Of each source it keeps the age and the fastest tempo given since its last firing, 0 before the first.
 pub struct Machine {
     pub awake: [bool; 32],

@@ -1,6 +1,6 @@
 -- The rules of the record, place by place. Assumes nothing.
-use Prim.Native.Nat.{ℕ, _+_, _-_, _<_}
-use mathlib.Core.Path.{_≡_, refl, sym, _∙_}
+use Prim.Native.Nat.{ℕ, suc, _+_, _-_, _≤_, _<_}
+use mathlib.Core.Path.{_≡_, refl, sym, ap, _∙_}
 use mathlib.Core.Bool.{Bool, true, false, _||_, _&&_, not, cond}
 use mathlib.Core.List.{List}
 use native.Mathlib.Omega.{arith}
@@ -9,7 +9,7 @@ use lib.ListN.{getD}
 use lib.Dec.{ltb, leb, eqb}
 use borrow.Author.Tests.{ltb-true, leb-true, le-leb, lt-ltb}
 use Rattle.model.specs.declared.Description.{Description}
-use Rattle.model.specs.Basics.{allN}
+use Rattle.model.specs.Basics.{sumN, allN, given}
 use Rattle.model.specs.Graph.{linkAt}
 use Rattle.model.specs.Verdicts.{onKnob}
 use Rattle.model.specs.Machine.{longestGap, taskRule, linkRule, sourceRule}
@@ -78,3 +78,21 @@ entered d w r = record {
       let k : l < d .«link_count» = omega (arith, r .many) in
       omega (arith, r .enters l h, to-most d (r .formed .fields) l k .1);
 }
+
+-- tasks that are part done, counted one by one
+pub counted-none : (used : List ℕ) → 0 ≡ sumN (λ j. given (ltb 0 (getD used (j - 1) 0)) 1) 1 0
+unfolding sumN
+counted-none used = refl
+
+pub counted : (used : List ℕ) (k count part : ℕ) → count ≡ sumN (λ j. given (ltb 0 (getD used (j - 1) 0)) 1) 1 k → part ≡ given (ltb 0 (getD used k 0)) 1 → count + part ≡ sumN (λ j. given (ltb 0 (getD used (j - 1) 0)) 1) 1 (k + 1)
+unfolding sumN
+counted used k count part e f =
+    let n : suc k ≡ k + 1 = omega arith in
+    let i : 1 + k - 1 ≡ k = omega arith in
+    ap (λ x. x + part) e
+    ∙ ap (λ x. sumN (λ j. given (ltb 0 (getD used (j - 1) 0)) 1) 1 k + x) (f ∙ ap (λ x. given (ltb 0 (getD used x 0)) 1) (sym i))
+    ∙ ap (sumN (λ j. given (ltb 0 (getD used (j - 1) 0)) 1) 1) n
+
+pub count-most : (b : Bool) → given b 1 ≤ 1
+count-most true = omega arith
+count-most false = omega arith

@@ -1,14 +1,16 @@
 -- What the tests of a record ensure, of every description whose tables they are given.
-use Prim.Native.Nat.{ℕ, _≤_, _<_}
+use Prim.Native.Nat.{ℕ, _-_, _≤_, _<_}
 use mathlib.Core.Bool.{Bool}
 use mathlib.Core.List.{List}
 use mathlib.Core.Path.{_≡_}
 use lib.ListN.{getD}
+use lib.Dec.{ltb}
 use Rattle.model.specs.declared.Description.{Description}
+use Rattle.model.specs.declared.Policy.{Policy}
 use Rattle.model.specs.declared.Machine.{Machine}
-use Rattle.model.specs.Basics.{allN}
+use Rattle.model.specs.Basics.{sumN, allN, given}
 use Rattle.model.specs.Graph.{linkAt}
-use Rattle.model.specs.Machine.{taskRule, linkRule, sourceRule, lawful}
+use Rattle.model.specs.Machine.{taskRule, linkRule, sourceRule, rulesKept, aloneRule, lawful}
 use Rattle.wiring.specs.declared.Wiring.{Wiring}
 use Rattle.wiring.specs.Rows.{WiringOf}
 use Rattle.spacings.specs.Gaps.{GapsOf}
@@ -41,5 +43,15 @@ SourcesLawful gaps sources ages fastest r =
     (d : Description) (awake waiting dropped : List Bool) (used : List ℕ) → d .«source_count» ≡ sources → GapsOf d 200 gaps
     → r ≡ allN (sourceRule d (parts awake used waiting dropped ages fastest)) 0 16
 
-abbrev pub Lawful : Wiring → List ℕ → Machine → Bool → Type 0
-Lawful w gaps m r = (d : Description) → WiringOf d w → GapsOf d 200 gaps → r ≡ lawful d m
+abbrev pub RulesKept : Wiring → List ℕ → Machine → Bool → Type 0
+RulesKept w gaps m r = (d : Description) → WiringOf d w → GapsOf d 200 gaps → r ≡ rulesKept d m
+
+-- how many tasks are part done
+abbrev pub partsIn : List ℕ → ℕ
+partsIn used = sumN (λ k. given (ltb 0 (getD used (k - 1) 0)) 1) 1 32
+
+abbrev pub Alone : Policy → List ℕ → Bool → Type 0
+Alone p used r = (m : Machine) → m .used ≡ used → r ≡ aloneRule p m
+
+abbrev pub Lawful : Policy → Wiring → List ℕ → Machine → Bool → Type 0
+Lawful p w gaps m r = (d : Description) → WiringOf d w → GapsOf d 200 gaps → r ≡ lawful p d m

@@ -1,14 +1,16 @@
 // The rules of the machine's record.
 
 use model::Machine;
+use model::Policy;
 use numbers::index;
 use spacings::on_knob;
 use wiring::Wiring;
 ghost use mathlib.Core.Path.{_≡_};
 ghost use mathlib.Core.Bool.{_||_, _&&_, not, cond};
 ghost use lib.Dec.{ltb, leb, eqb};
+ghost use Rattle.model.specs.Basics.{given};
 ghost use Rattle.model.specs.Verdicts.{onKnob};
-ghost use Rattle.rules.specs.Rules.{Enters, TasksLawful, LinksLawful, SourcesLawful, Lawful};
+ghost use Rattle.rules.specs.Rules.{Enters, TasksLawful, LinksLawful, SourcesLawful, RulesKept, partsIn, Alone, Lawful};
 
 // Used is below the longest run, and 0 for a sleeping task; nothing is set for an absent one.
 fn task_lawful(here: bool, run: u32, awake: bool, used: u32) -> bool
@@ -124,10 +126,10 @@ fn sources_lawful<'a>(
     true
 }
 
-// Whether a record keeps the rules, the spacings being those for 20.0; 16 otherwise.
-pub fn lawful(w: Wiring, gaps: [u32; 16], m: Machine) -> bool
+// Whether a record keeps the rules of both models, the spacings being those for 20.0.
+fn rules_kept(w: Wiring, gaps: [u32; 16], m: Machine) -> bool
     requires { ⌜ Enters (w .to) (w .links) ⌝ }
-    ensures { λ r. ⌜ Lawful w gaps m r ⌝ }
+    ensures { λ r. ⌜ RulesKept w gaps m r ⌝ }
 {
     let links = w.links;
     let tasks = w.tasks;
@@ -139,4 +141,48 @@ pub fn lawful(w: Wiring, gaps: [u32; 16], m: Machine) -> bool
         return false;
     }
     sources_lawful(&gaps, sources, &m.ages, &m.fastest)
+}
+
+// 1 for a task that is part done.
+fn part(used: u32) -> usize
+    ensures { λ r. ⌜ r ≡ given (ltb 0 used) 1 ⌝ }
+{
+    if 0 < used {
+        return 1;
+    }
+    0
+}
+
+// How many tasks are part done.
+fn parts_done(used: &[u32; 32]) -> usize
+    ensures { λ r. ⌜ r ≡ partsIn (now (used .entry)) ⌝ }
+{
+    let mut count: usize = 0;
+    let mut k: usize = 0;
+    while k < 32 {
+        count += part(used[k]);
+        k += 1;
+    }
+    count
+}
+
+// On the hold-on model one task at most is part done.
+fn alone(p: Policy, used: &[u32; 32]) -> bool
+    ensures { λ r. ⌜ Alone p (now (used .entry)) r ⌝ }
+{
+    let Policy::HoldOn = p else {
+        return true;
+    };
+    parts_done(used) <= 1
+}
+
+// Whether a record keeps the rules; 16 otherwise.
+pub fn lawful(p: Policy, w: Wiring, gaps: [u32; 16], m: Machine) -> bool
+    requires { ⌜ Enters (w .to) (w .links) ⌝ }
+    ensures { λ r. ⌜ Lawful p w gaps m r ⌝ }
+{
+    if !rules_kept(w, gaps, m) {
+        return false;
+    }
+    alone(p, &m.used)
 }

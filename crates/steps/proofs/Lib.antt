@@ -2,5 +2,6 @@
 pub mod MaskLaws
 pub mod MarkLaws
 pub mod ArriveLaws
+pub mod ChoiceLaws
 pub mod StepLaws
 pub mod RecordLaws

@@ -111,6 +111,17 @@ module _ (d : Description) (rows : List ℕ) (x : ℕ) (w w′ : Words) (alone :
         dropped = λ l. ap (λ i. inside i l) e ∙ h .dropped l ∙ sym (ap (λ (i : List Bool). getD i l false) (f .dropped));
       }
 
+-- the same marks in other words
+pub marks-same : (d : Description) (w w′ : Words) (m : Machine) → (w′ .awake ≡ w .awake) × (w′ .waiting ≡ w .waiting) × (w′ .dropped ≡ w .dropped) → Marks d w m → Marks d w′ m
+marks-same d w w′ m e h = record {
+  sized = h .sized;
+  no-zero = ap (λ s. member s 0) (e .0) ∙ h .no-zero;
+  present = λ k p. h .present k (sym (ap (λ s. member s k) (e .0)) ∙ p);
+  awake = λ k p. ap (λ s. member s k) (e .0) ∙ h .awake k p;
+  waiting = λ l. ap (λ s. inside s l) (e .1) ∙ h .waiting l;
+  dropped = λ l. ap (λ s. inside s l) (e .2) ∙ h .dropped l;
+}
+
 -- a change of another part leaves the marks
 pub marks-used : (d : Description) (w : Words) (m : Machine) (k x : ℕ) → Marks d w m → Marks d w (setUsed k x m)
 marks-used d w m k x h = record {

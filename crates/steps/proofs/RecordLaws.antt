@@ -9,12 +9,13 @@ use native.Mathlib.Decide.{decLt}
 use lib.ListN.{getD, length, replicate, List·getD-eq-default}
 use lib.Seq.{ext-getD}
 use lib.Dec.{eqb, ltb, leb}
-use borrow.Author.Tests.{eqb-true, eq-eqb, ne-eqb, leb-true, lt-ltb, le-ltb, lt-leb, not-true}
+use borrow.Author.Tests.{eqb-true, eq-eqb, ne-eqb, leb-true, lt-ltb, le-ltb, lt-leb, ltb-true, not-true}
 use Rattle.model.specs.declared.Description.{Description}
+use Rattle.model.specs.declared.Policy.{Policy}
 use Rattle.model.specs.declared.Machine.{Machine}
 use Rattle.model.specs.Basics.{allN}
 use Rattle.model.specs.Verdicts.{onKnob}
-use Rattle.model.specs.Machine.{awakeAt, usedAt, ageAt, fastestAt, longestGap, idle, taskRule, linkRule, sourceRule, lawful}
+use Rattle.model.specs.Machine.{awakeAt, usedAt, ageAt, fastestAt, longestGap, idle, taskRule, linkRule, sourceRule, rulesKept}
 use Rattle.lemmas.proofs.Tests.{not-both, false-of, and-left, and-right}
 use Rattle.lemmas.proofs.Table.{getD-tab, length-tab, getD-same}
 use Rattle.lemmas.proofs.Range.{all-at}
@@ -27,7 +28,7 @@ use Rattle.sets.specs.Wide.{wordIn, inside}
 use Rattle.sets.proofs.SetLaws.{member-none}
 use Rattle.steps.specs.declared.words.Words.{Words}
 use Rattle.spacings.specs.Gaps.{GapsOf}
-use Rattle.steps.specs.Words.{Holds, Keeps, raisedTo}
+use Rattle.steps.specs.Words.{Holds, holdsOn, Goes, Keeps, raisedTo}
 use Rattle.steps.specs.Record.{AwakeOf, AwakeIn, LinksOf, AgesOf, SinceOf, Begins}
 use Rattle.lemmas.proofs.Bools.{and-off, and-swap, less-more}
 
@@ -70,10 +71,10 @@ link-word s l h = go (l / 64) (omega arith)
     go (suc (suc (suc zero))) p = refl
     go (suc (suc (suc (suc v)))) p = absurd (omega arith)
 
--- the awake tasks of a word, up to k
-pub awake-more : (awake : List Bool) (set k set′ : ℕ) → (member set 0 ≡ false) × ((j : ℕ) → member set (suc j) ≡ (ltb j k && getD awake j false)) → ((j : ℕ) → member set′ j ≡ (member set j || (getD awake k false && eqb j (k + 1)))) → (member set′ 0 ≡ false) × ((j : ℕ) → member set′ (suc j) ≡ (ltb j (k + 1) && getD awake j false))
-awake-more awake set k set′ h e =
-    (e 0 ∙ rw (h .0, ne-eqb 0 (k + 1) (λ z. omega arith)) (and-off (getD awake k false)), λ j. e (suc j) ∙ rw (h .1 j, step j) (ap (λ b. (ltb j k && getD awake j false) || b) (and-swap (getD awake k false) (eqb j k)) ∙ sym (less-more (λ i. getD awake i false) j k) ∙ ap (λ i. ltb j i && getD awake j false) next))
+-- the tasks of a word that pass a test, up to k
+pub part-more : (f : ℕ → Bool) (set k set′ : ℕ) → (member set 0 ≡ false) × ((j : ℕ) → member set (suc j) ≡ (ltb j k && f j)) → ((j : ℕ) → member set′ j ≡ (member set j || (f k && eqb j (k + 1)))) → (member set′ 0 ≡ false) × ((j : ℕ) → member set′ (suc j) ≡ (ltb j (k + 1) && f j))
+part-more f set k set′ h e =
+    (e 0 ∙ rw (h .0, ne-eqb 0 (k + 1) (λ z. omega arith)) (and-off (f k)), λ j. e (suc j) ∙ rw (h .1 j, step j) (ap (λ b. (ltb j k && f j) || b) (and-swap (f k) (eqb j k)) ∙ sym (less-more f j k) ∙ ap (λ i. ltb j i && f j) next))
   where
     next : suc k ≡ k + 1
     next = omega arith
@@ -85,6 +86,27 @@ awake-more awake set k set′ h e =
         go true f = eq-eqb (suc j) (k + 1) (omega (arith, eqb-true j k f)) ∙ sym f
         go false f = false-of (eqb (suc j) (k + 1)) (λ y. not-both (eq-eqb j k (omega (arith, eqb-true (suc j) (k + 1) y))) f) ∙ sym f
 
+-- those that go on: none of them, or those that are part done
+pub part-none : (p : Policy) (used : List ℕ) → holdsOn p ≡ false → Goes p 0 used
+part-none p used e = record {
+  low = λ k f. absurd (not-both f (member-none k));
+  here = λ k o h. member-none k ∙ sym (ap (λ (b : Bool). b && ltb 0 (getD used (k - 1) 0)) e);
+}
+
+pub part-done : (p : Policy) (used : List ℕ) (set : ℕ) → holdsOn p ≡ true → member set 0 ≡ false → ((j : ℕ) → member set (suc j) ≡ (ltb j 32 && ltb 0 (getD used j 0))) → Goes p set used
+part-done p used set e z h = record { low = low; here = here }
+  where
+    low : (k : ℕ) → member set k ≡ true → (1 ≤ k) × (k ≤ 32)
+    low zero f = absurd (not-both f z)
+    low (suc j) f = let q : j < 32 = ltb-true j 32 (and-left (ltb j 32) _ (sym (h j) ∙ f)) in (omega arith, omega arith)
+
+    here : (k : ℕ) → 1 ≤ k → k ≤ 32 → member set k ≡ (holdsOn p && ltb 0 (getD used (k - 1) 0))
+    here zero o b = absurd (omega arith)
+    here (suc j) o b =
+        let n : suc j - 1 ≡ j = omega arith in
+        h j ∙ rw (lt-ltb j 32 (omega arith), e, n) refl
+
+-- the awake tasks of a word
 pub awake-done : (awake : List Bool) (set : ℕ) → length awake ≡ 32 → (member set 0 ≡ false) × ((j : ℕ) → member set (suc j) ≡ (ltb j 32 && getD awake j false)) → AwakeIn awake set
 awake-done awake set z h = (h .0, λ k p. let e : suc (k - 1) ≡ k = omega arith in subst (λ i. member set i ≡ getD awake (k - 1) false) e (h .1 (k - 1) ∙ at (k - 1) (decLt (k - 1) 32)))
   where
@@ -140,6 +162,16 @@ begun d w gaps since g b s r = record {
     absent u p (yes q) = getD-tab 16 _ 0 u q ∙ rw (le-ltb u (d .«source_count») p) refl
     absent u p (no q) = List·getD-eq-default (idle d .ages) 0 {n = u} (omega (arith, length-tab 16 (λ u. cond (ltb u (d .«source_count»)) (longestGap d u) 0)))
 
+-- nobody goes on
+pub none-going : (p : Policy) (w : Words) → Begins w → Goes p (w .running) (replicate 32 0)
+none-going p w b = record {
+  low = λ k f. absurd (not-both f (none k));
+  here = λ k o h. none k ∙ sym (ap (λ x. holdsOn p && ltb 0 x) (getD-same {A = ℕ} 32 (k - 1) 0) ∙ and-off (holdsOn p));
+}
+  where
+    none : (k : ℕ) → member (w .running) k ≡ false
+    none k = ap (λ s. member s k) (b .idle) ∙ member-none k
+
 -- it keeps no tempo
 pub idle-fastest : (d : Description) → replicate 16 0 ≡ idle d .fastest
 unfolding idle
@@ -156,13 +188,13 @@ none-kept d w b = record {
 }
 
 -- words of a record that keeps the rules hold it
-module _ (d : Description) (m : Machine) (g : WellFormed d) (l : lawful d m ≡ true) (z : Sized m) where
+module _ (d : Description) (m : Machine) (g : WellFormed d) (l : rulesKept d m ≡ true) (z : Sized m) where
   task-rule : (k : ℕ) → 1 ≤ k → k ≤ 32 → taskRule d m k ≡ true
-  unfolding lawful
+  unfolding rulesKept
   task-rule k p q = all-at (taskRule d m) 1 32 (and-left (allN (taskRule d m) 1 32) _ l) k p (omega arith)
 
   source-rule : (u : ℕ) → u < 16 → sourceRule d m u ≡ true
-  unfolding lawful
+  unfolding rulesKept
   source-rule u p = all-at (sourceRule d m) 0 16 (and-right (allN (linkRule d m) 0 256) _ (and-right (allN (taskRule d m) 1 32) _ l)) u (omega arith) (omega arith)
 
   absent : (k : ℕ) → 1 ≤ k → d .«task_count» < k → awakeAt m k ≡ true → ⊥

@@ -1,7 +1,7 @@
 -- One step of a tick on the words and on the record that they hold. Assumes nothing.
 use Prim.Native.Nat.{ℕ, zero, suc, _+_, _-_, _≤_, _<_, min, max}
 use mathlib.Core.Path.{_≡_, refl, sym, ap, subst, _∙_}
-use mathlib.Core.Bool.{Bool, true, false, _||_, not}
+use mathlib.Core.Bool.{Bool, true, false, _||_, not, cond}
 use mathlib.Core.List.{List}
 use mathlib.Core.Logic.{_⊎_, inl, inr}
 use native.Mathlib.Omega.{arith}
@@ -10,6 +10,7 @@ use lib.Seq.{getD-set-same}
 use lib.Dec.{eqb}
 use borrow.Author.Tests.{ne-eqb, lt-ltb, le-ltb}
 use Rattle.model.specs.declared.Description.{Description}
+use Rattle.model.specs.declared.Policy.{Policy}
 use Rattle.model.specs.declared.Machine.{Machine}
 use Rattle.model.specs.Basics.{upTo}
 use Rattle.model.specs.Graph.{runOf}
@@ -21,9 +22,10 @@ use Rattle.sets.specs.Sets.{member, LastIn}
 use Rattle.sets.specs.Wide.{inside}
 use Rattle.steps.specs.declared.words.Words.{Words}
 use Rattle.model.specs.Run.{heard, marksIn}
-use Rattle.steps.specs.Words.{Marks, Ages, Holds, worked, Above, raisedTo, atTempos}
+use Rattle.steps.specs.Words.{Marks, Ages, Holds, Goes, worked, Above, raisedTo, atTempos}
 use Rattle.steps.proofs.MaskLaws.{mark-in}
-use Rattle.steps.proofs.MarkLaws.{marks-used, highest-is, highest-none}
+use Rattle.steps.proofs.MarkLaws.{marks-same, marks-used}
+use Rattle.steps.proofs.ChoiceLaws.{choose-is, choose-none}
 use Rattle.lemmas.proofs.Bools.{and-off}
 use Rattle.lemmas.proofs.Table.{set-twice}
 
@@ -76,45 +78,45 @@ end-on : (d : Description) (h : ℕ) (finish : Bool) (m : Machine) → 1 ≤ h �
 unfolding endRun
 end-on d h finish m p e = rw (e, ne-eqb h 0 (λ z. omega arith)) refl
 
-pub work-none : (d : Description) (w : Words) (used since : List ℕ) (finish : Bool) (m : Machine) → w .awake ≡ 0 → Holds d w used since m → Holds d w used since (worked d finish m)
-work-none d w used since finish m e h =
-    let q : worked d finish m ≡ m = ap (λ k. endRun d k finish (runTask k m)) (highest-none d w m (h .marks) e) ∙ ap (endRun d 0 finish) (run-none m) ∙ end-none d finish m in
+pub work-none : (p : Policy) (d : Description) (w : Words) (used since : List ℕ) (finish : Bool) (m : Machine) → WellFormed d → ((k : ℕ) → member (w .running) k ≡ true → member (w .awake) k ≡ true) → w .awake ≡ 0 → Goes p (w .running) used → Holds d w used since m → Holds d w used since (worked p d finish m)
+work-none p d w used since finish m g going e r h =
+    let q : worked p d finish m ≡ m = ap (λ k. endRun d k finish (runTask k m)) (choose-none p d w used since m g r h going e) ∙ ap (endRun d 0 finish) (run-none m) ∙ end-none d finish m in
     subst (λ (k : Machine). Holds d w used since k) (sym q) h
 
--- h is the highest awake task, which has used so much more
-module _ (d : Description) (w : Words) (used since runs : List ℕ) (finish : Bool) (m : Machine) (g : WellFormed d) (s : runs ≡ d .runs) (H : Holds d w used since m) (h more : ℕ) (l : LastIn (w .awake) h) (p : 1 ≤ h) (q : h ≤ 32) (e : more ≡ getD used (h - 1) 0 + 1) where
+-- h is the task that runs, which has used so much more
+module _ (pol : Policy) (d : Description) (w : Words) (used since runs : List ℕ) (finish : Bool) (m : Machine) (g : WellFormed d) (s : runs ≡ d .runs) (going : (k : ℕ) → member (w .running) k ≡ true → member (w .awake) k ≡ true) (r : Goes pol (w .running) used) (H : Holds d w used since m) (h more : ℕ) (l : LastIn (cond (eqb (w .running) 0) (w .awake) (w .running)) h) (p : 1 ≤ h) (q : h ≤ 32) (e : more ≡ getD used (h - 1) 0 + 1) where
   ran-is : runTask h m ≡ setUsed h more m
   ran-is = run-on h m p ∙ ap (λ x. setUsed h x m) (sym (e ∙ ap (λ (us : List ℕ). getD us (h - 1) 0 + 1) (H .same-used)))
 
-  work-is : worked d finish m ≡ endRun d h finish (setUsed h more m)
-  work-is = ap (λ k. endRun d k finish (runTask k m)) (highest-is d w m h (H .marks) l) ∙ ap (endRun d h finish) ran-is
+  work-is : worked pol d finish m ≡ endRun d h finish (setUsed h more m)
+  work-is = ap (λ k. endRun d k finish (runTask k m)) (choose-is pol d w used since m g r H going h l) ∙ ap (endRun d h finish) ran-is
 
   test-is : (eqb more (getD runs (h - 1) 0) || finish) ≡ (eqb (usedAt (setUsed h more m) h) (runOf d h) || finish)
   test-is = rw (s, getD-set-same (m .used) (h - 1) more 0 (omega (arith, H .marks .sized .useds))) refl
 
-  pub work-on : (eqb more (getD runs (h - 1) 0) || finish) ≡ false → Holds d w (set used (h - 1) more) since (worked d finish m)
-  work-on f =
-      subst (λ (k : Machine). Holds d w (set used (h - 1) more) since k) (sym (work-is ∙ end-off d h finish (setUsed h more m) (sym test-is ∙ f)))
+  pub work-on : (w′ : Words) → (w′ .awake ≡ w .awake) × (w′ .waiting ≡ w .waiting) × (w′ .dropped ≡ w .dropped) → w′ .tick ≡ w .tick → (eqb more (getD runs (h - 1) 0) || finish) ≡ false → Holds d w′ (set used (h - 1) more) since (worked pol d finish m)
+  work-on w′ same n f =
+      subst (λ (k : Machine). Holds d w′ (set used (h - 1) more) since k) (sym (work-is ∙ end-off d h finish (setUsed h more m) (sym test-is ∙ f)))
       (record {
-        marks = marks-used d w m h more (H .marks);
+        marks = marks-same d w w′ (setUsed h more m) same (marks-used d w m h more (H .marks));
         same-used = ap (λ (us : List ℕ). set us (h - 1) more) (H .same-used);
-        ages = ages-same d (w .tick) since m (setUsed h more m) refl (H .ages);
+        ages = subst (λ i. Ages d i since (setUsed h more m)) (sym n) (ages-same d (w .tick) since m (setUsed h more m) refl (H .ages));
       })
 
   -- its run ends
-  pub work-over : (w₁ w₂ : Words) → (eqb more (getD runs (h - 1) 0) || finish) ≡ true → ((k : Machine) → Marks d w k → Marks d w₁ (clearInto d h (setAwake h false k))) → ((k : Machine) → Marks d w₁ k → Marks d w₂ (fire d h k)) → w₂ .tick ≡ w .tick → Holds d w₂ (set used (h - 1) 0) since (worked d finish m)
+  pub work-over : (w₁ w₂ : Words) → (eqb more (getD runs (h - 1) 0) || finish) ≡ true → ((k : Machine) → Marks d w k → Marks d w₁ (clearInto d h (setAwake h false k))) → ((k : Machine) → Marks d w₁ k → Marks d w₂ (fire d h k)) → w₂ .tick ≡ w .tick → Holds d w₂ (set used (h - 1) 0) since (worked pol d finish m)
   work-over w₁ w₂ f sleeps fires n =
       let m₁ : Machine = setUsed h 0 (setUsed h more m) in
       let m₂ : Machine = setAwake h false m₁ in
       let k₁ : Marks d w m₁ = marks-used d w (setUsed h more m) h 0 (marks-used d w m h more (H .marks)) in
       let z : Sized m₂ = record { awakes = length-set (m .awake) (h - 1) false ∙ H .marks .sized .awakes; useds = k₁ .sized .useds; waitings = H .marks .sized .waitings; droppeds = H .marks .sized .droppeds; ages = H .marks .sized .ages; fastests = H .marks .sized .fastests } in
       let c : Cleared d h (d .«link_count») m₂ (clearInto d h m₂) = cleared d g h m₂ z in
-      let r : Fired d h (d .«link_count») (clearInto d h m₂) (fire d h (clearInto d h m₂)) = fired d g h (clearInto d h m₂) (c .sized) in
+      let f₂ : Fired d h (d .«link_count») (clearInto d h m₂) (fire d h (clearInto d h m₂)) = fired d g h (clearInto d h m₂) (c .sized) in
       subst (λ (k : Machine). Holds d w₂ (set used (h - 1) 0) since k) (sym (work-is ∙ end-on d h finish (setUsed h more m) p (sym test-is ∙ f)))
       (record {
         marks = fires (clearInto d h m₂) (sleeps m₁ k₁);
-        same-used = ap (λ (us : List ℕ). set us (h - 1) 0) (H .same-used) ∙ sym (r .used ∙ c .used ∙ set-twice (m .used) (h - 1) more 0);
-        ages = subst (λ i. Ages d i since (fire d h (clearInto d h m₂))) (sym n) (ages-same d (w .tick) since m (fire d h (clearInto d h m₂)) (r .ages ∙ c .ages) (H .ages));
+        same-used = ap (λ (us : List ℕ). set us (h - 1) 0) (H .same-used) ∙ sym (f₂ .used ∙ c .used ∙ set-twice (m .used) (h - 1) more 0);
+        ages = subst (λ i. Ages d i since (fire d h (clearInto d h m₂))) (sym n) (ages-same d (w .tick) since m (fire d h (clearInto d h m₂)) (f₂ .ages ∙ c .ages) (H .ages));
       })
 
 -- step 4: one tick more has passed

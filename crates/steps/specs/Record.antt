@@ -5,15 +5,16 @@ use mathlib.Core.List.{List}
 use mathlib.Core.Path.{_≡_}
 use lib.ListN.{getD, length}
 use Rattle.model.specs.declared.Description.{Description}
+use Rattle.model.specs.declared.Policy.{Policy}
 use Rattle.model.specs.declared.Machine.{Machine}
-use Rattle.model.specs.Machine.{lawful}
+use Rattle.model.specs.Machine.{rulesKept}
 use Rattle.theory.proofs.WellFormed.{WellFormed}
 use Rattle.sets.specs.declared.wide.Wide.{Wide}
 use Rattle.sets.specs.Sets.{member}
 use Rattle.sets.specs.Wide.{inside}
 use Rattle.steps.specs.declared.words.Words.{Words}
 use Rattle.spacings.specs.Gaps.{GapsOf}
-use Rattle.steps.specs.Words.{Holds}
+use Rattle.steps.specs.Words.{Holds, Goes}
 
 -- lists of marks, of the bits of words
 abbrev pub AwakeOf : ℕ → List Bool → Type 0
@@ -39,6 +40,7 @@ pub record SinceOf (ages r : List ℕ) : Type 0 where
 -- the words of the start
 pub record Begins (w : Words) : Type 0 where
   pub asleep : w .awake ≡ 0
+  pub idle : w .running ≡ 0
   pub waiting : (l : ℕ) → inside (w .waiting) l ≡ false
   pub dropped : (l : ℕ) → inside (w .dropped) l ≡ false
   pub first : w .tick ≡ 4294967296
@@ -50,7 +52,8 @@ Unpacks gaps sources w used since fastest r =
     (d : Description) (m : Machine) → d .«source_count» ≡ sources → GapsOf d 200 gaps → Holds d w used since m → fastest ≡ m .fastest → r ≡ m
 
 -- words that hold a record which keeps the rules
-pub record Packs (m : Machine) (w : Words) (since : List ℕ) : Type 0 where
-  pub holds : (d : Description) → WellFormed d → lawful d m ≡ true → Holds d w (m .used) since m
+pub record Packs (p : Policy) (m : Machine) (w : Words) (since : List ℕ) : Type 0 where
+  pub holds : (d : Description) → WellFormed d → rulesKept d m ≡ true → Holds d w (m .used) since m
+  pub goes : Goes p (w .running) (m .used)
   pub first : w .tick ≡ 4294967296
   pub knob : (w .low ≡ 0) × (w .peak ≡ 200)

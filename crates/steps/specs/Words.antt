@@ -1,15 +1,17 @@
 -- How words of bits hold the machine's record, and what each step on them ensures: of every record that the words hold, they hold
 -- what the plain machine's step makes of it.
 use Prim.Native.Nat.{ℕ, _+_, _-_, _^_, _≤_, _<_, min, max}
-use mathlib.Core.Bool.{Bool, true, false, _||_, _&&_, cond}
+use mathlib.Core.Bool.{Bool, true, false, _||_, _&&_, not, cond}
 use mathlib.Core.List.{List}
 use mathlib.Core.Path.{_≡_}
 use mathlib.Core.Logic.{_⊎_}
 use lib.ListN.{getD, length}
-use lib.Dec.{eqb}
+use lib.Dec.{eqb, ltb}
 use Rattle.model.specs.declared.Description.{Description}
+use Rattle.model.specs.declared.Policy.{Policy}
+use Rattle.model.specs.declared.Policy.the-variants.{Preemptive, HoldOn}
 use Rattle.model.specs.declared.Machine.{Machine}
-use Rattle.model.specs.Machine.{awakeAt, waitingAt, droppedAt, ageAt, fastestAt, longestGap, setAwake, fire, arrive, highest, runTask, clearInto, endRun, ageAll}
+use Rattle.model.specs.Machine.{awakeAt, waitingAt, droppedAt, ageAt, fastestAt, longestGap, setAwake, fire, arrive, choose, runTask, clearInto, endRun, ageAll}
 use Rattle.theory.proofs.WellFormed.{WellFormed}
 use Rattle.assurance.proofs.Firing.{Sized}
 use Rattle.sets.specs.declared.wide.Wide.{Wide}
@@ -46,6 +48,16 @@ pub record Holds (d : Description) (w : Words) (used since : List ℕ) (m : Mach
   pub same-used : used ≡ m .used
   pub ages : Ages d (w .tick) since m
 
+-- whether a task that is part done goes on
+abbrev pub holdsOn : Policy → Bool
+holdsOn Preemptive = false
+holdsOn HoldOn = true
+
+-- a set of the tasks that go on, by what tasks have used
+pub record Goes (p : Policy) (running : ℕ) (used : List ℕ) : Type 0 where
+  pub low : (k : ℕ) → member running k ≡ true → (1 ≤ k) × (k ≤ 32)
+  pub here : (k : ℕ) → 1 ≤ k → k ≤ 32 → member running k ≡ (holdsOn p && ltb 0 (getD used (k - 1) 0))
+
 -- a kept tempo raised by a faster one
 abbrev pub raisedTo : ℕ → ℕ → ℕ
 raisedTo t f = cond (eqb f 0) 0 (max f t)
@@ -69,12 +81,14 @@ pub record Sent (w : Words) (out : Wide) (wakes : ℕ) (w′ : Words) : Type 0 w
   pub dropped : (l : ℕ) → inside (w′ .dropped) l ≡ (inside (w .dropped) l || (inside (w .waiting) l && inside out l))
   pub then : w′ .tick ≡ w .tick
   pub knob : (w′ .low ≡ w .low) × (w′ .peak ≡ w .peak)
+  pub runs : w′ .running ≡ w .running
 
 -- node x has fired
 pub record Fires (rows : List ℕ) (x : ℕ) (w w′ : Words) : Type 0 where
   pub fired : (d : Description) (m : Machine) → WellFormed d → RowsOf d (d .«link_count») rows → Marks d w m → Marks d w′ (fire d x m)
   pub then : w′ .tick ≡ w .tick
   pub knob : (w′ .low ≡ w .low) × (w′ .peak ≡ w .peak)
+  pub runs : w′ .running ≡ w .running
 
 -- a number is stored for each source of a mask below r, and for no other
 pub record Stored (mask r v : ℕ) (l₀ l : List ℕ) : Type 0 where
@@ -89,7 +103,7 @@ pub record Folds (peak low : ℕ) (fastest fastest′ : List ℕ) : Type 0 where
 
 -- the words with other tempos
 abbrev pub atTempos : ℕ → ℕ → Words → Words
-atTempos low peak w = record { awake = w .awake; waiting = w .waiting; dropped = w .dropped; tick = w .tick; low = low; peak = peak }
+atTempos low peak w = record { awake = w .awake; running = w .running; waiting = w .waiting; dropped = w .dropped; tick = w .tick; low = low; peak = peak }
 
 -- the sources of a mask have arrived at tempo t, kept tempos being raised to the fastest given first
 pub record Arrives (rows : List ℕ) (t peak mask : ℕ) (w : Words) (since fastest : List ℕ) (w′ : Words) (since′ fastest′ : List ℕ) : Type 0 where
@@ -100,26 +114,37 @@ pub record Arrives (rows : List ℕ) (t peak mask : ℕ) (w : Words) (since fast
   pub others : Above (w .low) fastest → (u : ℕ) → u < 16 → heard mask u ≡ false → getD fastest′ u 0 ≡ raisedTo peak (getD fastest u 0)
   pub then : w′ .tick ≡ w .tick
   pub knob : (w′ .low ≡ t) × (w′ .peak ≡ t)
+  pub runs : w′ .running ≡ w .running
 
--- task h sleeps, and the marks on links into it are clear
+-- task h sleeps and runs no more, and the marks on links into it are clear
 pub record Sleeps (rows : List ℕ) (h : ℕ) (w w′ : Words) : Type 0 where
   pub slept : (d : Description) (m : Machine) → WellFormed d → RowsOf d (d .«link_count») rows → 1 ≤ h → h ≤ 32 → Marks d w m → Marks d w′ (clearInto d h (setAwake h false m))
   pub then : w′ .tick ≡ w .tick
   pub knob : (w′ .low ≡ w .low) × (w′ .peak ≡ w .peak)
+  pub runs : (k : ℕ) → member (w′ .running) k ≡ (member (w .running) k && not (eqb k h))
 
--- the highest awake task of a record has run, and its run has ended if this tick ends it
-abbrev pub worked : Description → Bool → Machine → Machine
-worked d finish m = let h = highest d m in endRun d h finish (runTask h m)
+-- the run of task h is not over: what goes on
+pub record GoesOn (p : Policy) (h : ℕ) (w w′ : Words) : Type 0 where
+  pub marks : (w′ .awake ≡ w .awake) × (w′ .waiting ≡ w .waiting) × (w′ .dropped ≡ w .dropped)
+  pub then : w′ .tick ≡ w .tick
+  pub knob : (w′ .low ≡ w .low) × (w′ .peak ≡ w .peak)
+  pub runs : (k : ℕ) → member (w′ .running) k ≡ (member (w .running) k || (holdsOn p && eqb k h))
 
-pub record Works (rows runs : List ℕ) (finish : Bool) (w : Words) (used : List ℕ) (w′ : Words) (used′ : List ℕ) : Type 0 where
+-- the task that a tick runs has run in a record, and its run has ended if this tick ends it
+abbrev pub worked : Policy → Description → Bool → Machine → Machine
+worked p d finish m = let h = choose p d m in endRun d h finish (runTask h m)
+
+pub record Works (p : Policy) (rows runs : List ℕ) (finish : Bool) (w : Words) (used : List ℕ) (w′ : Words) (used′ : List ℕ) : Type 0 where
   pub worked-on : (d : Description) (since : List ℕ) (m : Machine) → WellFormed d → RowsOf d (d .«link_count») rows → runs ≡ d .runs
-      → Holds d w used since m → Holds d w′ used′ since (worked d finish m)
+      → Goes p (w .running) used → Holds d w used since m → Holds d w′ used′ since (worked p d finish m)
+  pub goes : length used ≡ 32 → Goes p (w .running) used → Goes p (w′ .running) used′
   pub then : w′ .tick ≡ w .tick
   pub knob : (w′ .low ≡ w .low) × (w′ .peak ≡ w .peak)
 
--- awake tasks have places in the tables, and a tick more fits what each has used
+-- awake tasks have places in the tables, those that go on are awake, and a tick more fits what each has used
 pub record Workable (w : Words) (used : List ℕ) : Type 0 where
   pub low : (k : ℕ) → member (w .awake) k ≡ true → (1 ≤ k) × (k ≤ 32)
+  pub going : (k : ℕ) → member (w .running) k ≡ true → member (w .awake) k ≡ true
   pub countable : (k : ℕ) → k < 32 → getD used k 0 + 1 < 2 ^ 32
 
 -- one tick more has passed
@@ -127,3 +152,4 @@ pub record Passes (w w′ : Words) : Type 0 where
   pub passed : (d : Description) (used since : List ℕ) (m : Machine) → WellFormed d → Holds d w used since m → Holds d w′ used since (ageAll d m)
   pub then : w′ .tick ≡ w .tick + 1
   pub knob : (w′ .low ≡ w .low) × (w′ .peak ≡ w .peak)
+  pub runs : w′ .running ≡ w .running

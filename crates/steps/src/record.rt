@@ -3,6 +3,7 @@
 use crate::step::long;
 use crate::words::Words;
 use model::Machine;
+use model::Policy;
 use sets::wide;
 use sets::wide::Wide;
 ghost use mathlib.Core.Path.{_≡_};
@@ -12,6 +13,7 @@ ghost use lib.ListN.{getD, length};
 ghost use lib.Dec.{eqb, ltb};
 ghost use Rattle.sets.specs.Sets.{member};
 ghost use Rattle.sets.specs.Wide.{inside};
+ghost use Rattle.steps.specs.Words.{Goes};
 ghost use Rattle.steps.specs.Record.{AwakeOf, LinksOf, AgesOf, SinceOf, Unpacks, Packs, Begins, AwakeIn};
 
 // The words at the start: all tasks sleep and marks are clear.
@@ -22,6 +24,7 @@ pub fn begin() -> Words
     let dropped = wide::none();
     Words {
         awake: 0,
+        running: 0,
         waiting,
         dropped,
         tick: 4294967296,
@@ -183,14 +186,31 @@ pub fn unpack<'a>(
     }
 }
 
+// The tasks that go on: on the hold-on model those that are part done.
+fn running_in(p: Policy, used: &[u32; 32]) -> u64
+    requires { ⌜ length (now used) ≡ 32 ⌝ }
+    ensures { λ r. ⌜ Goes p r (now (used .entry)) ⌝ }
+{
+    let Policy::HoldOn = p else {
+        return 0;
+    };
+    let mut set: u64 = 0;
+    let mut k: usize = 0;
+    while k < 32 {
+        set = with_if(set, k + 1, 0 < used[k]);
+        k += 1;
+    }
+    set
+}
+
 // The words of a record and the ticks at which ages were 0; what tasks have used and the tempos that are kept stay as they are.
 pub struct Packed {
     pub words: Words,
     pub since: [u64; 16],
 }
 
-pub fn pack(m: Machine) -> Packed
-    ensures { λ r. ⌜ Packs m (r .words) (r .since) ⌝ }
+pub fn pack(p: Policy, m: Machine) -> Packed
+    ensures { λ r. ⌜ Packs p m (r .words) (r .since) ⌝ }
 {
     let ages = m.ages;
     let waiting = links_in(&m.waiting);
@@ -198,6 +218,7 @@ pub fn pack(m: Machine) -> Packed
     let since = since_of(&ages);
     let words = Words {
         awake: awake_in(&m.awake),
+        running: running_in(p, &m.used),
         waiting,
         dropped,
         tick: 4294967296,

@@ -1,15 +1,16 @@
 // The steps of a tick on words of bits, by the rows of the wiring.
 
 use crate::words::Words;
+use model::Policy;
 use sets::wide;
 use sets::wide::Wide;
 ghost use mathlib.Core.Path.{_≡_};
-ghost use mathlib.Core.Bool.{_||_};
+ghost use mathlib.Core.Bool.{_||_, cond};
 ghost use Prim.Native.Nat.{ℕ, _+_, _<_, _^_, max};
 ghost use lib.ListN.{length, getD};
 ghost use lib.Dec.{eqb};
 ghost use Rattle.steps.specs.Parts.{Sourced};
-ghost use Rattle.steps.specs.Words.{wideAt, Sent, Fires, atTempos, Arrives, Sleeps, Works, Workable, raisedTo, Folds, Passes};
+ghost use Rattle.steps.specs.Words.{wideAt, Sent, Fires, atTempos, Arrives, Sleeps, GoesOn, Works, Workable, raisedTo, Folds, Passes};
 
 // The four words from place i on.
 fn row(rows: &[u64; 576], i: usize) -> Wide
@@ -33,6 +34,7 @@ fn send(w: Words, out: Wide, wakes: u64) -> Words
     let missed = wide::both(waiting, out);
     Words {
         awake: sets::union(w.awake, wakes),
+        running: w.running,
         waiting: wide::union(waiting, out),
         dropped: wide::union(dropped, missed),
         tick: w.tick,
@@ -131,6 +133,7 @@ pub fn at_tempos(low: u32, peak: u32, w: Words) -> Words
     let dropped = w.dropped;
     Words {
         awake: w.awake,
+        running: w.running,
         waiting,
         dropped,
         tick: w.tick,
@@ -139,16 +142,18 @@ pub fn at_tempos(low: u32, peak: u32, w: Words) -> Words
     }
 }
 
-// Task h sleeps, and the waiting marks on links into it clear.
+// Task h sleeps and runs no more, and the waiting marks on links into it clear.
 fn sleep(rows: &[u64; 576], h: usize, w: Words) -> Words
     requires { ⌜ h < 64 ⌝ }
     ensures { λ r. ⌜ Sleeps (now (rows .entry)) h w r ⌝ }
 {
     let into = row(rows, 9 * h + 4);
+    let alone = sets::one(h);
     let waiting = w.waiting;
     let dropped = w.dropped;
     Words {
-        awake: sets::without(w.awake, sets::one(h)),
+        awake: sets::without(w.awake, alone),
+        running: sets::without(w.running, alone),
         waiting: wide::without(waiting, into),
         dropped,
         tick: w.tick,
@@ -167,8 +172,40 @@ fn ends(used: u32, run: u32, finish: bool) -> bool
     finish
 }
 
-// Steps 2 and 3: the highest awake task runs, and its run ends if this tick ends it.
+// The tasks to choose from: those that go on, or else all that are awake.
+fn eligible(running: u64, awake: u64) -> u64
+    ensures { λ r. ⌜ r ≡ cond (eqb running 0) awake running ⌝ }
+{
+    if running == 0 {
+        return awake;
+    }
+    running
+}
+
+// The run of task h is not over: on the hold-on model it goes on.
+fn go_on(p: Policy, h: usize, w: Words) -> Words
+    requires { ⌜ h < 64 ⌝ }
+    ensures { λ r. ⌜ GoesOn p h w r ⌝ }
+{
+    let Policy::HoldOn = p else {
+        return w;
+    };
+    let waiting = w.waiting;
+    let dropped = w.dropped;
+    Words {
+        awake: w.awake,
+        running: sets::with(w.running, h),
+        waiting,
+        dropped,
+        tick: w.tick,
+        low: w.low,
+        peak: w.peak,
+    }
+}
+
+// Steps 2 and 3: the task that goes on runs, or else the highest awake, and its run ends if this tick ends it.
 pub fn work<'a>(
+    p: Policy,
     rows: &'a [u64; 576],
     runs: &'a [u32; 32],
     finish: bool,
@@ -176,19 +213,19 @@ pub fn work<'a>(
     used: &mut [u32; 32],
 ) -> Words
     requires { ⌜ Workable w (now used) ⌝ }
-    ensures { λ r. ⌜ Works (now (rows .entry)) (now (runs .entry)) finish w (now (used .entry)) r (now (used .exit)) ⌝ }
+    ensures { λ r. ⌜ Works p (now (rows .entry)) (now (runs .entry)) finish w (now (used .entry)) r (now (used .exit)) ⌝ }
 {
     if w.awake == 0 {
         return w;
     }
-    let h = sets::last(w.awake);
+    let h = sets::last(eligible(w.running, w.awake));
     let more = used[h - 1] + 1;
     if ends(more, runs[h - 1], finish) {
         used[h - 1] = 0;
         return fire(rows, h, sleep(rows, h, w));
     }
     used[h - 1] = more;
-    w
+    go_on(p, h, w)
 }
 
 // The larger of two tempos.
@@ -210,6 +247,7 @@ pub fn pass(w: Words) -> Words
     let dropped = w.dropped;
     Words {
         awake: w.awake,
+        running: w.running,
         waiting,
         dropped,
         tick: w.tick + 1,

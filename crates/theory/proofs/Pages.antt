@@ -2,6 +2,7 @@
 use Prim.Native.Nat.{ℕ, zero, suc, _+_, _/_, _%_, _^_, _≤_, _<_}
 use mathlib.Core.Path.{_≡_, refl, sym, ap, _∙_}
 use mathlib.Core.Bool.{Bool, true, false, cond, not}
+use mathlib.Core.Logic.{_↔_}
 use mathlib.Core.List.{List, [], _∷_, _++_, append-assoc, append-nil, append-cancel-left, head-eq-of-cons-eq, tail-eq-of-cons-eq}
 use native.Mathlib.Omega.{arith}
 use lib.Dec.{eqb, leb, ltb}
@@ -10,6 +11,8 @@ use lib.Seq.{take-append-seam}
 use borrow.Author.Tests.{leb-true, ltb-false, le-ltb, eqb-false, ne-eqb, not-true}
 use Rattle.model.specs.declared.Link.{Link}
 use Rattle.model.specs.declared.Description.{Description}
+use Rattle.model.specs.declared.Policy.{Policy}
+use Rattle.model.specs.declared.Policy.the-variants.{Preemptive, HoldOn}
 use Rattle.model.specs.declared.Refusal.{Refusal}
 use Rattle.model.specs.declared.Refusal.the-variants.{ShortPage}
 use Rattle.model.specs.declared.Filled.the-variants.{Bytes, Unfilled}
@@ -20,12 +23,12 @@ use Rattle.model.specs.declared.Quote.the-variants.{Tempo, Unquoted}
 use Rattle.model.specs.Basics.{tab, joined}
 use Rattle.model.specs.Refusals.{numberOf}
 use Rattle.model.specs.Graph.{system, linkAt}
-use Rattle.model.specs.Delays.{Settled, unchanged, reached, delayOf, spacingOf}
+use Rattle.model.specs.Delays.{Settled, unchanged, reached, tailOf, delayOf, spacingOf}
 use Rattle.model.specs.Order.{inOrder}
 use Rattle.model.specs.File.{fillWith, filledBy}
 use Rattle.model.specs.Verdicts.{settledVerdict, sourceVerdict, orderVerdict, verdictOf, verdictAt, doubtful}
-use Rattle.model.specs.Report.{decimal, lineOf, wTempo, wNone, wRefused, wAt, wLink, wHeld, wOf, tempoText, tempoLine, verdictText, linkLine, linkLines, refusedLine, shownTempo, reportFor, reportOf, printed}
-use Rattle.model.specs.Page.{longer, linesOf, FirstLine, HasLine, tempoWords, heldWords}
+use Rattle.model.specs.Report.{decimal, lineOf, wTempo, wNone, wRefused, wAt, wLink, wHeld, wOf, tempoText, tempoLine, verdictText, linkLine, linkLines, refusedLine, shownTempo, reportFor, plainReport, policyLine, wHold, reportOf, printed}
+use Rattle.model.specs.Page.{longer, linesOf, tempoPlace, TempoLine, HasLine, tempoWords, heldWords}
 use Rattle.lemmas.proofs.Tests.{and-left, and-right}
 use Rattle.lemmas.proofs.Table.{length-tab, getD-tab}
 use Rattle.lemmas.proofs.Decimal.{every, every-append, every-weaker, cut-same, isDigit, decimal-every, decimal-same, decimal-cut}
@@ -101,13 +104,13 @@ quote-line (Tempo t) = refl
 quote-line (Unquoted r place) = refl
 
 -- the lines of a report: the tempo's, then one for each link
-pub report-lines : (d : Description) (q : Quote) → linesOf (reportFor d q) ≡ quoteWords q ∷ tab (d .«link_count») (λ l. linkWords l (linkAt d l) (verdictAt d (shownTempo q) l))
+pub report-lines : (pol : Policy) (d : Description) (q : Quote) → linesOf (reportFor pol d q) ≡ quoteWords q ∷ tab (d .«link_count») (λ l. linkWords l (linkAt d l) (verdictAt pol d (shownTempo q) l))
 unfolding reportFor linkLines linkLine
-report-lines d q =
-    let words : ℕ → List ℕ = λ l. linkWords l (linkAt d l) (verdictAt d (shownTempo q) l) in
+report-lines pol d q =
+    let words : ℕ → List ℕ = λ l. linkWords l (linkAt d l) (verdictAt pol d (shownTempo q) l) in
     let lines = joined (d .«link_count») (λ l. lineOf (words l)) in
     rw (quote-line q, append-assoc) (lines-one (quoteWords q) lines (quote-plain q))
-    ∙ ap (λ (x : List (List ℕ)). quoteWords q ∷ x) (lines-all (d .«link_count») words (λ l p. link-plain l (linkAt d l) (verdictAt d (shownTempo q) l)))
+    ∙ ap (λ (x : List (List ℕ)). quoteWords q ∷ x) (lines-all (d .«link_count») words (λ l p. link-plain l (linkAt d l) (verdictAt pol d (shownTempo q) l)))
 
 -- a byte that is no digit is not where a number and another such byte stand
 not-number : (x c d : ℕ) (r u : List ℕ) → isDigit c ≡ false → isDigit d ≡ false → (c ≡ d → ⊥) → c ∷ r ≡ decimal x ++ (d ∷ u) → ⊥
@@ -169,30 +172,30 @@ link-read l e v place i j D M a b c h q =
     }
 
 -- what a verdict `held D of M` says of its link
-pub record HeldSays (d : Description) (t l D M : ℕ) : Type 0 where
+pub record HeldSays (pol : Policy) (d : Description) (t l D M : ℕ) : Type 0 where
   pub critical : linkAt d l .critical ≡ 1
   pub source : 33 ≤ linkAt d l .from
   pub spacing : spacingOf d t (linkAt d l .from) ≡ M
   pub below : D < M
   pub most : M ≤ 1000000000
 
-pub held-says : (d : Description) → Fielded d → (t l D M : ℕ) → l < d .«link_count» → verdictAt d t l ≡ Held D M → HeldSays d t l D M
+pub held-says : (pol : Policy) (d : Description) → Fielded d → (t l D M : ℕ) → l < d .«link_count» → verdictAt pol d t l ≡ Held D M → HeldSays pol d t l D M
 unfolding verdictAt verdictOf sourceVerdict orderVerdict
-held-says d g t l D M h =
-    go (eqb (linkAt d l .critical) 0) refl (ltb (linkAt d l .from) 33) refl (inOrder (system d) (linkAt d l .from) (linkAt d l .to)) (delayOf (system d) gap (linkAt d l .from) (linkAt d l .to)) refl
+held-says pol d g t l D M h =
+    go (eqb (linkAt d l .critical) 0) refl (ltb (linkAt d l .from) 33) refl (inOrder (system d) (linkAt d l .from) (linkAt d l .to)) (delayOf pol (system d) gap (linkAt d l .from) (linkAt d l .to)) refl
   where
     gap : ℕ → ℕ
     gap = spacingOf d t
 
-    go : (a : Bool) → eqb (linkAt d l .critical) 0 ≡ a → (b : Bool) → ltb (linkAt d l .from) 33 ≡ b → (c : Bool) (s : Settled) → delayOf (system d) gap (linkAt d l .from) (linkAt d l .to) ≡ s → cond a Free (cond b (cond c HeldOrder DoubtOrder) (settledVerdict s (gap (linkAt d l .from)))) ≡ Held D M → HeldSays d t l D M
+    go : (a : Bool) → eqb (linkAt d l .critical) 0 ≡ a → (b : Bool) → ltb (linkAt d l .from) 33 ≡ b → (c : Bool) (s : Settled) → delayOf pol (system d) gap (linkAt d l .from) (linkAt d l .to) ≡ s → cond a Free (cond b (cond c HeldOrder DoubtOrder) (settledVerdict s (tailOf pol (system d) (linkAt d l .to)) (gap (linkAt d l .from)))) ≡ Held D M → HeldSays pol d t l D M
     go true p b q c s r e = absurd (let z : _≡_ {A = ℕ} 0 1 = cc in omega arith)
     go false p true q true s r e = absurd (let z : _≡_ {A = ℕ} 0 1 = cc in omega arith)
     go false p true q false s r e = absurd (let z : _≡_ {A = ℕ} 0 1 = cc in omega arith)
     go false p false q c reached r e = absurd (let z : _≡_ {A = ℕ} 0 1 = cc in omega arith)
     go false p false q c (unchanged x) r e =
-        let y : x ≡ D = cc in
+        let y : x + tailOf pol (system d) (linkAt d l .to) ≡ D = cc in
         let z : gap (linkAt d l .from) ≡ M = cc in
-        let k : x < gap (linkAt d l .from) = held-fixed (system d) gap (linkAt d l .from) (linkAt d l .to) x r .1 in
+        let k : x + tailOf pol (system d) (linkAt d l .to) < gap (linkAt d l .from) = held-fixed pol (system d) gap (linkAt d l .from) (linkAt d l .to) x r .1 in
         record {
           critical = omega (arith, g .link-critical l h, eqb-false (linkAt d l .critical) 0 p);
           source = ltb-false (linkAt d l .from) 33 q;
@@ -202,56 +205,92 @@ held-says d g t l D M h =
         }
 
 -- a critical link from a source that is not doubtful is held with some delay
-pub source-held : (d : Description) (t l : ℕ) → linkAt d l .critical ≡ 1 → 33 ≤ linkAt d l .from → doubtful (verdictAt d t l) ≡ false → (D : ℕ) × (verdictAt d t l ≡ Held D (spacingOf d t (linkAt d l .from)))
+pub source-held : (pol : Policy) (d : Description) (t l : ℕ) → linkAt d l .critical ≡ 1 → 33 ≤ linkAt d l .from → doubtful (verdictAt pol d t l) ≡ false → (D : ℕ) × (verdictAt pol d t l ≡ Held D (spacingOf d t (linkAt d l .from)))
 unfolding verdictAt verdictOf sourceVerdict
-source-held d t l c s e =
-    let v : verdictAt d t l ≡ settledVerdict (delayOf (system d) (spacingOf d t) (linkAt d l .from) (linkAt d l .to)) (spacingOf d t (linkAt d l .from)) = rw (c, le-ltb (linkAt d l .from) 33 s) refl in
-    let k = settled-held (delayOf (system d) (spacingOf d t) (linkAt d l .from) (linkAt d l .to)) (spacingOf d t (linkAt d l .from)) (ap doubtful (sym v) ∙ e) in
-    (k .0, v ∙ ap (λ (x : Settled). settledVerdict x (spacingOf d t (linkAt d l .from))) (k .1))
+source-held pol d t l c s e =
+    let v : verdictAt pol d t l ≡ settledVerdict (delayOf pol (system d) (spacingOf d t) (linkAt d l .from) (linkAt d l .to)) (tailOf pol (system d) (linkAt d l .to)) (spacingOf d t (linkAt d l .from)) = rw (c, le-ltb (linkAt d l .from) 33 s) refl in
+    let k = settled-held (delayOf pol (system d) (spacingOf d t) (linkAt d l .from) (linkAt d l .to)) (tailOf pol (system d) (linkAt d l .to)) (spacingOf d t (linkAt d l .from)) (ap doubtful (sym v) ∙ e) in
+    (k .0 + tailOf pol (system d) (linkAt d l .to), v ∙ ap (λ (x : Settled). settledVerdict x (tailOf pol (system d) (linkAt d l .to)) (spacingOf d t (linkAt d l .from))) (k .1))
 
-module _ (d : Description) (q : Quote) where
+-- the lines of a report with its policy's line before the first
+abbrev pub policyLines : Policy → List (List ℕ)
+policyLines Preemptive = []
+policyLines HoldOn = wHold ∷ []
+
+pub policy-lines : (pol : Policy) (text : List ℕ) → linesOf (policyLine pol ++ text) ≡ policyLines pol ++ linesOf text
+policy-lines Preemptive text = refl
+policy-lines HoldOn text = ap (λ (x : List ℕ). linesOf x) (append-assoc wHold (10 ∷ []) text) ∙ lines-one wHold text refl
+
+-- the tempo's line is the first line of what follows
+policy-first : (pol : Policy) (lines : List (List ℕ)) → getD (policyLines pol ++ lines) (tempoPlace pol) [] ≡ getD lines 0 []
+policy-first Preemptive lines = refl
+policy-first HoldOn lines = refl
+
+pub tempo-line : (pol : Policy) (text words : List ℕ) → TempoLine pol (policyLine pol ++ text) words ↔ (getD (linesOf text) 0 [] ≡ words)
+tempo-line pol text words =
+    let e : getD (linesOf (policyLine pol ++ text)) (tempoPlace pol) [] ≡ getD (linesOf text) 0 [] = ap (λ (x : List (List ℕ)). getD x (tempoPlace pol) []) (policy-lines pol text) ∙ policy-first pol (linesOf text) in
+    (λ h. sym e ∙ h, λ h. e ∙ h)
+
+-- a line of a held link is not the policy's, and stands one place further on
+policy-held : (pol : Policy) (lines : List (List ℕ)) (place i j D M k : ℕ) → k < length (policyLines pol ++ lines) → getD (policyLines pol ++ lines) k [] ≡ heldWords place i j D M → (n : ℕ) × (n < length lines) × (getD lines n [] ≡ heldWords place i j D M)
+unfolding heldWords
+policy-held Preemptive lines place i j D M k b e = (k, b, e)
+policy-held HoldOn lines place i j D M zero b e = absurd (omega (arith, head-eq-of-cons-eq e))
+policy-held HoldOn lines place i j D M (suc n) b e = (n, omega arith, e)
+
+pub held-line : (pol : Policy) (text : List ℕ) (place i j D M : ℕ) → HasLine (policyLine pol ++ text) (heldWords place i j D M) ↔ HasLine text (heldWords place i j D M)
+held-line pol text place i j D M = (down, up pol)
+  where
+    down : HasLine (policyLine pol ++ text) (heldWords place i j D M) → HasLine text (heldWords place i j D M)
+    down (k, b, e) = policy-held pol (linesOf text) place i j D M k (rw (policy-lines pol text) at b) (rw (policy-lines pol text) at e)
+
+    up : (pol : Policy) → HasLine text (heldWords place i j D M) → HasLine (policyLine pol ++ text) (heldWords place i j D M)
+    up Preemptive h = h
+    up HoldOn (k, b, e) = (suc k, rw (policy-lines HoldOn text) (omega arith), rw (policy-lines HoldOn text) e)
+
+module _ (pol : Policy) (d : Description) (q : Quote) where
   -- a line of a held link is the line of one link of the description
-  pub page-held : Fielded d → (place i j D M : ℕ) → HasLine (reportFor d q) (heldWords place i j D M) → (l : ℕ) × (l < d .«link_count») × Named l (linkAt d l) (verdictAt d (shownTempo q) l) place i j D M
+  pub page-held : Fielded d → (place i j D M : ℕ) → HasLine (reportFor pol d q) (heldWords place i j D M) → (l : ℕ) × (l < d .«link_count») × Named l (linkAt d l) (verdictAt pol d (shownTempo q) l) place i j D M
   unfolding heldWords tempoWords
-  page-held g place i j D M (k, b, e) = go k (rw (report-lines d q) at b) (rw (report-lines d q) at e)
+  page-held g place i j D M (k, b, e) = go k (rw (report-lines pol d q) at b) (rw (report-lines pol d q) at e)
     where
       words : ℕ → List ℕ
-      words l = linkWords l (linkAt d l) (verdictAt d (shownTempo q) l)
+      words l = linkWords l (linkAt d l) (verdictAt pol d (shownTempo q) l)
 
       not-first : (x : Quote) → quoteWords x ≡ heldWords place i j D M → ⊥
       not-first (Tempo t) f = omega (arith, head-eq-of-cons-eq f)
       not-first (Unquoted r p) f = omega (arith, head-eq-of-cons-eq f)
 
-      small : (l : ℕ) → l < d .«link_count» → (x y : ℕ) → verdictAt d (shownTempo q) l ≡ Held x y → (x < 10 ^ 19) × (y < 10 ^ 19)
+      small : (l : ℕ) → l < d .«link_count» → (x y : ℕ) → verdictAt pol d (shownTempo q) l ≡ Held x y → (x < 10 ^ 19) × (y < 10 ^ 19)
       small l h x y f =
-          let s = held-says d g (shownTempo q) l x y h f in
+          let s = held-says pol d g (shownTempo q) l x y h f in
           (omega (arith, s .below, s .most), omega (arith, s .most))
 
-      go : (k : ℕ) → k < length (quoteWords q ∷ tab (d .«link_count») words) → getD (quoteWords q ∷ tab (d .«link_count») words) k [] ≡ heldWords place i j D M → (l : ℕ) × (l < d .«link_count») × Named l (linkAt d l) (verdictAt d (shownTempo q) l) place i j D M
+      go : (k : ℕ) → k < length (quoteWords q ∷ tab (d .«link_count») words) → getD (quoteWords q ∷ tab (d .«link_count») words) k [] ≡ heldWords place i j D M → (l : ℕ) × (l < d .«link_count») × Named l (linkAt d l) (verdictAt pol d (shownTempo q) l) place i j D M
       go zero b f = absurd (not-first q f)
       go (suc l) b f =
           let h : l < d .«link_count» = omega (arith, length-tab (d .«link_count») words) in
-          (l, h, link-read l (linkAt d l) (verdictAt d (shownTempo q) l) place i j D M (omega (arith, g .few-links)) (from-most d g l h) (omega (arith, to-most d g l h)) (small l h) (sym (getD-tab (d .«link_count») words [] l h) ∙ f))
+          (l, h, link-read l (linkAt d l) (verdictAt pol d (shownTempo q) l) place i j D M (omega (arith, g .few-links)) (from-most d g l h) (omega (arith, to-most d g l h)) (small l h) (sym (getD-tab (d .«link_count») words [] l h) ∙ f))
 
   -- and each link has its line
-  pub page-told : (l D M : ℕ) → l < d .«link_count» → verdictAt d (shownTempo q) l ≡ Held D M → HasLine (reportFor d q) (heldWords (suc l) (linkAt d l .from) (linkAt d l .to) D M)
+  pub page-told : (l D M : ℕ) → l < d .«link_count» → verdictAt pol d (shownTempo q) l ≡ Held D M → HasLine (reportFor pol d q) (heldWords (suc l) (linkAt d l .from) (linkAt d l .to) D M)
   unfolding heldWords verdictText
   page-told l D M h e =
-      let words : ℕ → List ℕ = λ k. linkWords k (linkAt d k) (verdictAt d (shownTempo q) k) in (
+      let words : ℕ → List ℕ = λ k. linkWords k (linkAt d k) (verdictAt pol d (shownTempo q) k) in (
         suc l,
-        rw (report-lines d q) (omega (arith, length-tab (d .«link_count») words)),
-        rw (report-lines d q) (getD-tab (d .«link_count») words [] l h ∙ ap (linkWords l (linkAt d l)) e),
+        rw (report-lines pol d q) (omega (arith, length-tab (d .«link_count») words)),
+        rw (report-lines pol d q) (getD-tab (d .«link_count») words [] l h ∙ ap (linkWords l (linkAt d l)) e),
       )
 
   -- the first line is the quote's, and one with a tempo determines it
-  pub page-first : FirstLine (reportFor d q) (quoteWords q)
-  page-first = rw (report-lines d q)
+  pub page-first : getD (linesOf (reportFor pol d q)) 0 [] ≡ quoteWords q
+  page-first = rw (report-lines pol d q)
 
-  pub page-tempo : (x : ℕ) → ((t : ℕ) → q ≡ Tempo t → t ≤ 3000) → FirstLine (reportFor d q) (tempoWords x) → q ≡ Tempo x
-  page-tempo x h e = tempo-read q x h (rw (report-lines d q) at e)
+  pub page-tempo : (x : ℕ) → ((t : ℕ) → q ≡ Tempo t → t ≤ 3000) → getD (linesOf (reportFor pol d q)) 0 [] ≡ tempoWords x → q ≡ Tempo x
+  page-tempo x h e = tempo-read q x h (rw (report-lines pol d q) at e)
 
 -- the page of a refused file does not begin with a tempo
-pub refused-no-tempo : (r : Refusal) (place x : ℕ) → FirstLine (refusedLine r place) (tempoWords x) → ⊥
+pub refused-no-tempo : (r : Refusal) (place x : ℕ) → getD (linesOf (refusedLine r place)) 0 [] ≡ tempoWords x → ⊥
 unfolding refusedLine tempoWords
 refused-no-tempo r place x e =
     omega (arith, head-eq-of-cons-eq (sym (ap (λ (lines : List (List ℕ)). getD lines 0 []) (lines-one (wRefused ++ (decimal (numberOf r) ++ (wAt ++ decimal place))) [] words)) ∙ e))
@@ -260,9 +299,9 @@ refused-no-tempo r place x e =
     words = every-append plain (decimal (numberOf r)) _ (decimal-plain (numberOf r)) (decimal-plain place)
 
 -- the program's page: it "ignores the rest, which alters no answer"
-pub printed-whole : (input : List ℕ) → printed input ≡ reportOf input
-unfolding printed reportOf
-printed-whole input = rw (read-first input)
+pub printed-whole : (pol : Policy) (input : List ℕ) → printed pol input ≡ reportOf pol input
+unfolding printed reportOf plainReport
+printed-whole pol input = rw (read-first input)
 
 -- and the page that the report call leaves at the front of a lent buffer
 pub filled-page : (text buffer : List ℕ) (n : ℕ) → fillWith text buffer ≡ Bytes n → take n (filledBy text buffer) ≡ text

@@ -9,6 +9,7 @@ use Rattle.model.specs.declared.SourceSlot.{SourceSlot}
 use Rattle.model.specs.declared.Description.{Description}
 use Rattle.model.specs.declared.Field.the-variants.{OfTask, OfSource, OfLink}
 use Rattle.model.specs.declared.Refusal.{Refusal}
+use Rattle.model.specs.declared.Policy.{Policy}
 use Rattle.model.specs.declared.Outcome.{Outcome}
 use Rattle.model.specs.declared.Outcome.the-variants.{Done, Refused}
 use Rattle.model.specs.Basics.{joined}
@@ -102,15 +103,15 @@ module _ (d e : Description) (s : SameTo d e) where
     unfolding loadSheet
     same-sheet = done-same (judge d) (judge e) _ _ _ same-judge (λ j. ap (λ x. record { outcome = Done; rows = sheet x }) (structure-system d e same-structure (known j)))
 
-    pub same-quote : quoteOf d ≡ quoteOf e
+    pub same-quote : (pol : Policy) → quoteOf pol d ≡ quoteOf pol e
     unfolding quoteOf
-    same-quote = done-same (judge d) (judge e) _ _ _ same-judge (λ j. ap (λ f. largestBelow f 2801) (fun-ext (λ t. held-same d e same-structure (known j) t t (same-spacings t))))
+    same-quote pol = done-same (judge d) (judge e) _ _ _ same-judge (λ j. ap (λ f. largestBelow f 2801) (fun-ext (λ t. held-same d e same-structure (known j) t t (same-spacings t) pol)))
 
-    pub same-verdicts : (t : ℕ) → verdicts d t ≡ verdicts e t
+    pub same-verdicts : (pol : Policy) (t : ℕ) → verdicts pol d t ≡ verdicts pol e t
     unfolding verdicts
-    same-verdicts t =
+    same-verdicts pol t =
         done-same (judgeAt d t) (judgeAt e t) _ _ _ (same-knob t)
-        (λ j. ap (λ x. record { outcome = Done; slots = x }) (slots-same d e same-structure (at-known d t w j .0) t t (same-spacings t)))
+        (λ j. ap (λ x. record { outcome = Done; slots = x }) (slots-same d e same-structure (at-known d t w j .0) t t (same-spacings t) pol))
 
 -- the record that is read back from a description's file agrees with it below its counts, and so gets the same answers
 pub trimmed-same : (d : Description) → WellFormed d → SameTo d (trimmed d)

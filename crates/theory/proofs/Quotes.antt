@@ -12,6 +12,7 @@ use Rattle.model.specs.declared.Link.{Link}
 use Rattle.model.specs.declared.Description.{Description}
 use Rattle.model.specs.declared.Refusal.{Refusal}
 use Rattle.model.specs.declared.Refusal.the-variants.{NoTempo}
+use Rattle.model.specs.declared.Policy.{Policy}
 use Rattle.model.specs.declared.Outcome.{Outcome}
 use Rattle.model.specs.declared.Outcome.the-variants.{Done, Refused}
 use Rattle.model.specs.declared.Verdict.{Verdict}
@@ -19,7 +20,7 @@ use Rattle.model.specs.declared.Quote.the-variants.{Tempo, Unquoted}
 use Rattle.model.specs.Refusals.{onDone, numberOf}
 use Rattle.model.specs.Graph.{System, system, linkAt}
 use Rattle.model.specs.File.{judge, readFile, Accepted}
-use Rattle.model.specs.Delays.{Settled, unchanged, reached, delayOf, spacingOf}
+use Rattle.model.specs.Delays.{Settled, unchanged, reached, tailOf, delayOf, spacingOf}
 use Rattle.model.specs.Verdicts.{settledVerdict, sourceVerdict, orderVerdict, verdictOf, verdictAt, doubtful, allHeld, largestBelow, quoteOf, quotedFile}
 use Rattle.lemmas.proofs.Tests.{Cmp, less, same, more, cmp, not-both, false-of}
 use Rattle.lemmas.proofs.Range.{all-at, all-of}
@@ -31,28 +32,28 @@ use Rattle.theory.proofs.RefusalLaws.{read-number, judge-number}
 use Rattle.theory.proofs.Rounds.{Spaced, Wider, Kept, held-wider}
 
 -- a working out that gives no doubtful verdict has ended unchanged
-pub settled-held : (r : Settled) (m : ℕ) → doubtful (settledVerdict r m) ≡ false → (D : ℕ) × (r ≡ unchanged D)
-settled-held (unchanged D) m e = (D, refl)
-settled-held reached m e = absurd (not-both refl e)
+pub settled-held : (r : Settled) (tail m : ℕ) → doubtful (settledVerdict r tail m) ≡ false → (D : ℕ) × (r ≡ unchanged D)
+settled-held (unchanged D) tail m e = (D, refl)
+settled-held reached tail m e = absurd (not-both refl e)
 
-pub held-settled : (r : Settled) (m D : ℕ) → r ≡ unchanged D → doubtful (settledVerdict r m) ≡ false
-held-settled r m D e = rw e refl
+pub held-settled : (r : Settled) (tail m D : ℕ) → r ≡ unchanged D → doubtful (settledVerdict r tail m) ≡ false
+held-settled r tail m D e = rw e refl
 
-module _ (s : System) (gap gap′ : ℕ → ℕ) (g : Spaced s gap) (w : Wider s gap gap′) where
+module _ (pol : Policy) (s : System) (gap gap′ : ℕ → ℕ) (g : Spaced s gap) (w : Wider s gap gap′) where
   -- a source link that is not doubtful stays so when spacings grow
-  pub source-wider : (i j : ℕ) → gap i ≤ gap′ i → doubtful (sourceVerdict s gap i j) ≡ false → doubtful (sourceVerdict s gap′ i j) ≡ false
+  pub source-wider : (i j : ℕ) → gap i ≤ gap′ i → doubtful (sourceVerdict pol s gap i j) ≡ false → doubtful (sourceVerdict pol s gap′ i j) ≡ false
   unfolding sourceVerdict
   source-wider i j h e =
-      let (D, x) = settled-held (delayOf s gap i j) (gap i) e in
-      let k : Kept s gap′ i j D = held-wider s gap gap′ i j D g w h x in
-      held-settled (delayOf s gap′ i j) (gap′ i) (k .delay) (k .held)
+      let (D, x) = settled-held (delayOf pol s gap i j) (tailOf pol s j) (gap i) e in
+      let k : Kept pol s gap′ i j D = held-wider pol s gap gap′ i j D g w h x in
+      held-settled (delayOf pol s gap′ i j) (tailOf pol s j) (gap′ i) (k .delay) (k .held)
 
   -- and so does any link
-  pub verdict-wider : (l : Link) → (33 ≤ l .from → gap (l .from) ≤ gap′ (l .from)) → doubtful (verdictOf s gap l) ≡ false → doubtful (verdictOf s gap′ l) ≡ false
+  pub verdict-wider : (l : Link) → (33 ≤ l .from → gap (l .from) ≤ gap′ (l .from)) → doubtful (verdictOf pol s gap l) ≡ false → doubtful (verdictOf pol s gap′ l) ≡ false
   unfolding verdictOf
   verdict-wider l h = go (eqb (l .critical) 0) (ltb (l .from) 33) refl
     where
-      go : (a b : Bool) → ltb (l .from) 33 ≡ b → doubtful (cond a Verdict.Free (cond b (orderVerdict s (l .from) (l .to)) (sourceVerdict s gap (l .from) (l .to)))) ≡ false → doubtful (cond a Verdict.Free (cond b (orderVerdict s (l .from) (l .to)) (sourceVerdict s gap′ (l .from) (l .to)))) ≡ false
+      go : (a b : Bool) → ltb (l .from) 33 ≡ b → doubtful (cond a Verdict.Free (cond b (orderVerdict s (l .from) (l .to)) (sourceVerdict pol s gap (l .from) (l .to)))) ≡ false → doubtful (cond a Verdict.Free (cond b (orderVerdict s (l .from) (l .to)) (sourceVerdict pol s gap′ (l .from) (l .to)))) ≡ false
       go true b q e = refl
       go false true q e = e
       go false false q e = source-wider (l .from) (l .to) (h (ltb-false (l .from) 33 q)) e
@@ -67,10 +68,11 @@ unfolding system
 wider d g t t′ p h u a b = gap-anti d g u a b t t′ p h
 
 -- held at one tempo is held at every lower one
-pub held-slower : (d : Description) → WellFormed d → (t t′ l : ℕ) → 1 ≤ t → t ≤ t′ → t′ ≤ 3000 → l < d .«link_count» → doubtful (verdictAt d t′ l) ≡ false → doubtful (verdictAt d t l) ≡ false
+pub held-slower : (pol : Policy) (d : Description) → WellFormed d → (t t′ l : ℕ) → 1 ≤ t → t ≤ t′ → t′ ≤ 3000 → l < d .«link_count» → doubtful (verdictAt pol d t′ l) ≡ false → doubtful (verdictAt pol d t l) ≡ false
 unfolding verdictAt system
-held-slower d g t t′ l p h b c e =
+held-slower pol d g t t′ l p h b c e =
     verdict-wider
+    pol
     (system d)
     (spacingOf d t′)
     (spacingOf d t)
@@ -84,14 +86,14 @@ held-slower d g t t′ l p h b c e =
     from (inl x) q = absurd (omega (arith, x .1, g .fields .few-tasks))
     from (inr x) q = gap-anti d g (linkAt d l .from) (x .0) (x .1) t t′ p h
 
-pub all-slower : (d : Description) → WellFormed d → (t t′ : ℕ) → 1 ≤ t → t ≤ t′ → t′ ≤ 3000 → allHeld d t′ ≡ true → allHeld d t ≡ true
+pub all-slower : (pol : Policy) (d : Description) → WellFormed d → (t t′ : ℕ) → 1 ≤ t → t ≤ t′ → t′ ≤ 3000 → allHeld pol d t′ ≡ true → allHeld pol d t ≡ true
 unfolding allHeld
-all-slower d g t t′ p h b e =
+all-slower pol d g t t′ p h b e =
     all-of
-    (λ l. not (doubtful (verdictAt d t l)))
+    (λ l. not (doubtful (verdictAt pol d t l)))
     0
     (d .«link_count»)
-    (λ l x y. rw (held-slower d g t t′ l p h b (omega arith) (not-true _ (all-at (λ l. not (doubtful (verdictAt d t′ l))) 0 (d .«link_count») e l x y))))
+    (λ l x y. rw (held-slower pol d g t t′ l p h b (omega arith) (not-true _ (all-at (λ l. not (doubtful (verdictAt pol d t′ l))) 0 (d .«link_count») e l x y))))
 
 -- the largest tempo that passes a test
 module _ (good : ℕ → Bool) where
@@ -170,11 +172,11 @@ module _ (good : ℕ → Bool) where
       largest-miss n (h (200 + n) (omega arith) (omega arith)) ∙ largest-none n (λ t x y. h t x (omega arith))
 
 -- of a test that passes at every lower tempo too, it is enough to look at two neighbours, or at the lowest
-module _ (d : Description) (g : WellFormed d) where
-  pub quote-at : (q : ℕ) → 200 ≤ q → q ≤ 3000 → allHeld d q ≡ true → (q < 3000 → allHeld d (suc q) ≡ false) → largestBelow (allHeld d) 2801 ≡ Tempo q
+module _ (pol : Policy) (d : Description) (g : WellFormed d) where
+  pub quote-at : (q : ℕ) → 200 ≤ q → q ≤ 3000 → allHeld pol d q ≡ true → (q < 3000 → allHeld pol d (suc q) ≡ false) → largestBelow (allHeld pol d) 2801 ≡ Tempo q
   quote-at q a b e h =
       largest-is
-      (allHeld d)
+      (allHeld pol d)
       2801
       q
       (record {
@@ -182,31 +184,31 @@ module _ (d : Description) (g : WellFormed d) where
         high = omega arith;
         passes = e;
         above =
-            λ t x y. false-of (allHeld d t) (λ f. not-both (all-slower d g (suc q) t (omega arith) x (omega arith) f) (h (omega arith)));
+            λ t x y. false-of (allHeld pol d t) (λ f. not-both (all-slower pol d g (suc q) t (omega arith) x (omega arith) f) (h (omega arith)));
       })
 
-  pub quote-none : allHeld d 200 ≡ false → largestBelow (allHeld d) 2801 ≡ Unquoted NoTempo 0
+  pub quote-none : allHeld pol d 200 ≡ false → largestBelow (allHeld pol d) 2801 ≡ Unquoted NoTempo 0
   quote-none e =
       largest-none
-      (allHeld d)
+      (allHeld pol d)
       2801
-      (λ t x y. false-of (allHeld d t) (λ f. not-both (all-slower d g 200 t (omega arith) x (omega arith) f) e))
+      (λ t x y. false-of (allHeld pol d t) (λ f. not-both (all-slower pol d g 200 t (omega arith) x (omega arith) f) e))
 
 -- what a quote says
-pub record Quoted (d : Description) (q : ℕ) : Type 0 where
+pub record Quoted (pol : Policy) (d : Description) (q : ℕ) : Type 0 where
   pub judged : judge d ≡ Done
   pub low : 200 ≤ q
   pub high : q ≤ 3000
-  pub held : allHeld d q ≡ true
-  pub above : (t : ℕ) → q < t → t ≤ 3000 → allHeld d t ≡ false
+  pub held : allHeld pol d q ≡ true
+  pub above : (t : ℕ) → q < t → t ≤ 3000 → allHeld pol d t ≡ false
 
-pub quoted : (d : Description) (q : ℕ) → quoteOf d ≡ Tempo q → Quoted d q
+pub quoted : (pol : Policy) (d : Description) (q : ℕ) → quoteOf pol d ≡ Tempo q → Quoted pol d q
 unfolding quoteOf
-quoted d q = go (judge d) refl
+quoted pol d q = go (judge d) refl
   where
-    go : (o : Outcome) → judge d ≡ o → onDone o (largestBelow (allHeld d) 2801) Unquoted ≡ Tempo q → Quoted d q
+    go : (o : Outcome) → judge d ≡ o → onDone o (largestBelow (allHeld pol d) 2801) Unquoted ≡ Tempo q → Quoted pol d q
     go Done e f =
-        let r : Largest (allHeld d) 2801 q = largest-found (allHeld d) 2801 q f in
+        let r : Largest (allHeld pol d) 2801 q = largest-found (allHeld pol d) 2801 q f in
         record {
           judged = e;
           low = r .low;
@@ -214,55 +216,55 @@ quoted d q = go (judge d) refl
           held = r .passes;
           above = λ t x y. r .above t x (omega arith);
         }
-    go (Refused r p) e f = absurd (unquoted-not (allHeld d) f)
+    go (Refused r p) e f = absurd (unquoted-not (allHeld pol d) f)
 
 -- "the quote is the largest T at which every critical link is held", both ways
-pub quote-exactly : (d : Description) (q : ℕ) → (quoteOf d ≡ Tempo q) ↔ Quoted d q
+pub quote-exactly : (pol : Policy) (d : Description) (q : ℕ) → (quoteOf pol d ≡ Tempo q) ↔ Quoted pol d q
 unfolding quoteOf
-quote-exactly d q = (quoted d q, found)
+quote-exactly pol d q = (quoted pol d q, found)
   where
-    found : Quoted d q → quoteOf d ≡ Tempo q
+    found : Quoted pol d q → quoteOf pol d ≡ Tempo q
     found r =
         rw (r .judged)
-        (largest-is (allHeld d) 2801 q (record { low = r .low; high = omega (arith, r .high); passes = r .held; above = λ t x y. r .above t x (omega arith) }))
+        (largest-is (allHeld pol d) 2801 q (record { low = r .low; high = omega (arith, r .high); passes = r .held; above = λ t x y. r .above t x (omega arith) }))
 
 -- no tempo of the knob has every critical link held
-pub record NoneHeld (d : Description) : Type 0 where
+pub record NoneHeld (pol : Policy) (d : Description) : Type 0 where
   pub judged : judge d ≡ Done
-  pub none : (t : ℕ) → 200 ≤ t → t ≤ 3000 → allHeld d t ≡ false
+  pub none : (t : ℕ) → 200 ≤ t → t ≤ 3000 → allHeld pol d t ≡ false
 
 -- a refusal of a reading is not 12
 not-12 : {r : Refusal} {p : ℕ} → numberOf r ≤ 10 → Unquoted r p ≡ Unquoted NoTempo 0 → ⊥
 not-12 {r} h e = let z : r ≡ NoTempo = cc in omega (arith, ap numberOf z)
 
 -- 12 is given only if there is no such tempo, and always then
-pub no-tempo-exactly : (d : Description) → (quoteOf d ≡ Unquoted NoTempo 0) ↔ NoneHeld d
+pub no-tempo-exactly : (pol : Policy) (d : Description) → (quoteOf pol d ≡ Unquoted NoTempo 0) ↔ NoneHeld pol d
 unfolding quoteOf
-no-tempo-exactly d = (go (judge d) refl, found)
+no-tempo-exactly pol d = (go (judge d) refl, found)
   where
-    go : (o : Outcome) → judge d ≡ o → onDone o (largestBelow (allHeld d) 2801) Unquoted ≡ Unquoted NoTempo 0 → NoneHeld d
-    go Done e f = record { judged = e; none = λ t x y. none-largest (allHeld d) 2801 f t x (omega arith) }
+    go : (o : Outcome) → judge d ≡ o → onDone o (largestBelow (allHeld pol d) 2801) Unquoted ≡ Unquoted NoTempo 0 → NoneHeld pol d
+    go Done e f = record { judged = e; none = λ t x y. none-largest (allHeld pol d) 2801 f t x (omega arith) }
     go (Refused r p) e f = absurd (not-12 (rw e at (judge-number d)) f)
 
-    found : NoneHeld d → quoteOf d ≡ Unquoted NoTempo 0
-    found r = rw (r .judged) (largest-none (allHeld d) 2801 (λ t x y. r .none t x (omega arith)))
+    found : NoneHeld pol d → quoteOf pol d ≡ Unquoted NoTempo 0
+    found r = rw (r .judged) (largest-none (allHeld pol d) 2801 (λ t x y. r .none t x (omega arith)))
 
 -- the same of a file
-pub file-quote-exactly : (s : List ℕ) (q : ℕ) → (quotedFile s ≡ Tempo q) ↔ (Accepted s × Quoted (readFile s .description) q)
+pub file-quote-exactly : (pol : Policy) (s : List ℕ) (q : ℕ) → (quotedFile pol s ≡ Tempo q) ↔ (Accepted s × Quoted pol (readFile s .description) q)
 unfolding quotedFile
-file-quote-exactly s q = (go (readFile s .outcome) refl, λ r. rw (r .0) (quote-exactly (readFile s .description) q .1 (r .1)))
+file-quote-exactly pol s q = (go (readFile s .outcome) refl, λ r. rw (r .0) (quote-exactly pol (readFile s .description) q .1 (r .1)))
   where
-    go : (o : Outcome) → readFile s .outcome ≡ o → onDone o (quoteOf (readFile s .description)) Unquoted ≡ Tempo q → Accepted s × Quoted (readFile s .description) q
-    go Done e f = (e, quoted (readFile s .description) q f)
+    go : (o : Outcome) → readFile s .outcome ≡ o → onDone o (quoteOf pol (readFile s .description)) Unquoted ≡ Tempo q → Accepted s × Quoted pol (readFile s .description) q
+    go Done e f = (e, quoted pol (readFile s .description) q f)
     go (Refused r p) e f = absurd (unquoted-not (λ t. true) f)
 
-pub file-no-tempo-exactly : (s : List ℕ) → Bytes s → (quotedFile s ≡ Unquoted NoTempo 0) ↔ (Accepted s × ((t : ℕ) → 200 ≤ t → t ≤ 3000 → allHeld (readFile s .description) t ≡ false))
+pub file-no-tempo-exactly : (pol : Policy) (s : List ℕ) → Bytes s → (quotedFile pol s ≡ Unquoted NoTempo 0) ↔ (Accepted s × ((t : ℕ) → 200 ≤ t → t ≤ 3000 → allHeld pol (readFile s .description) t ≡ false))
 unfolding quotedFile
-file-no-tempo-exactly s b = (go (readFile s .outcome) refl, found)
+file-no-tempo-exactly pol s b = (go (readFile s .outcome) refl, found)
   where
-    go : (o : Outcome) → readFile s .outcome ≡ o → onDone o (quoteOf (readFile s .description)) Unquoted ≡ Unquoted NoTempo 0 → Accepted s × ((t : ℕ) → 200 ≤ t → t ≤ 3000 → allHeld (readFile s .description) t ≡ false)
-    go Done e f = (e, no-tempo-exactly (readFile s .description) .0 f .none)
+    go : (o : Outcome) → readFile s .outcome ≡ o → onDone o (quoteOf pol (readFile s .description)) Unquoted ≡ Unquoted NoTempo 0 → Accepted s × ((t : ℕ) → 200 ≤ t → t ≤ 3000 → allHeld pol (readFile s .description) t ≡ false)
+    go Done e f = (e, no-tempo-exactly pol (readFile s .description) .0 f .none)
     go (Refused r p) e f = absurd (not-12 (rw e at (read-number s)) f)
 
-    found : Accepted s × ((t : ℕ) → 200 ≤ t → t ≤ 3000 → allHeld (readFile s .description) t ≡ false) → quotedFile s ≡ Unquoted NoTempo 0
-    found r = rw (r .0) (no-tempo-exactly (readFile s .description) .1 (record { judged = read-judged s b (r .0); none = r .1 }))
+    found : Accepted s × ((t : ℕ) → 200 ≤ t → t ≤ 3000 → allHeld pol (readFile s .description) t ≡ false) → quotedFile pol s ≡ Unquoted NoTempo 0
+    found r = rw (r .0) (no-tempo-exactly pol (readFile s .description) .1 (record { judged = read-judged s b (r .0); none = r .1 }))

@@ -6,9 +6,10 @@ use native.Mathlib.Omega.{arith}
 use native.Mathlib.Nat.{le-div-iff-mul-le, div-mul-le-self, mul-le-mul-left}
 use lib.Dec.{eqb, ltb}
 use borrow.Author.Tests.{eqb-true, eqb-false, ltb-true, ltb-false, lt-ltb, le-ltb, eq-eqb, ne-eqb}
+use Rattle.model.specs.declared.Policy.{Policy}
 use Rattle.model.specs.Graph.{System}
 use Rattle.model.specs.Loads.{load}
-use Rattle.model.specs.Delays.{spacings, startOf, roundOf, Settled, unchanged, reached, settle, delayOf}
+use Rattle.model.specs.Delays.{spacings, startOf, levelOf, roundOf, tailOf, Settled, unchanged, reached, settle, delayOf}
 use Rattle.lemmas.proofs.Range.{Each, sumN-le}
 
 -- how many spacings a stretch holds: at least 1, more in a longer stretch, fewer of longer ones
@@ -46,20 +47,20 @@ Spaced s gap = Each (λ u. 1 ≤ gap u) 33 (s .sources)
 abbrev pub Wider : System → (ℕ → ℕ) → (ℕ → ℕ) → Type 0
 Wider s gap gap′ = Each (λ u. gap u ≤ gap′ u) 33 (s .sources)
 
-module _ (s : System) (j : ℕ) where
-  pub round-mono : (gap : ℕ → ℕ) → Spaced s gap → (d d′ : ℕ) → d ≤ d′ → roundOf s gap j d ≤ roundOf s gap j d′
+module _ (pol : Policy) (s : System) (j : ℕ) where
+  pub round-mono : (gap : ℕ → ℕ) → Spaced s gap → (d d′ : ℕ) → d ≤ d′ → roundOf pol s gap j d ≤ roundOf pol s gap j d′
   unfolding roundOf
   round-mono gap g d d′ h =
       omega
-      (arith, sumN-le (λ u. load s u j * spacings d (gap u)) (λ u. load s u j * spacings d′ (gap u)) 33 (s .sources) (λ u p q. mul-le-mul-left (load s u j) (spacings-mono d d′ (gap u) (g u p q) h)))
+      (arith, sumN-le (λ u. load s u (levelOf pol j) * spacings d (gap u)) (λ u. load s u (levelOf pol j) * spacings d′ (gap u)) 33 (s .sources) (λ u p q. mul-le-mul-left (load s u (levelOf pol j)) (spacings-mono d d′ (gap u) (g u p q) h)))
 
-  pub round-anti : (gap gap′ : ℕ → ℕ) → Spaced s gap → Wider s gap gap′ → (d : ℕ) → roundOf s gap′ j d ≤ roundOf s gap j d
+  pub round-anti : (gap gap′ : ℕ → ℕ) → Spaced s gap → Wider s gap gap′ → (d : ℕ) → roundOf pol s gap′ j d ≤ roundOf pol s gap j d
   unfolding roundOf
   round-anti gap gap′ g h d =
       omega
-      (arith, sumN-le (λ u. load s u j * spacings d (gap′ u)) (λ u. load s u j * spacings d (gap u)) 33 (s .sources) (λ u p q. mul-le-mul-left (load s u j) (spacings-anti d (gap u) (gap′ u) (g u p q) (h u p q))))
+      (arith, sumN-le (λ u. load s u (levelOf pol j) * spacings d (gap′ u)) (λ u. load s u (levelOf pol j) * spacings d (gap u)) 33 (s .sources) (λ u p q. mul-le-mul-left (load s u (levelOf pol j)) (spacings-anti d (gap u) (gap′ u) (g u p q) (h u p q))))
 
-  pub round-start : (gap : ℕ → ℕ) (d : ℕ) → startOf s j ≤ roundOf s gap j d
+  pub round-start : (gap : ℕ → ℕ) (d : ℕ) → startOf pol s j ≤ roundOf pol s gap j d
   unfolding roundOf
   round-start gap d = omega arith
 
@@ -143,56 +144,61 @@ module _ (next : ℕ → ℕ) (mono : (d d′ : ℕ) → d ≤ d′ → next d �
       (λ h x. (d, refl))
       (λ h x. ih (omega arith))
 
--- the delay of a link from source i to task j
-module _ (s : System) (gap : ℕ → ℕ) (i j : ℕ) where
-  pub held-fixed : (D : ℕ) → delayOf s gap i j ≡ unchanged D → (roundOf s gap j D ≡ D) × (D < gap i)
+-- the delay of a link from source i to task j: a D that with what follows it is below the spacing
+module _ (pol : Policy) (s : System) (gap : ℕ → ℕ) (i j : ℕ) where
+  abbrev limit : ℕ
+  limit = gap i - tailOf pol s j
+
+  pub held-fixed : (D : ℕ) → delayOf pol s gap i j ≡ unchanged D → (roundOf pol s gap j D ≡ D) × (D + tailOf pol s j < gap i)
   unfolding delayOf
-  held-fixed D e = settle-fixed (suc (gap i)) (roundOf s gap j) (gap i) (startOf s j) D e
+  held-fixed D e =
+      let f = settle-fixed (suc limit) (roundOf pol s gap j) limit (startOf pol s j) D e in
+      (f .0, omega (arith, f .1))
 
   module _ (g : Spaced s gap) where
     -- no D that a round does not raise is smaller
-    pub held-least : (D P : ℕ) → delayOf s gap i j ≡ unchanged D → roundOf s gap j P ≤ P → D ≤ P
+    pub held-least : (D P : ℕ) → delayOf pol s gap i j ≡ unchanged D → roundOf pol s gap j P ≤ P → D ≤ P
     unfolding delayOf
     held-least D P e h =
         settle-least
-        (roundOf s gap j)
-        (round-mono s j gap g)
-        (gap i)
-        (suc (gap i))
-        (startOf s j)
+        (roundOf pol s gap j)
+        (round-mono pol s j gap g)
+        limit
+        (suc limit)
+        (startOf pol s j)
         D
         P
-        (omega (arith, round-start s j gap P))
+        (omega (arith, round-start pol s j gap P))
         h
         e
 
-    -- held exactly if some D below the spacing is not raised by a round
-    pub held-exists : (P : ℕ) → roundOf s gap j P ≤ P → P < gap i → (D : ℕ) × (delayOf s gap i j ≡ unchanged D)
+    -- held exactly if some such D is not raised by a round
+    pub held-exists : (P : ℕ) → roundOf pol s gap j P ≤ P → P + tailOf pol s j < gap i → (D : ℕ) × (delayOf pol s gap i j ≡ unchanged D)
     unfolding delayOf
     held-exists P h l =
         settle-finds
-        (roundOf s gap j)
-        (round-mono s j gap g)
-        (gap i)
-        (suc (gap i))
-        (startOf s j)
+        (roundOf pol s gap j)
+        (round-mono pol s j gap g)
+        limit
+        (suc limit)
+        (startOf pol s j)
         P
-        (omega (arith, round-start s j gap P))
-        (round-start s j gap (startOf s j))
+        (omega (arith, round-start pol s j gap P))
+        (round-start pol s j gap (startOf pol s j))
         h
-        l
+        (omega arith)
         (omega arith)
 
 -- held stays held, and the delay does not grow, when spacings grow
-pub record Kept (s : System) (gap : ℕ → ℕ) (i j D : ℕ) : Type 0 where
+pub record Kept (pol : Policy) (s : System) (gap : ℕ → ℕ) (i j D : ℕ) : Type 0 where
   pub delay : ℕ
-  pub held : delayOf s gap i j ≡ unchanged delay
+  pub held : delayOf pol s gap i j ≡ unchanged delay
   pub smaller : delay ≤ D
 
-pub held-wider : (s : System) (gap gap′ : ℕ → ℕ) (i j D : ℕ) → Spaced s gap → Wider s gap gap′ → gap i ≤ gap′ i → delayOf s gap i j ≡ unchanged D → Kept s gap′ i j D
-held-wider s gap gap′ i j D g w h e =
-    let f : (roundOf s gap j D ≡ D) × (D < gap i) = held-fixed s gap i j D e in
+pub held-wider : (pol : Policy) (s : System) (gap gap′ : ℕ → ℕ) (i j D : ℕ) → Spaced s gap → Wider s gap gap′ → gap i ≤ gap′ i → delayOf pol s gap i j ≡ unchanged D → Kept pol s gap′ i j D
+held-wider pol s gap gap′ i j D g w h e =
+    let f = held-fixed pol s gap i j D e in
     let g′ : Spaced s gap′ = λ u p q. omega (arith, g u p q, w u p q) in
-    let r : roundOf s gap′ j D ≤ D = omega (arith, round-anti s j gap gap′ g w D) in
-    let (D′, e′) = held-exists s gap′ i j g′ D r (omega arith) in
-    record { delay = D′; held = e′; smaller = held-least s gap′ i j g′ D′ D e′ r }
+    let r : roundOf pol s gap′ j D ≤ D = omega (arith, round-anti pol s j gap gap′ g w D, f .0) in
+    let (D′, e′) = held-exists pol s gap′ i j g′ D r (omega (arith, f .1)) in
+    record { delay = D′; held = e′; smaller = held-least pol s gap′ i j g′ D′ D e′ r }

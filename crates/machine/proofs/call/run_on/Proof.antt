@@ -1,8 +1,8 @@
 -- `run_on` meets its contract: the steps one after the other. Assumes nothing.
 use Prim.Native.Nat.{_+_}
-use mathlib.Core.Path.{refl, ap, _∙_}
+use mathlib.Core.Path.{refl, sym, ap, subst, _∙_}
 use native.Mathlib.Omega.{arith}
-use Rattle.steps.specs.Words.{worked}
+use Rattle.steps.specs.Words.{Goes, worked}
 use borrow.Author.Needs.{needs}
 use Rattle.machine.proofs.call.run_on.Statement.{statement}
 use Rattle.machine.proofs.call.run_on.Tie as tie
@@ -18,7 +18,8 @@ returns c =
     let A = c .before .before .before .args in
     record {
       done = refl;
-      ran = λ d since m g rows s H. c .pass .ensures .passed d (c .before .work .last .1 .1 .1 .1 .0) since (worked d (A .finish) m) g (c .before .work .ensures .worked-on d since m g rows s H);
+      ran = λ d since m g rows s r H. c .pass .ensures .passed d (c .before .work .last .1 .1 .1 .1 .1 .0) since (worked (A .p) d (A .finish) m) g (c .before .work .ensures .worked-on d since m g rows s r H);
+      goes = λ z r. subst (λ x. Goes (A .p) x (c .before .work .last .1 .1 .1 .1 .1 .0)) (sym (c .pass .ensures .runs)) (c .before .work .ensures .goes z r);
       then = c .pass .ensures .then ∙ ap (λ k. k + 1) (c .before .work .ensures .then);
       knob = (c .pass .ensures .knob .0 ∙ c .before .work .ensures .knob .0, c .pass .ensures .knob .1 ∙ c .before .work .ensures .knob .1);
     }

@@ -23,7 +23,7 @@ use Rattle.spacings.specs.Sources.{SourcesOf}
 use Rattle.spacings.specs.Gaps.{Asked, GapsOf}
 use Rattle.spacings.proofs.GapLaws.{asked-none}
 use Rattle.steps.proofs.MaskLaws.{sourced}
-use Rattle.steps.proofs.RecordLaws.{begun, none-kept}
+use Rattle.steps.proofs.RecordLaws.{begun, none-going, none-kept}
 use Rattle.steps.specs.declared.words.Words.{Words}
 use Rattle.machine.specs.Calls.{Tracks}
 use Rattle.machine.specs.Run.{Head}
@@ -36,11 +36,11 @@ use Rattle.machine.proofs.run.run_wired.Statement.{statement}
 use Rattle.machine.proofs.run.run_wired.Tie as tie
 
 abbrev Inv-loop : tie.InvT-loop
-Inv-loop calls outcomes₀ w s longest n sources words₀ used₀ since₀ fastest₀ tempos₀ gaps₀ i₀ head₀ outcomes words used since fastest tempos gaps i head =
-    (i ≤ n) × (length outcomes ≡ length outcomes₀) × (words .tick ≤ 4294967296 + i) × Asked (s .ticks) (s .pulses) tempos gaps × (i < n → Head calls (6 * i) head) × ((d : Description) → WiringOf d w → SourcesOf d s → GapsOf d 200 longest → judge d ≡ Done → Tracks d words used since fastest (left d (idle d) (take i (callsIn calls))) × (outcomes ≡ take i (page d (callsIn calls)) ++ drop i outcomes₀))
+Inv-loop p calls outcomes₀ w s longest n sources words₀ used₀ since₀ fastest₀ tempos₀ gaps₀ i₀ head₀ outcomes words used since fastest tempos gaps i head =
+    (i ≤ n) × (length outcomes ≡ length outcomes₀) × (words .tick ≤ 4294967296 + i) × Asked (s .ticks) (s .pulses) tempos gaps × (i < n → Head calls (6 * i) head) × ((d : Description) → WiringOf d w → SourcesOf d s → GapsOf d 200 longest → judge d ≡ Done → Tracks p d words used since fastest (left p d (idle d) (take i (callsIn calls))) × (outcomes ≡ take i (page p d (callsIn calls)) ++ drop i outcomes₀))
 
 abbrev μ-loop : tie.MeasureT-loop
-μ-loop calls outcomes₀ w s longest n sources words₀ used₀ since₀ fastest₀ tempos₀ gaps₀ i₀ head₀ outcomes words used since fastest tempos gaps i head = n - i
+μ-loop p calls outcomes₀ w s longest n sources words₀ used₀ since₀ fastest₀ tempos₀ gaps₀ i₀ head₀ outcomes words used since fastest tempos gaps i head = n - i
 
 blank-machine-requires : tie.Need-blank-machine-requires Inv-loop μ-loop
 blank-machine-requires c κs = search needs
@@ -52,7 +52,7 @@ returns : tie.Need-returns Inv-loop μ-loop
 returns c = λ d r s g j.
     let S = c .before .before .before .before .before in
     let h : length (S .args .outcomes .now) < length (callsIn (S .args .calls .now)) = omega (arith, c .before .before .if1 .taken, calls-length (S .args .calls .now)) in
-    (c .refused .ensures ∙ rw (c .before .blank-machine .ensures) (ran-short d (callsIn (S .args .calls .now)) (S .args .outcomes .now) h), filled-short d (callsIn (S .args .calls .now)) (S .args .outcomes .now) h)
+    (c .refused .ensures ∙ rw (c .before .blank-machine .ensures) (ran-short (S .args .p) d (callsIn (S .args .calls .now)) (S .args .outcomes .now) h), filled-short (S .args .p) d (callsIn (S .args .calls .now)) (S .args .outcomes .now) h)
 
 begin-requires : tie.Need-begin-requires Inv-loop μ-loop
 begin-requires c κs = search needs
@@ -71,7 +71,7 @@ loop-holds c = (
   omega (arith, c .before .before .before .begin .ensures .first),
   asked-none _ _,
   c .peek .ensures,
-  λ d r s g j. (record { holds = begun d (c .before .before .before .begin .result) _ (c .before .since-of .result) (r .formed) (c .before .before .before .begin .ensures) g (c .before .since-of .ensures); keeps = none-kept d (c .before .before .before .begin .result) (c .before .before .before .begin .ensures) }, refl),
+  λ d r s g j. (record { holds = begun d (c .before .before .before .begin .result) _ (c .before .since-of .result) (r .formed) (c .before .before .before .begin .ensures) g (c .before .since-of .ensures); goes = none-going (c .before .before .before .before .before .before .before .args .p) (c .before .before .before .begin .result) (c .before .before .before .begin .ensures); keeps = none-kept d (c .before .before .before .begin .result) (c .before .before .before .begin .ensures) }, refl),
 )
 
 add-peek : tie.Need-add-peek Inv-loop μ-loop
@@ -101,13 +101,13 @@ advance-requires c κs =
     let L = c .before .before .before .before .before .before .before .before .before .before .before .before .before .before .before .before .before .loop in
     let d = S .pre .description in
     let r = S .pre .wired in
-    let m = left d (idle d) (take (L .i) (callsIn (S .args .calls .now))) in
+    let m = left (S .args .p) d (idle d) (take (L .i) (callsIn (S .args .calls .now))) in
     record {
       description = d;
       machine = m;
-      tables = tables-of d (S .args .t1) (S .args .t2) (S .args .t3) r (S .pre .same-sources) (S .pre .spaced);
+      tables = tables-of d (S .args .t2) (S .args .t3) (S .args .t4) r (S .pre .same-sources) (S .pre .spaced);
       tracks = L .inv .5 d r (S .pre .same-sources) (S .pre .spaced) (S .pre .judged) .0;
-      keeps = kept d (take (L .i) (callsIn (S .args .calls .now))) m (r .formed) refl;
+      keeps = kept (S .args .p) d (take (L .i) (callsIn (S .args .calls .now))) m (r .formed) refl;
       sourced = sourced (c .before .before .before .before .before .before .before .before .before .before .before .before .before .before .mask-in .result) (c .before .before .before .before .before .before .before .before .before .before .before .before .before .before .mask-in .ensures .1);
       fits = omega (arith, c .before .before .before .before .before .before .before .before .before .before .before .before .before .before .mask-in .ensures .1);
       early = omega (arith, S, L .inv .2, c .before .before .before .before .before .before .before .before .before .before .before .before .before .before .before .before .loop-test .taken, div-mul-le-self (length (S .args .calls .now)) 6);
@@ -121,7 +121,7 @@ slice-write-outcomes : tie.Need-slice-write-outcomes Inv-loop μ-loop
 slice-write-outcomes c = omega (arith, c .before .before .before .before .before .before .before .before .before .before .before .before .before .before .before .before .before .before .before .before .before .before .before .before .if1 .left, c .before .before .before .before .before .before .before .before .before .before .before .before .before .before .before .before .before .before .loop-test .taken, c .before .before .before .before .before .before .before .before .before .before .before .before .before .before .before .before .before .before .before .loop .inv .1)
 
 -- once a call is made, the words hold the record which the plain machine leaves, and its code is stored
-turn : (c : tie.After-code Inv-loop μ-loop) (d : Description) → WiringOf d (c .before .before .before .before .before .before .before .before .before .before .before .before .before .before .before .before .before .before .before .before .before .before .before .before .before .before .before .args .t1) → SourcesOf d (c .before .before .before .before .before .before .before .before .before .before .before .before .before .before .before .before .before .before .before .before .before .before .before .before .before .before .before .args .t2) → GapsOf d 200 (c .before .before .before .before .before .before .before .before .before .before .before .before .before .before .before .before .before .before .before .before .before .before .before .before .before .before .before .args .t3) → judge d ≡ Done → Tracks d (c .before .advance .result .words) (c .before .advance .last .1 .1 .1 .1 .1 .1 .1 .1 .0) (c .before .advance .last .1 .1 .1 .1 .1 .1 .1 .1 .1 .0) (c .before .advance .last .1 .1 .1 .1 .1 .1 .1 .1 .1 .1 .0) (left d (idle d) (take (c .before .before .before .before .before .before .before .before .before .before .before .before .before .before .before .before .before .before .before .loop .i + 1) (callsIn (c .before .before .before .before .before .before .before .before .before .before .before .before .before .before .before .before .before .before .before .before .before .before .before .before .before .before .before .args .calls .now)))) × (set (c .before .before .before .before .before .before .before .before .before .before .before .before .before .before .before .before .before .before .before .loop .outcomes) (c .before .before .before .before .before .before .before .before .before .before .before .before .before .before .before .before .before .before .before .loop .i) (c .code .result) ≡ take (c .before .before .before .before .before .before .before .before .before .before .before .before .before .before .before .before .before .before .before .loop .i + 1) (page d (callsIn (c .before .before .before .before .before .before .before .before .before .before .before .before .before .before .before .before .before .before .before .before .before .before .before .before .before .before .before .args .calls .now))) ++ drop (c .before .before .before .before .before .before .before .before .before .before .before .before .before .before .before .before .before .before .before .loop .i + 1) (c .before .before .before .before .before .before .before .before .before .before .before .before .before .before .before .before .before .before .before .before .before .before .before .before .before .before .before .args .outcomes .now))
+turn : (c : tie.After-code Inv-loop μ-loop) (d : Description) → WiringOf d (c .before .before .before .before .before .before .before .before .before .before .before .before .before .before .before .before .before .before .before .before .before .before .before .before .before .before .before .args .t2) → SourcesOf d (c .before .before .before .before .before .before .before .before .before .before .before .before .before .before .before .before .before .before .before .before .before .before .before .before .before .before .before .args .t3) → GapsOf d 200 (c .before .before .before .before .before .before .before .before .before .before .before .before .before .before .before .before .before .before .before .before .before .before .before .before .before .before .before .args .t4) → judge d ≡ Done → Tracks (c .before .before .before .before .before .before .before .before .before .before .before .before .before .before .before .before .before .before .before .before .before .before .before .before .before .before .before .args .p) d (c .before .advance .result .words) (c .before .advance .last .1 .1 .1 .1 .1 .1 .1 .1 .1 .0) (c .before .advance .last .1 .1 .1 .1 .1 .1 .1 .1 .1 .1 .0) (c .before .advance .last .1 .1 .1 .1 .1 .1 .1 .1 .1 .1 .1 .0) (left (c .before .before .before .before .before .before .before .before .before .before .before .before .before .before .before .before .before .before .before .before .before .before .before .before .before .before .before .args .p) d (idle d) (take (c .before .before .before .before .before .before .before .before .before .before .before .before .before .before .before .before .before .before .before .loop .i + 1) (callsIn (c .before .before .before .before .before .before .before .before .before .before .before .before .before .before .before .before .before .before .before .before .before .before .before .before .before .before .before .args .calls .now)))) × (set (c .before .before .before .before .before .before .before .before .before .before .before .before .before .before .before .before .before .before .before .loop .outcomes) (c .before .before .before .before .before .before .before .before .before .before .before .before .before .before .before .before .before .before .before .loop .i) (c .code .result) ≡ take (c .before .before .before .before .before .before .before .before .before .before .before .before .before .before .before .before .before .before .before .loop .i + 1) (page (c .before .before .before .before .before .before .before .before .before .before .before .before .before .before .before .before .before .before .before .before .before .before .before .before .before .before .before .args .p) d (callsIn (c .before .before .before .before .before .before .before .before .before .before .before .before .before .before .before .before .before .before .before .before .before .before .before .before .before .before .before .args .calls .now))) ++ drop (c .before .before .before .before .before .before .before .before .before .before .before .before .before .before .before .before .before .before .before .loop .i + 1) (c .before .before .before .before .before .before .before .before .before .before .before .before .before .before .before .before .before .before .before .before .before .before .before .before .before .before .before .args .outcomes .now))
 turn c d r s g j =
     let S = c .before .before .before .before .before .before .before .before .before .before .before .before .before .before .before .before .before .before .before .before .before .before .before .before .before .before .before in
     let L = c .before .before .before .before .before .before .before .before .before .before .before .before .before .before .before .before .before .before .before .loop in
@@ -138,10 +138,10 @@ turn c d r s g j =
     let head : Head bytes (6 * i) (L .head) = L .inv .4 J in
     let q = calls-at bytes i J ∙ ap (λ k. callOf k (numberIn bytes (6 * i + 2) 2) finish) (sym (c .before .before .before .before .before .before .before .before .before .before .before .before .before .before .before .before .mask-in .ensures .0 ∙ head .mask)) ∙ ap (λ k. callOf mask k finish) (sym (c .before .before .before .before .before .before .before .before .before .before .before .before .before .before .before .tempo-in .ensures ∙ head .tempo)) in
     let I = L .inv .5 d r s g j in
-    let m = left d (idle d) (take i cs) in
-    let tables = tables-of d (S .args .t1) (S .args .t2) (S .args .t3) r s g in
-    let l = kept d (take i cs) m (r .formed) refl in
-    (subst (λ (x : Machine). Tracks d (v .result .words) (v .last .1 .1 .1 .1 .1 .1 .1 .1 .0) (v .last .1 .1 .1 .1 .1 .1 .1 .1 .1 .0) (v .last .1 .1 .1 .1 .1 .1 .1 .1 .1 .1 .0) x) (run-left d cs (idle d) i call T q) (v .ensures .leaves d m tables j l (I .0)), store-turn (S .args .outcomes .now) (L .outcomes) (page d cs) i (c .code .result) (omega (arith, c .before .before .before .before .before .before .before .before .before .before .before .before .before .before .before .before .before .before .before .before .before .before .before .before .if1 .left, J)) (omega (arith, codes-length d cs (idle d))) (I .1) (c .code .ensures ∙ ap (λ (o : Outcome). ofOutcome o .number) (v .ensures .ends d m tables j l (I .0)) ∙ run-code d cs (idle d) i call T q))
+    let m = left (S .args .p) d (idle d) (take i cs) in
+    let tables = tables-of d (S .args .t2) (S .args .t3) (S .args .t4) r s g in
+    let l = kept (S .args .p) d (take i cs) m (r .formed) refl in
+    (subst (λ (x : Machine). Tracks (S .args .p) d (v .result .words) (v .last .1 .1 .1 .1 .1 .1 .1 .1 .1 .0) (v .last .1 .1 .1 .1 .1 .1 .1 .1 .1 .1 .0) (v .last .1 .1 .1 .1 .1 .1 .1 .1 .1 .1 .1 .0) x) (run-left (S .args .p) d cs (idle d) i call T q) (v .ensures .leaves d m tables j l (I .0)), store-turn (S .args .outcomes .now) (L .outcomes) (page (S .args .p) d cs) i (c .code .result) (omega (arith, c .before .before .before .before .before .before .before .before .before .before .before .before .before .before .before .before .before .before .before .before .before .before .before .before .if1 .left, J)) (omega (arith, codes-length (S .args .p) d cs (idle d))) (I .1) (c .code .ensures ∙ ap (λ (o : Outcome). ofOutcome o .number) (v .ensures .ends d m tables j l (I .0)) ∙ run-code (S .args .p) d cs (idle d) i call T q))
 
 -- a task is awake
 add-i : tie.Need-add-i Inv-loop μ-loop
@@ -204,12 +204,12 @@ loop-again-2 c =
       c .peek3 .ensures,
       λ d r s g j.
           let to = c .before .before .before .before .skip .result in
-          let used = v .last .1 .1 .1 .1 .1 .1 .1 .1 .0 in
-          let since = v .last .1 .1 .1 .1 .1 .1 .1 .1 .1 .0 in
-          let fastest = v .last .1 .1 .1 .1 .1 .1 .1 .1 .1 .1 .0 in
+          let used = v .last .1 .1 .1 .1 .1 .1 .1 .1 .1 .0 in
+          let since = v .last .1 .1 .1 .1 .1 .1 .1 .1 .1 .1 .0 in
+          let fastest = v .last .1 .1 .1 .1 .1 .1 .1 .1 .1 .1 .1 .0 in
           let made = turn (c .before .before .before .before .before .before .before .before .before) d r s g j in
-          let n = passed-on d (r .formed) j bytes used since fastest (v .result .words) i to (c .before .before .before .before .before .before .if2 .left) (k .on) (k .most) (k .quiet) (made .0) in
-          (subst (λ (x : Words). Tracks d x used since fastest (left d (idle d) (take to cs))) (sym (c .before .later .ensures)) (n .0), k .stored (page d cs) (S .args .outcomes .now) (omega (arith, k .most, codes-length d cs (idle d), calls-length bytes)) (omega (arith, k .most, c .before .before .before .before .before .before .before .before .before .before .before .before .before .before .before .before .before .before .before .before .before .before .before .before .before .before .before .before .before .before .before .before .before .if1 .left)) (n .1) (made .1)),
+          let n = passed-on (S .args .p) d (r .formed) j bytes used since fastest (v .result .words) i to (c .before .before .before .before .before .before .if2 .left) (k .on) (k .most) (k .quiet) (made .0) in
+          (subst (λ (x : Words). Tracks (S .args .p) d x used since fastest (left (S .args .p) d (idle d) (take to cs))) (sym (c .before .later .ensures)) (n .0), k .stored (page (S .args .p) d cs) (S .args .outcomes .now) (omega (arith, k .most, codes-length (S .args .p) d cs (idle d), calls-length bytes)) (omega (arith, k .most, c .before .before .before .before .before .before .before .before .before .before .before .before .before .before .before .before .before .before .before .before .before .before .before .before .before .before .before .before .before .before .before .before .before .if1 .left)) (n .1) (made .1)),
     )
 
 raise-requires : tie.Need-raise-requires Inv-loop μ-loop
@@ -229,7 +229,7 @@ returns-2 c = λ d r s g j.
     let e : L .i ≡ length cs = omega (arith, c .before .before .before .before .before .loop-test .left, L .inv .0, calls-length (S .args .calls .now)) in
     let h : length cs ≤ length (S .args .outcomes .now) = omega (arith, c .before .before .before .before .before .before .before .before .before .before .before .if1 .left, calls-length (S .args .calls .now)) in
     let I = L .inv .5 d r s g j in
-    (ran-whole d cs (S .args .outcomes .now) (c .unpack .result) h (c .unpack .ensures d (left d (idle d) (take (L .i) cs)) (r .as-wide) g (I .0 .holds) (raised-same d (L .words) (L .used) (L .since) (L .fastest) (c .before .before .before .raise .last .1 .0) (left d (idle d) (take (L .i) cs)) (I .0) (c .before .before .before .raise .ensures .0) (c .before .before .before .raise .ensures .1)) ∙ ap (left d (idle d)) (take-all (L .i) cs (omega arith))), I .1 ∙ ap (λ k. take k (page d cs) ++ drop k (S .args .outcomes .now)) e ∙ filled-whole d cs (S .args .outcomes .now) h)
+    (ran-whole (S .args .p) d cs (S .args .outcomes .now) (c .unpack .result) h (c .unpack .ensures d (left (S .args .p) d (idle d) (take (L .i) cs)) (r .as-wide) g (I .0 .holds) (raised-same (S .args .p) d (L .words) (L .used) (L .since) (L .fastest) (c .before .before .before .raise .last .1 .0) (left (S .args .p) d (idle d) (take (L .i) cs)) (I .0) (c .before .before .before .raise .ensures .0) (c .before .before .before .raise .ensures .1)) ∙ ap (left (S .args .p) d (idle d)) (take-all (L .i) cs (omega arith))), I .1 ∙ ap (λ k. take k (page (S .args .p) d cs) ++ drop k (S .args .outcomes .now)) e ∙ filled-whole (S .args .p) d cs (S .args .outcomes .now) h)
 
 pub run-wired-spec : {M : Type 1} → statement M
 run-wired-spec =

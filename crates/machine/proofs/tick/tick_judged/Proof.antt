@@ -9,20 +9,20 @@ use Rattle.model.specs.Run.{callOf}
 use Rattle.theory.proofs.FileLaws.{knob-known}
 use Rattle.spacings.proofs.GapLaws.{asked-none}
 use Rattle.rules.proofs.RuleLaws.{entered}
-use Rattle.machine.proofs.CallLaws.{tick-foreign, raised-same}
+use Rattle.machine.proofs.CallLaws.{tick-foreign, lawful-rules, raised-same}
 use Rattle.machine.proofs.TickLaws.{tables-of, packed-tracks, ticked}
 use borrow.Author.Needs.{needs}
 use Rattle.machine.proofs.tick.tick_judged.Statement.{statement}
 use Rattle.machine.proofs.tick.tick_judged.Tie as tie
 
 lawful-requires : tie.Need-lawful-requires
-lawful-requires c κs = entered (c .pre .description) (c .args .t1) (c .pre .wired)
+lawful-requires c κs = entered (c .pre .description) (c .args .t2) (c .pre .wired)
 
 refused-requires : tie.Need-refused-requires
 refused-requires c κs = search needs
 
 returns : tie.Need-returns
-returns c = λ d r s g e. c .refused .ensures ∙ tick-foreign d (c .before .before .before .args .t) (c .before .before .before .args .m) (c .before .before .before .args .a) (c .before .before .before .args .finish) e (sym (c .before .before .lawful .ensures d r g) ∙ not-true (c .before .before .lawful .result) (c .before .if1 .taken))
+returns c = λ d r s g e. c .refused .ensures ∙ tick-foreign (c .before .before .before .args .p) d (c .before .before .before .args .t) (c .before .before .before .args .m) (c .before .before .before .args .a) (c .before .before .before .args .finish) e (sym (c .before .before .lawful .ensures d r g) ∙ not-true (c .before .before .lawful .result) (c .before .if1 .taken))
 
 mask-of-requires : tie.Need-mask-of-requires
 mask-of-requires c κs = search needs
@@ -39,8 +39,8 @@ advance-requires c κs =
     record {
       description = d;
       machine = S .args .m;
-      tables = tables-of d (S .args .t1) (S .args .t2) (S .args .t3) r (S .pre .same-sources) (S .pre .spaced);
-      tracks = packed-tracks d (S .args .m) (c .before .before .before .before .before .before .before .before .before .before .before .before .before .before .before .before .pack .result .words) (c .before .before .before .before .before .before .before .before .before .before .before .before .before .before .before .before .pack .result .since) (r .formed) l (c .before .before .before .before .before .before .before .before .before .before .before .before .before .before .before .before .pack .ensures);
+      tables = tables-of d (S .args .t2) (S .args .t3) (S .args .t4) r (S .pre .same-sources) (S .pre .spaced);
+      tracks = packed-tracks (S .args .p) d (S .args .m) (c .before .before .before .before .before .before .before .before .before .before .before .before .before .before .before .before .pack .result .words) (c .before .before .before .before .before .before .before .before .before .before .before .before .before .before .before .before .pack .result .since) (r .formed) (lawful-rules (S .args .p) d (S .args .m) l) (c .before .before .before .before .before .before .before .before .before .before .before .before .before .before .before .before .pack .ensures);
       keeps = l;
       sourced = c .before .before .before .before .before .before .before .before .before .before .before .before .before .before .before .before .before .mask-of .ensures .0;
       fits = c .before .before .before .before .before .before .before .before .before .before .before .before .before .before .before .before .before .mask-of .ok;
@@ -54,7 +54,7 @@ raise-requires c κs =
     let d = S .pre .description in
     let r = S .pre .wired in
     let l = (sym (c .before .before .before .before .before .before .before .before .before .before .before .before .before .before .before .before .before .before .before .before .before .before .lawful .ensures d r (S .pre .spaced)) ∙ not-false (c .before .before .before .before .before .before .before .before .before .before .before .before .before .before .before .before .before .before .before .before .before .before .lawful .result) (c .before .before .before .before .before .before .before .before .before .before .before .before .before .before .before .before .before .before .before .before .before .if1 .left)) in
-    c .before .before .advance .ensures .leaves d (S .args .m) (tables-of d (S .args .t1) (S .args .t2) (S .args .t3) r (S .pre .same-sources) (S .pre .spaced)) (S .pre .judged) l (packed-tracks d (S .args .m) (c .before .before .before .before .before .before .before .before .before .before .before .before .before .before .before .before .before .before .before .pack .result .words) (c .before .before .before .before .before .before .before .before .before .before .before .before .before .before .before .before .before .before .before .pack .result .since) (r .formed) l (c .before .before .before .before .before .before .before .before .before .before .before .before .before .before .before .before .before .before .before .pack .ensures)) .keeps .many
+    c .before .before .advance .ensures .leaves d (S .args .m) (tables-of d (S .args .t2) (S .args .t3) (S .args .t4) r (S .pre .same-sources) (S .pre .spaced)) (S .pre .judged) l (packed-tracks (S .args .p) d (S .args .m) (c .before .before .before .before .before .before .before .before .before .before .before .before .before .before .before .before .before .before .before .pack .result .words) (c .before .before .before .before .before .before .before .before .before .before .before .before .before .before .before .before .before .before .before .pack .result .since) (r .formed) (lawful-rules (S .args .p) d (S .args .m) l) (c .before .before .before .before .before .before .before .before .before .before .before .before .before .before .before .before .before .before .before .pack .ensures)) .keeps .many
 
 unpack-requires : tie.Need-unpack-requires
 unpack-requires c κs = omega (arith, c .before .before .before .before .before .before .before .before .before .before .before .before .before .before .before .before .before .before .before .before .before .before .before .before .before .before .pre .wired .as-wide, c .before .before .before .before .before .before .before .before .before .before .before .before .before .before .before .before .before .before .before .before .before .before .before .before .before .before .pre .wired .formed .fields .few-sources)
@@ -64,13 +64,13 @@ returns-2 c = λ d r s g e.
     let S = c .before .before .before .before .before .before .before .before .before .before .before .before .before .before .before .before .before .before .before .before .before .before .before .before .before .before .before in
     let l = (sym (c .before .before .before .before .before .before .before .before .before .before .before .before .before .before .before .before .before .before .before .before .before .before .before .before .before .before .lawful .ensures d r g) ∙ not-false (c .before .before .before .before .before .before .before .before .before .before .before .before .before .before .before .before .before .before .before .before .before .before .before .before .before .before .lawful .result) (c .before .before .before .before .before .before .before .before .before .before .before .before .before .before .before .before .before .before .before .before .before .before .before .before .before .if1 .left)) in
     let j = knob-known d (S .args .t) e .0 in
-    let T = tables-of d (S .args .t1) (S .args .t2) (S .args .t3) r s g in
-    let R = packed-tracks d (S .args .m) (c .before .before .before .before .before .before .before .before .before .before .before .before .before .before .before .before .before .before .before .before .before .before .before .pack .result .words) (c .before .before .before .before .before .before .before .before .before .before .before .before .before .before .before .before .before .before .before .before .before .before .before .pack .result .since) (r .formed) l (c .before .before .before .before .before .before .before .before .before .before .before .before .before .before .before .before .before .before .before .before .before .before .before .pack .ensures) in
+    let T = tables-of d (S .args .t2) (S .args .t3) (S .args .t4) r s g in
+    let R = packed-tracks (S .args .p) d (S .args .m) (c .before .before .before .before .before .before .before .before .before .before .before .before .before .before .before .before .before .before .before .before .before .before .before .pack .result .words) (c .before .before .before .before .before .before .before .before .before .before .before .before .before .before .before .before .before .before .before .before .before .before .before .pack .result .since) (r .formed) (lawful-rules (S .args .p) d (S .args .m) l) (c .before .before .before .before .before .before .before .before .before .before .before .before .before .before .before .before .before .before .before .before .before .before .before .pack .ensures) in
     let v = c .before .before .before .before .before .before .advance in
-    let p = plainCall d (S .args .m) (callOf (c .before .before .before .before .before .before .before .before .before .before .before .before .before .before .before .before .before .before .before .before .before .before .before .before .mask-of .result) (S .args .t) (S .args .finish)) in
+    let p = plainCall (S .args .p) d (S .args .m) (callOf (c .before .before .before .before .before .before .before .before .before .before .before .before .before .before .before .before .before .before .before .before .before .before .before .before .mask-of .result) (S .args .t) (S .args .finish)) in
     let L = v .ensures .leaves d (S .args .m) T j l R in
-    ticked (v .result .outcome) (c .unpack .result) p (v .ensures .ends d (S .args .m) T j l R) (c .unpack .ensures d (p .machine) (r .as-wide) g (L .holds) (raised-same d (v .result .words) _ _ (v .last .1 .1 .1 .1 .1 .1 .1 .1 .1 .1 .0) (c .before .before .before .raise .last .1 .0) (p .machine) L (c .before .before .before .raise .ensures .0) (c .before .before .before .raise .ensures .1)))
-    ∙ ap (λ k. plainTick d (S .args .t) (S .args .m) (record { marks = k }) (S .args .finish)) (c .before .before .before .before .before .before .before .before .before .before .before .before .before .before .before .before .before .before .before .before .before .before .before .before .mask-of .ensures .1)
+    ticked (v .result .outcome) (c .unpack .result) p (v .ensures .ends d (S .args .m) T j l R) (c .unpack .ensures d (p .machine) (r .as-wide) g (L .holds) (raised-same (S .args .p) d (v .result .words) _ _ (v .last .1 .1 .1 .1 .1 .1 .1 .1 .1 .1 .1 .0) (c .before .before .before .raise .last .1 .0) (p .machine) L (c .before .before .before .raise .ensures .0) (c .before .before .before .raise .ensures .1)))
+    ∙ ap (λ k. plainTick (S .args .p) d (S .args .t) (S .args .m) (record { marks = k }) (S .args .finish)) (c .before .before .before .before .before .before .before .before .before .before .before .before .before .before .before .before .before .before .before .before .before .before .before .before .mask-of .ensures .1)
 
 pub tick-judged-spec : {M : Type 1} → statement M
 tick-judged-spec =

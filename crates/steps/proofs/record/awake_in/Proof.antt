@@ -7,7 +7,7 @@ use lib.ListN.{getD}
 use lib.Dec.{ltb}
 use Rattle.sets.specs.Sets.{member}
 use Rattle.sets.proofs.SetLaws.{member-none}
-use Rattle.steps.proofs.RecordLaws.{word-none, awake-more, awake-done}
+use Rattle.steps.proofs.RecordLaws.{word-none, part-more, awake-done}
 use Rattle.steps.proofs.record.awake_in.Statement.{statement}
 use Rattle.steps.proofs.record.awake_in.Tie as tie
 
@@ -36,7 +36,7 @@ loop-less : tie.Need-loop-less Inv-loop μ-loop
 loop-less c = omega arith
 
 loop-again : tie.Need-loop-again Inv-loop μ-loop
-loop-again c = let L = c .before .before .before .loop in let S = c .before .before .before .before in let y = awake-more (S .args .awake .now) (L .set) (L .k) (c .with-if .result) (L .inv .1, L .inv .2) (c .with-if .ensures) in (omega arith, y .0, y .1)
+loop-again c = let L = c .before .before .before .loop in let S = c .before .before .before .before in let y = part-more (λ i. getD (S .args .awake .now) i false) (L .set) (L .k) (c .with-if .result) (L .inv .1, L .inv .2) (c .with-if .ensures) in (omega arith, y .0, y .1)
 
 returns : tie.Need-returns Inv-loop μ-loop
 returns c = let L = c .before .loop in let S = c .before .before in let e : L .k ≡ 32 = omega (arith, L .inv .0, c .loop-test .left) in awake-done (S .args .awake .now) (L .set) (S .pre) (L .inv .1, subst (λ n. (j : ℕ) → member (L .set) (suc j) ≡ (ltb j n && getD (S .args .awake .now) j false)) e (L .inv .2))

@@ -19,9 +19,12 @@ since-of-requires c κs = search needs
 awake-in-requires : tie.Need-awake-in-requires
 awake-in-requires c κs = search needs
 
+running-in-requires : tie.Need-running-in-requires
+running-in-requires c κs = search needs
+
 returns : tie.Need-returns
 returns c =
-    let m = c .before .before .before .before .before .before .before .before .before .before .before .before .args .t1 in
+    let m = (c .before .before .before .before .before .before .before .before .before .before .before .before .before .before .before) .args .t2 in
     let awakes : length (m .awake) ≡ 32 = search needs in
     let useds : length (m .used) ≡ 32 = search needs in
     let waitings : length (m .waiting) ≡ 256 = search needs in
@@ -29,9 +32,14 @@ returns c =
     let old : length (m .ages) ≡ 16 = search needs in
     let kept : length (m .fastest) ≡ 16 = search needs in
     let z : Sized m = record { awakes = awakes; useds = useds; waitings = waitings; droppeds = droppeds; ages = old; fastests = kept } in
-    record { holds = λ d g l. packed d m g l z (c .before .before .before .since-of .result) _ (c .awake-in .ensures) (c .before .before .before .before .before .before .before .before .links-in .ensures) (c .before .before .before .before .before .links-in2 .ensures) (c .before .before .before .since-of .ensures) refl; first = refl; knob = (refl, refl) }
+    record {
+      holds = λ d g l. packed d m g l z (c .before .before .before .before .before .before .since-of .result) _ (c .before .before .before .awake-in .ensures) (c .before .before .before .before .before .before .before .before .before .before .before .links-in .ensures) (c .before .before .before .before .before .before .before .before .links-in2 .ensures) (c .before .before .before .before .before .before .since-of .ensures) refl;
+      goes = c .running-in .ensures;
+      first = refl;
+      knob = (refl, refl);
+    }
 
 pub pack-spec : {M : Type 1} → statement M
 pack-spec =
     tie.close
-    (tie.spec links-in-requires links-in-requires-2 since-of-requires awake-in-requires returns)
+    (tie.spec links-in-requires links-in-requires-2 since-of-requires awake-in-requires running-in-requires returns)

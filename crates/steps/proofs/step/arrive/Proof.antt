@@ -188,6 +188,7 @@ returns c =
       others = λ a u p e. kept .others u e ∙ c .before .before .before .before .before .before .before .before .fold .ensures .raised a u p;
       then = ap (λ (x : Words). x .tick) (r .ensures) ∙ c .before .send .ensures .then;
       knob = (ap (λ (x : Words). x .low) (r .ensures), ap (λ (x : Words). x .peak) (r .ensures));
+      runs = ap (λ (x : Words). x .running) (r .ensures) ∙ c .before .send .ensures .runs;
     }
 
 pub arrive-spec : {M : Type 1} → statement M

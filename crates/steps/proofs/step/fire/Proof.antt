@@ -37,6 +37,7 @@ returns c =
       fired = λ d m g r h. marks-fired d (A .rows .now) (A .x) (A .w) (c .send .result) (subst (λ (out : Wide). Sent (A .w) out (getD (A .rows .now) (9 * A .x + 8) 0) (c .send .result)) (c .before .before .row .ensures) (c .send .ensures)) m g r h;
       then = c .send .ensures .then;
       knob = c .send .ensures .knob;
+      runs = c .send .ensures .runs;
     }
 
 pub fire-spec : {M : Type 1} → statement M

@@ -13,6 +13,7 @@ returns c = record {
   passed = λ d used since m g h. passes d (c .before .before .before .args .w) _ used since m g refl refl refl refl h;
   then = refl;
   knob = (refl, refl);
+  runs = refl;
 }
 
 pub pass-spec : {M : Type 1} → statement M

@@ -25,6 +25,7 @@ returns c = record {
   dropped = λ l. c .union3 .ensures l ∙ ap (λ i. inside (c .before .before .before .before .before .before .args .w .dropped) l || i) (c .before .before .before .both .ensures l);
   then = refl;
   knob = (refl, refl);
+  runs = refl;
 }
 
 pub send-spec : {M : Type 1} → statement M

@@ -1,5 +1,7 @@
 -- `sleep` meets its contract, bit by bit. Assumes nothing.
-use mathlib.Core.Path.{refl}
+use mathlib.Core.Path.{refl, ap, _∙_}
+use mathlib.Core.Bool.{Bool, _&&_, not}
+use Rattle.sets.specs.Sets.{member}
 use Rattle.steps.proofs.MarkLaws.{marks-slept}
 use borrow.Author.Needs.{needs}
 use Rattle.steps.proofs.step.sleep.Statement.{statement}
@@ -23,13 +25,17 @@ without-requires c κs = search needs
 without-requires-2 : tie.Need-without-requires-2
 without-requires-2 c κs = search needs
 
+without-requires-3 : tie.Need-without-requires-3
+without-requires-3 c κs = search needs
+
 returns : tie.Need-returns
 returns c =
-    let S = c .before .before .before .before .before .before in
+    let A = (c .before .before .before .before .before .before .before) .args in
     record {
-      slept = λ d m g r p q h. marks-slept d (S .args .rows .now) (S .args .h) (S .args .w) _ (c .before .before .one .result) (c .before .before .before .before .before .row .result) (c .before .before .before .before .before .row .ensures) (c .before .before .one .ensures) (c .before .without .ensures) (c .without2 .ensures) refl m g r p q h;
+      slept = λ d m g r p q h. marks-slept d (A .rows .now) (A .h) (A .w) _ (c .before .before .before .before .before .one .result) (c .before .before .before .before .before .before .row .result) (c .before .before .before .before .before .before .row .ensures) (c .before .before .before .before .before .one .ensures) (c .before .before .without .ensures) (c .without3 .ensures) refl m g r p q h;
       then = refl;
       knob = (refl, refl);
+      runs = λ k. c .before .without2 .ensures k ∙ ap (λ (b : Bool). member (A .w .running) k && not b) (c .before .before .before .before .before .one .ensures k);
     }
 
 pub sleep-spec : {M : Type 1} → statement M
@@ -42,4 +48,5 @@ sleep-spec =
     one-requires
     without-requires
     without-requires-2
+    without-requires-3
     returns)

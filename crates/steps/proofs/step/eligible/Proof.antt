@@ -1,0 +1,13 @@
+-- `eligible` meets its contract. Assumes nothing.
+use borrow.Author.Tests.{eq-eqb, ne-eqb}
+use Rattle.steps.proofs.step.eligible.Statement.{statement}
+use Rattle.steps.proofs.step.eligible.Tie as tie
+
+returns : tie.Need-returns
+returns c = simp (eq-eqb _ _ (c .if1 .taken))
+
+returns-2 : tie.Need-returns-2
+returns-2 c = simp (ne-eqb _ _ (c .if1 .left))
+
+pub eligible-spec : {M : Type 1} → statement M
+eligible-spec = tie.close (tie.spec returns returns-2)

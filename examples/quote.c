@@ -1,4 +1,5 @@
-/* Quotes a description file and tries it: the report, the quote or what its refusal means, then a run of ticks. */
+/* Quotes a description file and tries it: the report, the quote or what its refusal means, on both models, then a run of ticks on
+ * the preemptive one. */
 #include <stdio.h>
 
 #include "bench.h"
@@ -33,6 +34,12 @@ static int refused(const char *call, int64_t answer) {
     return 1;
 }
 
+static int quoted(const char *call, int64_t answer) {
+    if (answer < 0) return refused(call, answer);
+    printf("%s %d.%d\n", call, (int)(answer / 10), (int)(answer % 10));
+    return 0;
+}
+
 int main(int count, char **words) {
     FILE *input = count == 2 ? fopen(words[1], "rb") : NULL;
     if (input == NULL) {
@@ -51,8 +58,9 @@ int main(int count, char **words) {
     fwrite(report, 1, (size_t)bytes, stdout);
 
     int64_t tempo = bench_quote(file, length);
-    if (tempo < 0) return refused("quote", tempo);
-    printf("quote %d.%d\n", (int)(tempo / 10), (int)(tempo % 10));
+    int unquoted = quoted("quote", tempo);
+    quoted("hold-on quote", bench_hold_quote(file, length));
+    if (unquoted) return 1;
 
     for (size_t k = 0; k < CALLS; k++) {
         size_t source = k % 17;

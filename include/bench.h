@@ -1,5 +1,9 @@
 /* The bench for C: description files to reports, quotes and runs of ticks.
  *
+ * There are two models of the box. On the preemptive one the highest awake task runs at every tick. On the hold-on one a task that
+ * has begun runs on until its run ends, and the highest awake task is chosen only when none is running: its calls are those with
+ * `hold` in their names. Files are the same on both.
+ *
  * `rt staticlib library` writes target/staticlib/liblibrary.a (x86-64), which needs memcpy and memset and nothing else.
  *
  * Answers: 0 or more is work done; below 0 is a refusal, -(10000 * number + place), in every call alike. The number is one of
@@ -29,7 +33,7 @@ extern "C" {
 #endif
 
 /* Rises when a call, a number or a layout below changes. */
-#define BENCH_VERSION 2
+#define BENCH_VERSION 3
 
 /* The refusals, as the README explains them. */
 enum bench_refusal {
@@ -55,14 +59,16 @@ enum bench_refusal {
 #define BENCH_NUMBER(answer) ((answer) < 0 ? (int)(-(answer) / 10000) : 0)
 #define BENCH_PLACE(answer) ((answer) < 0 ? (int)(-(answer) % 10000) : 0)
 
-/* The longest accepted file and the longest report, in bytes; the lowest and the highest tempo, in tenths of a beat per minute. */
+/* The longest accepted file and the longest report, in bytes (a report without the line `hold` has 5 less); the lowest and the
+ * highest tempo, in tenths of a beat per minute. */
 #define BENCH_LONGEST_FILE 1872
-#define BENCH_LONGEST_REPORT 11168
+#define BENCH_LONGEST_REPORT 11173
 #define BENCH_LOWEST_TEMPO 200
 #define BENCH_HIGHEST_TEMPO 3000
 
 /* A machine's record in 768 bytes, by the offsets of its parts: a byte for each mark, 0 or 1, four for each number and two for each
- * tempo, high byte first. Task 1, link 1 and source 33 are the first of their parts. */
+ * tempo, high byte first. Task 1, link 1 and source 33 are the first of their parts. On the hold-on model the task that runs is the
+ * one whose used is above 0, and there is at most one. */
 #define BENCH_RECORD 768
 #define BENCH_RECORD_AWAKE 0     /* 32 marks: the task is awake */
 #define BENCH_RECORD_USED 32     /* 32 numbers: the ticks that its run has used */
@@ -79,9 +85,15 @@ enum bench_refusal {
  * than the report, and then no byte has changed. */
 int64_t bench_report(const uint8_t *file, size_t file_length, uint8_t *out, size_t out_length);
 
+/* The same for the hold-on model: a line `hold`, then that model's tempo and verdicts, or the line that tells of a refusal. */
+int64_t bench_hold_report(const uint8_t *file, size_t file_length, uint8_t *out, size_t out_length);
+
 /* The highest tempo, in tenths of a beat per minute, at which every critical link of the file is held.
  * Refusals: 1 to 10, and 12 (-120000) if there is no such tempo. */
 int64_t bench_quote(const uint8_t *file, size_t file_length);
+
+/* The same for the hold-on model. */
+int64_t bench_hold_quote(const uint8_t *file, size_t file_length);
 
 /* A run of tick calls on one machine from its idle start. Returns 0.
  * `calls` has BENCH_CALL bytes for each call: the mask of arriving sources in two, high byte first, bit 0 for source 33; the tempo
@@ -97,6 +109,14 @@ int64_t bench_quote(const uint8_t *file, size_t file_length);
  * critical link is ever marked dropped, and no event from a source on a critical link waits longer than the delay in the report. */
 int64_t bench_run(const uint8_t *file, size_t file_length, const uint8_t *calls, size_t calls_length, uint8_t *outcomes,
                   size_t outcomes_length, uint8_t *record, size_t record_length);
+
+/* The same on the machine of the hold-on model: calls, outcomes, record and refusals are as in bench_run. Sources that arrive in a
+ * tick are seen before its task is chosen.
+ * It promises the same by that model's own numbers: if no call with the outcome 0 has a tempo above what bench_hold_quote answers,
+ * no critical link is ever marked dropped, and no event from a source on a critical link waits longer than the delay that
+ * bench_hold_report prints for it. */
+int64_t bench_hold_run(const uint8_t *file, size_t file_length, const uint8_t *calls, size_t calls_length, uint8_t *outcomes,
+                       size_t outcomes_length, uint8_t *record, size_t record_length);
 
 #ifdef __cplusplus
 }

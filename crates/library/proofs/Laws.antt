@@ -13,6 +13,7 @@ use mir.Syntax.{w64}
 use mir.Val.{SFits, toZ, ofZ, boolByte}
 use mir.ValLaws.{toZ-ofZ}
 use borrow.Author.Tests.{lt-ltb, le-ltb, eq-eqb, ne-eqb}
+use Rattle.model.specs.declared.Policy.{Policy}
 use Rattle.model.specs.declared.Machine.{Machine}
 use Rattle.model.specs.declared.Filled.{Filled}
 use Rattle.model.specs.declared.Filled.the-variants.{Bytes, Unfilled}
@@ -186,41 +187,41 @@ lowest-place good (suc n) = go (good (200 + n)) (lowest-place good n)
     go true h = refl
     go false h = h
 
-quoted-most : (s : List ℕ) → AllBytes s → quotePlace (quotedFile s) ≤ 2128
+quoted-most : (pol : Policy) (s : List ℕ) → AllBytes s → quotePlace (quotedFile pol s) ≤ 2128
 unfolding quotedFile quoteOf
-quoted-most s b = go (readFile s .outcome) refl
+quoted-most pol s b = go (readFile s .outcome) refl
   where
-    go : (o : Outcome) → readFile s .outcome ≡ o → quotePlace (onDone (readFile s .outcome) (onDone (judge (readFile s .description)) (largestBelow (allHeld (readFile s .description)) 2801) Unquoted) Unquoted) ≤ 2128
-    go Done e = rw (e, read-judged s b e) (omega (arith, lowest-place (allHeld (readFile s .description)) 2801))
+    go : (o : Outcome) → readFile s .outcome ≡ o → quotePlace (onDone (readFile s .outcome) (onDone (judge (readFile s .description)) (largestBelow (allHeld pol (readFile s .description)) 2801) Unquoted) Unquoted) ≤ 2128
+    go Done e = rw (e, read-judged s b e) (omega (arith, lowest-place (allHeld pol (readFile s .description)) 2801))
     go (Refused r p) e = rw e (rw e at (read-place s))
 
-pub quoted-place : (s : List ℕ) (q : Quote) (r : Refusal) (p : ℕ) → AllBytes s → q ≡ quotedFile s → q ≡ Unquoted r p → p ≤ 2128
-quoted-place s q r p b e f =
-    let k : quotePlace (quotedFile s) ≡ p = sym (ap quotePlace e) ∙ ap quotePlace f in
-    omega (arith, quoted-most s b)
+pub quoted-place : (pol : Policy) (s : List ℕ) (q : Quote) (r : Refusal) (p : ℕ) → AllBytes s → q ≡ quotedFile pol s → q ≡ Unquoted r p → p ≤ 2128
+quoted-place pol s q r p b e f =
+    let k : quotePlace (quotedFile pol s) ≡ p = sym (ap quotePlace e) ∙ ap quotePlace f in
+    omega (arith, quoted-most pol s b)
 
 -- a report's length fits
-pub filled-most : (s out : List ℕ) (f : Filled) (n : ℕ) → length (reportOf s) ≤ 11168 → f ≡ reported s out → f ≡ Bytes n → n ≤ 11168
+pub filled-most : (pol : Policy) (s out : List ℕ) (f : Filled) (n : ℕ) → length (reportOf pol s) ≤ 11173 → f ≡ reported pol s out → f ≡ Bytes n → n ≤ 11173
 unfolding reported fillWith
-filled-most s out f n h e g = go (ltb (length out) (length (reportOf s))) refl
+filled-most pol s out f n h e g = go (ltb (length out) (length (reportOf pol s))) refl
   where
     count : Filled → ℕ
     count (Bytes k) = k
     count (Unfilled r p) = 0
 
-    go : (b : Bool) → ltb (length out) (length (reportOf s)) ≡ b → n ≤ 11168
+    go : (b : Bool) → ltb (length out) (length (reportOf pol s)) ≡ b → n ≤ 11173
     go true q = let e′ : f ≡ Unfilled ShortPage 0 = e ∙ rw q refl in let k : 0 ≡ n = sym (ap count e′) ∙ ap count g in omega arith
-    go false q = let e′ : f ≡ Bytes (length (reportOf s)) = e ∙ rw q refl in let k : length (reportOf s) ≡ n = sym (ap count e′) ∙ ap count g in omega arith
+    go false q = let e′ : f ≡ Bytes (length (reportOf pol s)) = e ∙ rw q refl in let k : length (reportOf pol s) ≡ n = sym (ap count e′) ∙ ap count g in omega arith
 
 -- a report is refused at place 0
-pub filled-place : (s out : List ℕ) (f : Filled) (r : Refusal) (p : ℕ) → f ≡ reported s out → f ≡ Unfilled r p → p ≤ 2128
+pub filled-place : (pol : Policy) (s out : List ℕ) (f : Filled) (r : Refusal) (p : ℕ) → f ≡ reported pol s out → f ≡ Unfilled r p → p ≤ 2128
 unfolding reported fillWith
-filled-place s out f r p e g = go (ltb (length out) (length (reportOf s))) refl
+filled-place pol s out f r p e g = go (ltb (length out) (length (reportOf pol s))) refl
   where
     place : Filled → ℕ
     place (Bytes k) = 0
     place (Unfilled r p) = p
 
-    go : (b : Bool) → ltb (length out) (length (reportOf s)) ≡ b → p ≤ 2128
+    go : (b : Bool) → ltb (length out) (length (reportOf pol s)) ≡ b → p ≤ 2128
     go true q = let e′ : f ≡ Unfilled ShortPage 0 = e ∙ rw q refl in let k : 0 ≡ p = sym (ap place e′) ∙ ap place g in omega arith
-    go false q = let e′ : f ≡ Bytes (length (reportOf s)) = e ∙ rw q refl in let k : 0 ≡ p = sym (ap place e′) ∙ ap place g in omega arith
+    go false q = let e′ : f ≡ Bytes (length (reportOf pol s)) = e ∙ rw q refl in let k : 0 ≡ p = sym (ap place e′) ∙ ap place g in omega arith

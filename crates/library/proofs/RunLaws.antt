@@ -9,6 +9,7 @@ use lib.Dec.{ltb}
 use lib.IntN.{pos}
 use borrow.Author.Tests.{lt-ltb, le-ltb}
 use Rattle.model.specs.declared.Description.{Description}
+use Rattle.model.specs.declared.Policy.{Policy}
 use Rattle.model.specs.declared.Machine.{Machine}
 use Rattle.model.specs.declared.Reading.{Reading}
 use Rattle.model.specs.declared.Ticked.{Ticked}
@@ -62,16 +63,16 @@ module _ (s : List ℕ) (x : Reading) (whole : x ≡ readFile s) where
       run-whole k h = short false false (le-ltb (length out) 768 k) (le-ltb (length outcomes) (length calls / 6) h)
 
     -- what is answered and left
-    pub run-refused : (d : Description) (r : Refusal) (p : ℕ) → runOutcome s calls outcomes out ≡ Refused r p → (reply (refusal r p) ≡ reply (ofOutcome (runOutcome s calls outcomes out))) × (outcomes ≡ codesAfter (runOutcome s calls outcomes out) d calls outcomes) × (out ≡ recordAfter (runOutcome s calls outcomes out) d calls out)
-    run-refused d r p e = (rw e refl, rw e refl, rw e refl)
+    pub run-refused : (pol : Policy) (d : Description) (r : Refusal) (p : ℕ) → runOutcome s calls outcomes out ≡ Refused r p → (reply (refusal r p) ≡ reply (ofOutcome (runOutcome s calls outcomes out))) × (outcomes ≡ codesAfter pol (runOutcome s calls outcomes out) d calls outcomes) × (out ≡ recordAfter pol (runOutcome s calls outcomes out) d calls out)
+    run-refused pol d r p e = (rw e refl, rw e refl, rw e refl)
 
-    pub run-machine : (y : Ticked) → length calls / 6 ≤ length outcomes → y ≡ ranFrom (x .description) (callsIn calls) outcomes → y .machine ≡ left (x .description) (idle (x .description)) (callsIn calls)
-    run-machine y h e =
+    pub run-machine : (pol : Policy) (y : Ticked) → length calls / 6 ≤ length outcomes → y ≡ ranFrom pol (x .description) (callsIn calls) outcomes → y .machine ≡ left pol (x .description) (idle (x .description)) (callsIn calls)
+    run-machine pol y h e =
         ap (λ (k : Ticked). k .machine) e
         ∙ rw (le-ltb (length outcomes) (length (callsIn calls)) (omega (arith, calls-length calls))) refl
 
-    pub run-does : (m : Machine) (codes′ out′ : List ℕ) → runOutcome s calls outcomes out ≡ Done → m ≡ left (x .description) (idle (x .description)) (callsIn calls) → codes′ ≡ filledBy (page (x .description) (callsIn calls)) outcomes → out′ ≡ recordBytes m ++ drop 768 out → (pos 0 ≡ reply (ofOutcome (runOutcome s calls outcomes out))) × (codes′ ≡ codesAfter (runOutcome s calls outcomes out) (readFile s .description) calls outcomes) × (out′ ≡ recordAfter (runOutcome s calls outcomes out) (readFile s .description) calls out)
-    run-does m codes′ out′ e f g h =
-        let filled : codes′ ≡ filledBy (page (readFile s .description) (callsIn calls)) outcomes = g ∙ ap (λ (r : Reading). filledBy (page (r .description) (callsIn calls)) outcomes) whole in
-        let stored : out′ ≡ recordBytes (left (readFile s .description) (idle (readFile s .description)) (callsIn calls)) ++ drop 768 out = h ∙ ap (λ (k : Machine). recordBytes k ++ drop 768 out) (f ∙ ap (λ (r : Reading). left (r .description) (idle (r .description)) (callsIn calls)) whole) in
+    pub run-does : (pol : Policy) (m : Machine) (codes′ out′ : List ℕ) → runOutcome s calls outcomes out ≡ Done → m ≡ left pol (x .description) (idle (x .description)) (callsIn calls) → codes′ ≡ filledBy (page pol (x .description) (callsIn calls)) outcomes → out′ ≡ recordBytes m ++ drop 768 out → (pos 0 ≡ reply (ofOutcome (runOutcome s calls outcomes out))) × (codes′ ≡ codesAfter pol (runOutcome s calls outcomes out) (readFile s .description) calls outcomes) × (out′ ≡ recordAfter pol (runOutcome s calls outcomes out) (readFile s .description) calls out)
+    run-does pol m codes′ out′ e f g h =
+        let filled : codes′ ≡ filledBy (page pol (readFile s .description) (callsIn calls)) outcomes = g ∙ ap (λ (r : Reading). filledBy (page pol (r .description) (callsIn calls)) outcomes) whole in
+        let stored : out′ ≡ recordBytes (left pol (readFile s .description) (idle (readFile s .description)) (callsIn calls)) ++ drop 768 out = h ∙ ap (λ (k : Machine). recordBytes k ++ drop 768 out) (f ∙ ap (λ (r : Reading). left pol (r .description) (idle (r .description)) (callsIn calls)) whole) in
         (rw e (reply-done 0), rw e filled, rw e stored)

@@ -4,6 +4,7 @@ use mathlib.Core.Path.{_≡_, sym, ap, _∙_}
 use mathlib.Core.Bool.{Bool, true, false}
 use mathlib.Core.List.{List}
 use Rattle.model.specs.declared.Description.{Description}
+use Rattle.model.specs.declared.Policy.{Policy}
 use Rattle.model.specs.declared.Machine.{Machine}
 use Rattle.model.specs.declared.Arrivals.{Arrivals}
 use Rattle.model.specs.declared.Ticked.{Ticked}
@@ -35,9 +36,9 @@ module _ (d : Description) (t : ℕ) where
   unfolding judgeAt
   at-done e h = rw (e, h)
 
-  pub tick-refused : (m : Machine) (a : Arrivals) (f : Bool) (r : Refusal) (p : ℕ) → judgeAt d t ≡ Refused r p → untouched r p m ≡ plainTick d t m a f
+  pub tick-refused : (pol : Policy) (m : Machine) (a : Arrivals) (f : Bool) (r : Refusal) (p : ℕ) → judgeAt d t ≡ Refused r p → untouched r p m ≡ plainTick pol d t m a f
   unfolding plainTick judgeTick
-  tick-refused m a f r p e = rw e
+  tick-refused pol m a f r p e = rw e
 
 module _ (d : Description) where
   pub start-refused : (r : Refusal) (p : ℕ) → judge d ≡ Refused r p → unstarted r p ≡ started d
@@ -48,18 +49,18 @@ module _ (d : Description) where
   unfolding started
   start-done m e q = rw e (ap (λ (x : Machine). let r : Ticked = record { outcome = Done; machine = x } in r) q)
 
-  pub run-refused : (cs : List Call) (b : List ℕ) (r : Refusal) (p : ℕ) (x : Ticked) → judge d ≡ Refused r p → x ≡ unstarted r p → RunMeets d cs b b x
+  pub run-refused : (pol : Policy) (cs : List Call) (b : List ℕ) (r : Refusal) (p : ℕ) (x : Ticked) → judge d ≡ Refused r p → x ≡ unstarted r p → RunMeets pol d cs b b x
   unfolding ran pageRan
-  run-refused cs b r p x e q = record {
+  run-refused pol cs b r p x e q = record {
     answer = q ∙ rw e;
     filled = rw e;
     assured = λ _ _ _ h. refused-not (sym (ap (λ (y : Ticked). y .outcome) q) ∙ h);
   }
 
-  pub run-done : (cs : List Call) (b b′ : List ℕ) (x : Ticked) → Widths d → judge d ≡ Done → RunOf d cs b b′ x → RunMeets d cs b b′ x
+  pub run-done : (pol : Policy) (cs : List Call) (b b′ : List ℕ) (x : Ticked) → Widths d → judge d ≡ Done → RunOf pol d cs b b′ x → RunMeets pol d cs b b′ x
   unfolding ran pageRan
-  run-done cs b b′ x w e g = record {
+  run-done pol cs b b′ x w e g = record {
     answer = g .0 ∙ rw e;
     filled = g .1 ∙ rw e;
-    assured = λ q f up o. run-assured d q w f cs up b b′ x g o;
+    assured = λ q f up o. run-assured pol d q w f cs up b b′ x g o;
   }

@@ -1,4 +1,5 @@
-// The public calls of the tick machine: a start, one tick, and a run of many ticks. Each judges its description itself.
+// The public calls of the tick machine, on the model that the policy names: a start, which is the same on both, one tick, and a run of many ticks. Each
+// judges its description itself.
 
 use machine::run::run_judged;
 use machine::tick::tick_judged;
@@ -6,6 +7,7 @@ use model::Arrivals;
 use model::Description;
 use model::Machine;
 use model::Outcome;
+use model::Policy;
 use model::Refusal;
 use model::Ticked;
 use refusals::blank_machine;
@@ -82,8 +84,8 @@ pub fn start(d: Description) -> Ticked
 }
 
 // One tick of a record by value, which comes back as it was beside a refusal.
-fn tick_value(d: Description, t: u32, m: Machine, a: Arrivals, finish: bool) -> Ticked
-    ensures { λ r. ⌜ r ≡ plainTick d t m a finish ⌝ }
+fn tick_value(p: Policy, d: Description, t: u32, m: Machine, a: Arrivals, finish: bool) -> Ticked
+    ensures { λ r. ⌜ r ≡ plainTick p d t m a finish ⌝ }
 {
     let judged = judge_at(d, t);
     if let Outcome::Refused(why, place) = judged {
@@ -91,45 +93,52 @@ fn tick_value(d: Description, t: u32, m: Machine, a: Arrivals, finish: bool) -> 
     }
     let s = sources_of(d);
     let longest = gaps_by(&s.ticks, &s.pulses, s.count, 200);
-    tick_judged(wiring_of(d), s, longest, t, m, a, finish)
+    tick_judged(p, wiring_of(d), s, longest, t, m, a, finish)
 }
 
 // The calls of a run, for a description that is judged as done already.
-pub fn run_accepted(d: Description, calls: &[u8], outcomes: &mut [u8]) -> Ticked
+pub fn run_accepted(p: Policy, d: Description, calls: &[u8], outcomes: &mut [u8]) -> Ticked
     requires { ⌜ judge d ≡ Done ⌝ }
-    ensures { λ r. ⌜ RunOf d (callsIn (now (calls .entry))) (now (outcomes .entry)) (now (outcomes .exit)) r ⌝ }
+    ensures { λ r. ⌜ RunOf p d (callsIn (now (calls .entry))) (now (outcomes .entry)) (now (outcomes .exit)) r ⌝ }
 {
-    run_judged(d, calls, outcomes)
+    run_judged(p, d, calls, outcomes)
 }
 
 // Many tick calls from the start, with the description judged once. A call has six bytes: the mask of its arrivals, whose lowest bit is source
 // 33, and its tempo, high byte first; finish, unless it is 0; and one that is not looked at. Its refusal's number, or 0, goes to its byte of the
 // buffer.
-pub fn run(d: Description, calls: &[u8], outcomes: &mut [u8]) -> Ticked
-    ensures { λ r. ⌜ RunMeets d (callsIn (now (calls .entry))) (now (outcomes .entry)) (now (outcomes .exit)) r ⌝ }
+pub fn run(p: Policy, d: Description, calls: &[u8], outcomes: &mut [u8]) -> Ticked
+    ensures { λ r. ⌜ RunMeets p d (callsIn (now (calls .entry))) (now (outcomes .entry)) (now (outcomes .exit)) r ⌝ }
 {
     let judged = files::judge(d);
     if let Outcome::Refused(why, place) = judged {
         return refused_start(why, place);
     }
-    run_accepted(d, calls, outcomes)
+    run_accepted(p, d, calls, outcomes)
 }
 
 // The caller's own record is advanced by one tick at tempo t; a refusal leaves it as it was, and its tempo is not given.
-pub fn tick(d: Description, t: u32, m: &mut Machine, a: Arrivals, finish: bool) -> Outcome
-    ensures { λ r. ⌜ TickMeets d t (now (m .entry)) a finish r (now (m .exit)) ⌝ }
+pub fn tick(
+    p: Policy,
+    d: Description,
+    t: u32,
+    m: &mut Machine,
+    a: Arrivals,
+    finish: bool,
+) -> Outcome
+    ensures { λ r. ⌜ TickMeets p d t (now (m .entry)) a finish r (now (m .exit)) ⌝ }
 {
-    let r = tick_value(d, t, *m, a, finish);
+    let r = tick_value(p, d, t, *m, a, finish);
     *m = r.machine;
     r.outcome
 }
 
 // The same with a record by value in and out: the record is lent to `tick` inside, so that a caller has no reference to make.
-pub fn advanced(d: Description, t: u32, m: Machine, a: Arrivals, finish: bool) -> Ticked
-    ensures { λ r. ⌜ TickMeets d t m a finish (r .outcome) (r .machine) ⌝ }
+pub fn advanced(p: Policy, d: Description, t: u32, m: Machine, a: Arrivals, finish: bool) -> Ticked
+    ensures { λ r. ⌜ TickMeets p d t m a finish (r .outcome) (r .machine) ⌝ }
 {
     let mut x = m;
-    let o = tick(d, t, &mut x, a, finish);
+    let o = tick(p, d, t, &mut x, a, finish);
     Ticked {
         outcome: o,
         machine: x,

@@ -19,19 +19,19 @@ refused-tick-requires : tie.Need-refused-tick-requires
 refused-tick-requires c κs = search needs
 
 returns : tie.Need-returns
-returns c = let S = c .before .before .before .before .before in let told = c .before .before .judged .given in c .refused-tick .ensures ∙ tick-refused (S .args .d) (S .args .t) (S .args .m) (S .args .a) (S .args .finish) (told .0 .0) (told .0 .1 .0) (sym (c .before .before .before .before .judge-at .ensures) ∙ told .1)
+returns c = let S = c .before .before .before .before .before in let told = c .before .before .judged .given in c .refused-tick .ensures ∙ tick-refused (S .args .d) (S .args .t) (S .args .p) (S .args .m) (S .args .a) (S .args .finish) (told .0 .0) (told .0 .1 .0) (sym (c .before .before .before .before .judge-at .ensures) ∙ told .1)
 
 enum-told : tie.Need-enum-told
 enum-told c = search needs
 
 sources-of-requires : tie.Need-sources-of-requires
-sources-of-requires c κs = at-known (c .before .before .before .args .d) (c .before .before .before .args .t) (typed-widths (c .before .before .before .args .d) _ (c .before .before .before .good .0)) (sym (c .before .before .judge-at .ensures) ∙ c .enum-told .given .1) .0
+sources-of-requires c κs = at-known (c .before .before .before .args .d) (c .before .before .before .args .t) (typed-widths (c .before .before .before .args .d) _ (c .before .before .before .good .1 .0)) (sym (c .before .before .judge-at .ensures) ∙ c .enum-told .given .1) .0
 
 gaps-by-requires : tie.Need-gaps-by-requires
-gaps-by-requires c κs = (scaled-of (c .before .before .before .before .before .before .before .args .d) (c .before .before .before .sources-of .result) (at-known (c .before .before .before .before .before .before .before .args .d) (c .before .before .before .before .before .before .before .args .t) (typed-widths (c .before .before .before .before .before .before .before .args .d) _ (c .before .before .before .before .before .before .before .good .0)) (sym (c .before .before .before .before .before .before .judge-at .ensures) ∙ c .before .before .before .before .enum-told .given .1) .0) (c .before .before .before .sources-of .ensures), omega arith, omega arith)
+gaps-by-requires c κs = (scaled-of (c .before .before .before .before .before .before .before .args .d) (c .before .before .before .sources-of .result) (at-known (c .before .before .before .before .before .before .before .args .d) (c .before .before .before .before .before .before .before .args .t) (typed-widths (c .before .before .before .before .before .before .before .args .d) _ (c .before .before .before .before .before .before .before .good .1 .0)) (sym (c .before .before .before .before .before .before .judge-at .ensures) ∙ c .before .before .before .before .enum-told .given .1) .0) (c .before .before .before .sources-of .ensures), omega arith, omega arith)
 
 wiring-of-requires : tie.Need-wiring-of-requires
-wiring-of-requires c κs = at-known (c .before .before .before .before .before .before .before .before .args .d) (c .before .before .before .before .before .before .before .before .args .t) (typed-widths (c .before .before .before .before .before .before .before .before .args .d) _ (c .before .before .before .before .before .before .before .before .good .0)) (sym (c .before .before .before .before .before .before .before .judge-at .ensures) ∙ c .before .before .before .before .before .enum-told .given .1) .0
+wiring-of-requires c κs = at-known (c .before .before .before .before .before .before .before .before .args .d) (c .before .before .before .before .before .before .before .before .args .t) (typed-widths (c .before .before .before .before .before .before .before .before .args .d) _ (c .before .before .before .before .before .before .before .before .good .1 .0)) (sym (c .before .before .before .before .before .before .before .judge-at .ensures) ∙ c .before .before .before .before .before .enum-told .given .1) .0
 
 tick-judged-requires : tie.Need-tick-judged-requires
 tick-judged-requires c κs = record {

@@ -1,4 +1,4 @@
--- `bench_quote` meets its contract. Assumes nothing.
+-- `quote_file` meets its contract. Assumes nothing.
 use Rattle.library.proofs.Laws.{quoted-place, reply-done}
 use mathlib.Core.Path.{sym, ap, _∙_}
 use mir.Syntax.{w64}
@@ -7,8 +7,8 @@ use Rattle.model.specs.declared.Quote.{Quote}
 use Rattle.model.specs.Refusals.{ofQuote}
 use Rattle.library.specs.Replies.{reply}
 use borrow.Author.Needs.{needs}
-use Rattle.library.proofs.bench_quote.Statement.{statement}
-use Rattle.library.proofs.bench_quote.Tie as tie
+use Rattle.library.proofs.quote_file.Statement.{statement}
+use Rattle.library.proofs.quote_file.Tie as tie
 
 quote-file-requires : tie.Need-quote-file-requires
 quote-file-requires c κs = search needs
@@ -23,7 +23,7 @@ enum-known-quote-2 : tie.Need-enum-known-quote-2
 enum-known-quote-2 c = search needs
 
 refusal-code-requires : tie.Need-refusal-code-requires
-refusal-code-requires c κs = let w = c .before .quote2 .given in quoted-place (c .before .before .before .before .before .args .file .now) (c .before .before .before .quote-file .result) (w .0 .0) (w .0 .1 .0) (λ i. c .before .before .before .before .shared-slice-known .given i .fits) (c .before .before .before .quote-file .ensures) (w .1)
+refusal-code-requires c κs = let w = c .before .quote2 .given in quoted-place (c .before .before .before .before .before .args .p) (c .before .before .before .before .before .args .file .now) (c .before .before .before .quote-file .result) (w .0 .0) (w .0 .1 .0) (λ i. c .before .before .before .before .shared-slice-known .given i .fits) (c .before .before .before .quote-file .ensures) (w .1)
 
 returns : tie.Need-returns
 returns c = toZ-ofZ w64 (c .positive .result) (record { sfits = c .positive .ok }) ∙ c .positive .ensures ∙ reply-done (c .before .before .quote .given .0 .0) ∙ ap (λ (q : Quote). reply (ofQuote q)) (sym (c .before .before .quote .given .1) ∙ c .before .before .before .before .quote-file .ensures)
@@ -31,8 +31,8 @@ returns c = toZ-ofZ w64 (c .positive .result) (record { sfits = c .positive .ok 
 returns-2 : tie.Need-returns-2
 returns-2 c = toZ-ofZ w64 (c .refusal-code .result) (record { sfits = c .refusal-code .ok }) ∙ c .refusal-code .ensures ∙ ap (λ (q : Quote). reply (ofQuote q)) (sym (c .before .before .quote2 .given .1) ∙ c .before .before .before .before .quote-file .ensures)
 
-pub bench-quote-spec : {M : Type 1} → statement M
-bench-quote-spec =
+pub quote-file-spec : {M : Type 1} → statement M
+quote-file-spec =
     tie.close
     (tie.spec
     quote-file-requires

@@ -114,8 +114,10 @@ fn hold_column<'a>(
     let mut k: usize = 0;
     while k <= j {
         let load = loads[k];
-        best = larger(best, wide(runs[k]) + load);
-        loads[k] = load + part(brings[k], j, w);
+        let run = wide(runs[k]);
+        let lower = load + part(brings[k], j, w);
+        best = larger(best, run + load);
+        loads[k] = lower;
         k += 1;
     }
     best

@@ -38,15 +38,6 @@ element-copy-out-wide c = search needs
 wide-requires : tie.Need-wide-requires Inv-loop μ-loop
 wide-requires c κs = search needs
 
-add-larger : tie.Need-add-larger Inv-loop μ-loop
-add-larger c =
-    let S = c .before .before .before .before .before in
-    let L = c .before .before .before .before .loop in
-    omega (arith, S .pre .3 (L .k) (omega arith), S .pre .4 (L .k) (omega arith), L .inv .1 .2 (L .k) (omega arith), c .wide .ensures)
-
-larger-requires : tie.Need-larger-requires Inv-loop μ-loop
-larger-requires c κs = search needs
-
 mul-part : tie.Need-mul-part Inv-loop μ-loop
 mul-part c = search needs
 
@@ -56,11 +47,20 @@ element-copy-out-part c = search needs
 part-requires : tie.Need-part-requires Inv-loop μ-loop
 part-requires c κs = search needs
 
-add-loads : tie.Need-add-loads Inv-loop μ-loop
-add-loads c =
-    let S = c .before .before .before .before .before .before .before .before in
-    let L = c .before .before .before .before .before .before .before .loop in
+add-lower : tie.Need-add-lower Inv-loop μ-loop
+add-lower c =
+    let S = c .before .before .before .before .before .before .before in
+    let L = c .before .before .before .before .before .before .loop in
     omega (arith, S .pre .2, S .pre .3 (L .k) (omega arith), L .inv .1 .2 (L .k) (omega arith), c .part .ensures, given-le (member (getD (S .args .brings .now) (L .k) 0) (S .args .j)) (S .args .w) (S .args .w) (λ e. omega arith))
+
+add-larger : tie.Need-add-larger Inv-loop μ-loop
+add-larger c =
+    let S = c .before .before .before .before .before .before .before in
+    let L = c .before .before .before .before .before .before .loop in
+    omega (arith, S .pre .3 (L .k) (omega arith), S .pre .4 (L .k) (omega arith), L .inv .1 .2 (L .k) (omega arith), c .before .before .wide .ensures)
+
+larger-requires : tie.Need-larger-requires Inv-loop μ-loop
+larger-requires c κs = search needs
 
 mul-loads : tie.Need-mul-loads Inv-loop μ-loop
 mul-loads c = search needs
@@ -78,14 +78,17 @@ loop-again : tie.Need-loop-again Inv-loop μ-loop
 loop-again c =
     let S = c .before .before .before .before .before .before .before .before in
     let L = c .before .before .before .before .before .before .before .loop in
-    let x = getD (L .loads) (L .k) 0 + c .part .result in
+    let runs = S .args .runs .now in
+    let before = S .args .loads .now in
+    let tops = topN (held runs (λ i. getD before i 0)) 0 (L .k) in
+    let x = getD (L .loads) (L .k) 0 + c .before .part .result in
     let z : 0 + L .k ≡ L .k = omega arith in
-    let long : L .k < length (S .args .loads .now) = omega (arith, S .pre .1, S .pre .0) in
-    let top : topN (held (S .args .runs .now) (λ i. getD (S .args .loads .now) i 0)) 0 (L .k + 1) ≡ max (topN (held (S .args .runs .now) (λ i. getD (S .args .loads .now) i 0)) 0 (L .k)) (getD (S .args .runs .now) (L .k) 0 + getD (S .args .loads .now) (L .k) 0) = top-more (held (S .args .runs .now) (λ i. getD (S .args .loads .now) i 0)) (L .k) in
-    let now : c .before .before .before .wide .result + getD (L .loads) (L .k) 0 ≡ getD (S .args .runs .now) (L .k) 0 + getD (S .args .loads .now) (L .k) 0 = omega (arith, c .before .before .before .wide .ensures, L .inv .1 .2 (L .k) (omega arith)) in (
+    let long : L .k < length before = omega (arith, S .pre .1, S .pre .0) in
+    let now : c .before .before .before .wide .result + getD (L .loads) (L .k) 0 ≡ held runs (λ i. getD before i 0) (L .k) = omega (arith, c .before .before .before .wide .ensures, L .inv .1 .2 (L .k) (omega arith)) in
+    let best : c .larger .result ≡ max (L .best) (c .before .before .before .wide .result + getD (L .loads) (L .k) 0) = c .larger .ensures in (
       omega arith,
-      column-more 0 (S .args .brings .now) (S .args .j) (S .args .w) (L .k) (S .args .loads .now) (L .loads) x long (rw z (ap (λ y. getD (L .loads) (L .k) 0 + y) (c .part .ensures))) (L .inv .1),
-      c .before .before .larger .ensures ∙ ap (λ b. max b (c .before .before .before .wide .result + getD (L .loads) (L .k) 0)) (L .inv .2) ∙ ap (max (topN (held (S .args .runs .now) (λ i. getD (S .args .loads .now) i 0)) 0 (L .k))) now ∙ sym top,
+      column-more 0 (S .args .brings .now) (S .args .j) (S .args .w) (L .k) before (L .loads) x long (rw z (ap (λ y. getD (L .loads) (L .k) 0 + y) (c .before .part .ensures))) (L .inv .1),
+      best ∙ ap (λ b. max b (c .before .before .before .wide .result + getD (L .loads) (L .k) 0)) (L .inv .2) ∙ ap (max tops) now ∙ sym (top-more (held runs (λ i. getD before i 0)) (L .k)),
     )
 
 returns : tie.Need-returns Inv-loop μ-loop
@@ -107,12 +110,12 @@ hold-column-spec =
     mul-wide
     element-copy-out-wide
     wide-requires
-    add-larger
-    larger-requires
     mul-part
     element-copy-out-part
     part-requires
-    add-loads
+    add-lower
+    add-larger
+    larger-requires
     mul-loads
     element-write-loads
     add-k

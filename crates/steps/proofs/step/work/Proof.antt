@@ -27,7 +27,7 @@ eligible-requires : tie.Need-eligible-requires
 eligible-requires c κs = search needs
 
 last-requires : tie.Need-last-requires
-last-requires c κs = subst (λ s. 0 < s) (sym (c .eligible .ensures)) (eligible-some (c .before .before .before .args .w .running) (c .before .before .before .args .w .awake) (c .before .if1 .left))
+last-requires c κs = subst (λ s. 0 < s) (sym (c .eligible .ensures)) (eligible-some (c .before .before .before .args .w .running) (c .before .before .before .args .w .awake) (λ z. omega (arith, c .before .if1 .left)))
 
 -- the task that runs is one of those to choose from, and so awake
 chosen : (c : tie.After-last) → LastIn (cond (eqb (c .before .before .before .before .args .w .running) 0) (c .before .before .before .before .args .w .awake) (c .before .before .before .before .args .w .running)) (c .last .result)

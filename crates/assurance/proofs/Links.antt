@@ -46,14 +46,16 @@ module _ {s : System} (L : Loaded s) (G : Shaped s) {gap : ℕ → ℕ} (S : Sch
     module _ (pol : Policy) (P : Obeys S pol) (D : ℕ) (fixed : roundOf pol s gap j D ≡ D) where
       settled-bound : (pol : Policy) → Obeys S pol → roundOf pol s gap j D ≡ D → (1 ≤ D + tailOf pol s j) × ((y x : ℕ) → SourceWaits G S T i j linked y x → y < x + (D + tailOf pol s j))
       unfolding roundOf startOf
-      settled-bound Preemptive P fixed =
-          (omega (arith, delay-some L G S T spaced i j isSource isSource′ linked D fixed),
-           λ y x w. omega (arith, wait-bound L G S T spaced i j isSource isSource′ linked D fixed P y x w))
+      settled-bound Preemptive P fixed = (
+        omega (arith, delay-some L G S T spaced i j isSource isSource′ linked D fixed),
+        λ y x w. omega (arith, wait-bound L G S T spaced i j isSource isSource′ linked D fixed P y x w),
+      )
       settled-bound HoldOn O fixed =
           let t = G .to-task i j linked in
-          let most : All (λ k. s .run k + load s k (suc j) ≤ startOf HoldOn s j) 1 j = λ k p q. le-topTo (λ k. s .run k + load s k (suc j)) 1 j k p q in
-          (omega (arith, G .runs j (t .0) (t .1)),
-           λ y x w. omega (arith, served-within L G S O j (t .0) (t .1) (startOf HoldOn s j) most T spaced i isSource isSource′ linked D fixed y x w, G .runs j (t .0) (t .1)))
+          let most : All (λ k. s .run k + load s k (suc j) ≤ startOf HoldOn s j) 1 j = λ k p q. le-topTo (λ k. s .run k + load s k (suc j)) 1 j k p q in (
+            omega (arith, G .runs j (t .0) (t .1)),
+            λ y x w. omega (arith, served-within L G S O j (t .0) (t .1) (startOf HoldOn s j) most T spaced i isSource isSource′ linked D fixed y x w, G .runs j (t .0) (t .1)),
+          )
 
       pub source-not-dropped : D + tailOf pol s j < gap i → Dropped h i j → ⊥
       source-not-dropped q =

@@ -242,7 +242,7 @@ module _ (pol : Policy) (d : Description) (wf : WellFormed d) (ks : List Call) w
   part-ran : pol ≡ HoldOn → (x k : ℕ) → 1 ≤ k → k ≤ d .«task_count» → 0 < usedAt (at x) k → highAt x ≡ k
   part-ran e x = ran-part e x (alone e x)
 
-    -- a link leads to a task
+  -- a link leads to a task
   link-some : (i k : ℕ) → linked d i k ≡ true → 1 ≤ k
   unfolding linked
   link-some i k e =

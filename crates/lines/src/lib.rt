@@ -1,6 +1,7 @@
-// The lines of a report: the tempo, the verdict on a link, a refusal.
+// The lines of a report: the model, the tempo, the verdict on a link, a refusal.
 
 use model::Link;
+use model::Policy;
 use model::Quote;
 use model::Refusal;
 use model::Verdict;
@@ -10,8 +11,19 @@ use text::put_numbered;
 use text::put_word;
 ghost use Prim.Native.Nat.{_+_, _<_, _≤_};
 ghost use lib.ListN.{length};
-ghost use Rattle.model.specs.Report.{tempoLine, verdictText, linkLine, refusedLine};
+ghost use Rattle.model.specs.Report.{policyLine, tempoLine, verdictText, linkLine, refusedLine};
 ghost use Rattle.text.specs.Page.{Put};
+
+// `hold`, or no line.
+pub fn policy_line(page: &mut [u8], at: usize, p: Policy) -> usize
+    requires { ⌜ at + length (policyLine p) ≤ length (now page) ⌝ }
+    ensures { λ r. ⌜ Put (now (page .entry)) at (policyLine p) (now (page .exit)) r ⌝ }
+{
+    match p {
+        Policy::Preemptive => at,
+        Policy::HoldOn => put_word(&mut *page, at, b"hold\n"),
+    }
+}
 
 // `tempo 178.3`, or `tempo none`.
 pub fn tempo_line(page: &mut [u8], at: usize, q: Quote) -> usize

@@ -13,7 +13,7 @@ use Rattle.lemmas.proofs.Tests.{Cmp, less, same, more, cmp}
 use Rattle.lemmas.proofs.Range.{sumTo-le, given-le, any-at, any-none, top-more}
 use Rattle.sets.specs.Sets.{member}
 use Rattle.works.specs.Works.{loadBy}
-use Rattle.loads.specs.Tables.{Column, LevelColumn, heavyBy}
+use Rattle.loads.specs.Tables.{Column, LevelColumn, held, heavyBy}
 use Rattle.loads.proofs.Sums.{loadBy-step, loadBy-none}
 
 -- one more entry of a column is worked out
@@ -72,43 +72,44 @@ pub zero-entry : (n k : ℕ) → k < n → getD {A = ℕ} (replicate n 0) k 0 �
 zero-entry n k p = getD-replicate n k 0 0 p
 
 -- one more entry of a level is worked out
-pub level-none : (brings : List ℕ) (j w : ℕ) (l : List ℕ) → LevelColumn brings j w 0 l l
-level-none brings j w l = record { long = refl; here = λ u p. absurd (omega arith); above = λ k p. refl }
+pub level-none : (brings : List ℕ) (row j w : ℕ) (l : List ℕ) → LevelColumn brings row j w 0 l l
+level-none brings row j w l = record { long = refl; here = λ u p. absurd (omega arith); above = λ k p. refl }
 
-pub level-more : (brings : List ℕ) (j w u : ℕ) (l₀ l : List ℕ) (x : ℕ) → 16 * j + u < length l₀ → u < 16 → x ≡ getD l (16 * j + 16 + u) 0 + given (member (getD brings (32 + u) 0) j) w → LevelColumn brings j w u l₀ l → LevelColumn brings j w (u + 1) l₀ (set l (16 * j + u) x)
-level-more brings j w u l₀ l x p few e C =
+pub level-more : (brings : List ℕ) (row j w u : ℕ) (l₀ l : List ℕ) (x : ℕ) → 16 * row + u < length l₀ → u < 16 → x ≡ getD l (16 * row + 16 + u) 0 + given (member (getD brings (32 + u) 0) j) w → LevelColumn brings row j w u l₀ l → LevelColumn brings row j w (u + 1) l₀ (set l (16 * row + u) x)
+level-more brings row j w u l₀ l x p few e C =
     record {
       long = simp length-set (C .long);
       here = λ k q. low k q (cmp k u);
-      above = λ k q. getD-set-other l (16 * j + u) k x 0 (λ z. omega arith) ∙ C .above k (omega arith);
+      above = λ k q. getD-set-other l (16 * row + u) k x 0 (λ z. omega arith) ∙ C .above k (omega arith);
     }
   where
-    now : getD (set l (16 * j + u) x) (16 * j + u) 0 ≡ getD l₀ (16 * j + 16 + u) 0 + given (member (getD brings (32 + u) 0) j) w
-    now = getD-set-same l (16 * j + u) x 0 (omega (arith, C .long)) ∙ e ∙ ap (λ y. y + given (member (getD brings (32 + u) 0) j) w) (C .above (16 * j + 16 + u) (omega arith))
+    now : getD (set l (16 * row + u) x) (16 * row + u) 0 ≡ getD l₀ (16 * row + 16 + u) 0 + given (member (getD brings (32 + u) 0) j) w
+    now = getD-set-same l (16 * row + u) x 0 (omega (arith, C .long)) ∙ e ∙ ap (λ y. y + given (member (getD brings (32 + u) 0) j) w) (C .above (16 * row + 16 + u) (omega arith))
 
-    low : (k : ℕ) → k < u + 1 → Cmp k u → getD (set l (16 * j + u) x) (16 * j + k) 0 ≡ getD l₀ (16 * j + 16 + k) 0 + given (member (getD brings (32 + k) 0) j) w
-    low k q (less r) = getD-set-other l (16 * j + u) (16 * j + k) x 0 (λ z. omega arith) ∙ C .here k r
+    low : (k : ℕ) → k < u + 1 → Cmp k u → getD (set l (16 * row + u) x) (16 * row + k) 0 ≡ getD l₀ (16 * row + 16 + k) 0 + given (member (getD brings (32 + k) 0) j) w
+    low k q (less r) = getD-set-other l (16 * row + u) (16 * row + k) x 0 (λ z. omega arith) ∙ C .here k r
     low k q (same r) = rw r now
     low k q (more r) = absurd (omega arith)
 
--- levels and starts from task j + 1 on, filled from the highest down
-abbrev pub LevelsFrom : List ℕ → List ℕ → ℕ → ℕ → ℕ → List ℕ → Type 0
-LevelsFrom brings works n m j levels = (length levels ≡ 528) × ((k u : ℕ) → j ≤ k → k ≤ 32 → u < m → getD levels (16 * k + u) 0 ≡ loadBy (getD brings (32 + u) 0) works n (suc k))
+-- levels and starts from task j + 1 on, filled from the highest down; the row of a task is `below` rows down
+abbrev pub LevelsFrom : List ℕ → List ℕ → ℕ → ℕ → ℕ → ℕ → List ℕ → Type 0
+LevelsFrom brings works n m below j levels = (length levels ≡ 528) × ((k u : ℕ) → j ≤ below + k → k ≤ 32 → u < m → getD levels (16 * k + u) 0 ≡ loadBy (getD brings (32 + u) 0) works n (suc (below + k)))
 
-pub levels-none : (brings works : List ℕ) (n m : ℕ) → m ≤ 16 → LevelsFrom brings works n m n (replicate 528 0)
-levels-none brings works n m few = (
+pub levels-none : (brings works : List ℕ) (n m below : ℕ) → m ≤ 16 → LevelsFrom brings works n m below n (replicate 528 0)
+levels-none brings works n m below few = (
   refl,
-  λ k u p q r. zero-entry 528 (16 * k + u) (omega arith) ∙ sym (loadBy-none (getD brings (32 + u) 0) works n (suc k) (omega arith)),
+  λ k u p q r. zero-entry 528 (16 * k + u) (omega arith) ∙ sym (loadBy-none (getD brings (32 + u) 0) works n (suc (below + k)) (omega arith)),
 )
 
-pub levels-step : (brings works : List ℕ) (n m b : ℕ) (l l′ : List ℕ) → b < n → n ≤ 32 → m ≤ 16 → LevelColumn brings b (getD works b 0) m l l′ → LevelsFrom brings works n m (suc b) l → LevelsFrom brings works n m b l′
-levels-step brings works n m b l l′ p few small C F = (C .long ∙ F .0, λ k u q r t. go k u r t q (cmp b k))
+pub levels-step : (brings works : List ℕ) (n m below row j : ℕ) (l l′ : List ℕ) → j ≡ below + row → j < n → n ≤ 32 → m ≤ 16 → LevelColumn brings row j (getD works j 0) m l l′ → LevelsFrom brings works n m below (suc j) l → LevelsFrom brings works n m below j l′
+levels-step brings works n m below row j l l′ at p few small C F = (C .long ∙ F .0, λ k u q r t. go k u r t q (cmp row k))
   where
-    go : (k u : ℕ) → k ≤ 32 → u < m → b ≤ k → Cmp b k → getD l′ (16 * k + u) 0 ≡ loadBy (getD brings (32 + u) 0) works n (suc k)
-    go k u r t q (less x) = C .above (16 * k + u) (omega arith) ∙ F .1 k u x r t
+    go : (k u : ℕ) → k ≤ 32 → u < m → j ≤ below + k → Cmp row k → getD l′ (16 * k + u) 0 ≡ loadBy (getD brings (32 + u) 0) works n (suc (below + k))
+    go k u r t q (less x) = C .above (16 * k + u) (omega arith) ∙ F .1 k u (omega arith) r t
     go k u r t q (same x) =
-        let e : 16 * b + 16 + u ≡ 16 * suc b + u = omega arith in
-        rw (← x) (omega (arith, C .here u t, rw (← e) at (F .1 (suc b) u (omega arith) (omega arith) t), loadBy-step (getD brings (32 + u) 0) works n b p))
+        let e : 16 * row + 16 + u ≡ 16 * suc row + u = omega arith in
+        let up : below + suc row ≡ suc j = omega arith in
+        rw (← x, ← at) (omega (arith, C .here u t, rw (← e, up) at (F .1 (suc row) u (omega arith) (omega arith) t), loadBy-step (getD brings (32 + u) 0) works n j p))
     go k u r t q (more x) = absurd (omega arith)
 
 abbrev pub StartsFrom : List ℕ → List ℕ → ℕ → ℕ → List ℕ → Type 0
@@ -140,3 +141,18 @@ starts-step brings works n b starts l l′ x p few long h C e F = (C .0 ∙ long
   where
     now : (k : ℕ) → k < b → getD l′ k 0 ≡ loadBy (getD brings k 0) works n (suc b)
     now k q = column-tasks brings works n b b l l′ p C k q (h k (omega arith))
+
+-- the starts of the hold-on model
+abbrev pub HoldFrom : List ℕ → List ℕ → List ℕ → ℕ → ℕ → List ℕ → Type 0
+HoldFrom brings works runs n j starts = (length starts ≡ 32) × ((c : ℕ) → j ≤ c → c < n → getD starts c 0 ≡ topN (held runs (λ k. loadBy (getD brings k 0) works n (suc (suc c)))) 0 (suc c))
+
+pub hold-step : (brings works runs : List ℕ) (n b : ℕ) (starts : List ℕ) (l l′ : List ℕ) (x : ℕ) → b < n → n ≤ 32 → length l ≡ 32 → ((k : ℕ) → k < 32 → k ≤ b → getD l k 0 ≡ loadBy (getD brings k 0) works n (suc (suc b))) → Column 0 brings b (getD works b 0) (suc b) l l′ → x ≡ topN (held runs (λ k. getD l k 0)) 0 (suc b) → HoldFrom brings works runs n (suc b) starts → (length l′ ≡ 32) × ((k : ℕ) → k < 32 → k < b → getD l′ k 0 ≡ loadBy (getD brings k 0) works n (suc b)) × HoldFrom brings works runs n b (set starts b x)
+hold-step brings works runs n b starts l l′ x p few long h C e F = (C .0 ∙ long, (λ k q r. column-tasks brings works n b (suc b) l l′ p C k (omega arith) (h k q (omega arith))), (simp length-set (F .0), λ c q r. go c r q (cmp b c)))
+  where
+    own : x ≡ topN (held runs (λ k. loadBy (getD brings k 0) works n (suc (suc b)))) 0 (suc b)
+    own = e ∙ top-cong _ _ (suc b) (λ k q. ap (λ y. getD runs k 0 + y) (h k (omega arith) (omega arith)))
+
+    go : (c : ℕ) → c < n → b ≤ c → Cmp b c → getD (set starts b x) c 0 ≡ topN (held runs (λ k. loadBy (getD brings k 0) works n (suc (suc c)))) 0 (suc c)
+    go c r q (less y) = getD-set-other starts b c x 0 (λ z. omega arith) ∙ F .1 c y r
+    go c r q (same y) = rw (← y) (getD-set-same starts b x 0 (omega (arith, F .0)) ∙ own)
+    go c r q (more y) = absurd (omega arith)

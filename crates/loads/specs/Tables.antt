@@ -31,12 +31,16 @@ SheetBy brings works n t = (length t ≡ 48) × ((r : ℕ) → r < 48 → RowBy 
 abbrev pub Column : ℕ → List ℕ → ℕ → ℕ → ℕ → List ℕ → List ℕ → Type 0
 Column base brings j w c loads loads′ = (length loads′ ≡ length loads) × ((k : ℕ) → k < c → getD loads′ k 0 ≡ getD loads k 0 + given (member (getD brings (base + k) 0) j) w) × ((k : ℕ) → c ≤ k → getD loads′ k 0 ≡ getD loads k 0)
 
--- in a table of loads of sources, 16 places for a task: those of c sources at task j + 1 from those at the task above, whose work w comes in
+-- in a table of loads of sources, 16 places for a row: those of c sources at task j + 1 from those in the row above, the task's work w coming in
 -- where a source brings it in; the places after them stay
-pub record LevelColumn (brings : List ℕ) (j w c : ℕ) (levels levels′ : List ℕ) : Type 0 where
+pub record LevelColumn (brings : List ℕ) (row j w c : ℕ) (levels levels′ : List ℕ) : Type 0 where
   pub long : length levels′ ≡ length levels
-  pub here : (u : ℕ) → u < c → getD levels′ (16 * j + u) 0 ≡ getD levels (16 * j + 16 + u) 0 + given (member (getD brings (32 + u) 0) j) w
-  pub above : (k : ℕ) → 16 * j + c ≤ k → getD levels′ k 0 ≡ getD levels k 0
+  pub here : (u : ℕ) → u < c → getD levels′ (16 * row + u) 0 ≡ getD levels (16 * row + 16 + u) 0 + given (member (getD brings (32 + u) 0) j) w
+  pub above : (k : ℕ) → 16 * row + c ≤ k → getD levels′ k 0 ≡ getD levels k 0
+
+-- how long task k + 1 may hold the processor, with what it then puts on the tasks above
+abbrev pub held : List ℕ → (ℕ → ℕ) → ℕ → ℕ
+held runs loads k = getD runs k 0 + loads k
 
 -- whether some node's load at task 1 exceeds 1,000,000,000
 unfoldable pub heavyBy : List ℕ → List ℕ → ℕ → Bool

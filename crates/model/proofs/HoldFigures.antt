@@ -5,8 +5,14 @@ use mathlib.Core.Path.{_≡_, refl, ap}
 use Rattle.model.specs.declared.Policy.the-variants.{Preemptive, HoldOn}
 use Rattle.model.specs.Figures.{history}
 use Rattle.model.specs.History.{Tick, waitOf}
-use Rattle.model.specs.HoldFigures.{pair, pairCalls, ranIn, HoldFigures}
+use Rattle.model.specs.Machine.{choose}
+use Rattle.model.specs.HoldFigures.{pair, pairCalls, ranIn, threes, oneDone, HoldFigures}
 use Rattle.model.proofs.Figures.{computing}
+
+-- the task that goes on is looked at before any list of ticks
+lower : choose HoldOn threes oneDone ≡ 1
+unfolding computing
+lower = refl
 
 -- what is asked of one list of ticks is computed at once
 abbrev asked : List Tick → List ℕ × ℕ
@@ -28,6 +34,7 @@ hold-figures = record {
   box-delay = refl;
   box-held = refl;
   box-doubtful = refl;
+  box-quote = refl;
   box-highest = refl;
   box-second = refl;
   box-order = refl;
@@ -40,11 +47,15 @@ hold-figures = record {
   page-box-tempo = refl;
   page-box-link-3 = refl;
   page-refused = refl;
+  goes-on = lower;
+  interrupted = refl;
+  none-runs = refl;
   holds = ap (λ x. x .0) held;
   preempts = ap (λ x. x .0) interrupted;
   holds-wait = ap (λ x. x .1) held;
   preempts-wait = ap (λ x. x .1) interrupted;
   seen = refl;
+  not-alone = refl;
   one-part = refl;
   two-parts = refl;
   two-parts-preemptive = refl;

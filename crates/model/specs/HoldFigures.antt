@@ -18,7 +18,7 @@ use Rattle.model.specs.Graph.{system}
 use Rattle.model.specs.File.{fileOf}
 use Rattle.model.specs.Delays.{spacingOf, startOf, roundOf}
 use Rattle.model.specs.Verdicts.{verdictAt, quoteOf}
-use Rattle.model.specs.Machine.{idle, setAwake, setUsed, judgeTick}
+use Rattle.model.specs.Machine.{idle, setAwake, setUsed, aloneRule, choose, judgeTick}
 use Rattle.model.specs.History.{Call, Tick, waitOf}
 use Rattle.model.specs.Report.{policyLine, reportFor, reportOf}
 use Rattle.model.specs.Page.{linesOf, lineAt, TempoLine, tempoWords, heldWords}
@@ -37,15 +37,18 @@ abbrev pub ranIn : List Tick → List ℕ
 ranIn [] = []
 ranIn (k ∷ h) = k .ran ∷ ranIn h
 
--- two tasks of run 3; a record with the lower part done, and one with both
+-- two tasks of run 3, both awake: records with none part done, with the lower one, and with both
 abbrev pub threes : Description
 threes = describe (3 ∷ 3 ∷ []) [] []
 
+abbrev pub noneDone : Machine
+noneDone = setAwake 2 true (setAwake 1 true (idle threes))
+
 abbrev pub oneDone : Machine
-oneDone = setUsed 1 1 (setAwake 1 true (idle threes))
+oneDone = setUsed 1 1 noneDone
 
 abbrev pub bothDone : Machine
-bothDone = setUsed 2 1 (setAwake 2 true oneDone)
+bothDone = setUsed 2 1 oneDone
 
 -- what Box prints on the hold-on model, six lines
 abbrev pub boxHoldPage : List ℕ
@@ -64,6 +67,7 @@ pub record HoldFigures : Type 0 where
   pub box-delay : roundOf HoldOn (system box) (spacingOf box 1248) 2 700 ≡ 700
   pub box-held : verdictAt HoldOn box 1248 2 ≡ Held 1000 1001
   pub box-doubtful : verdictAt HoldOn box 1249 2 ≡ Doubt 1000
+  pub box-quote : quoteOf HoldOn box ≡ Tempo 1248
   -- 34>3: the longest run is 400, nothing is above task 3, and 200 follow
   pub box-highest : startOf HoldOn (system box) 3 ≡ 400
   pub box-second : verdictAt HoldOn box 1248 3 ≡ Held 600 2000
@@ -80,6 +84,10 @@ pub record HoldFigures : Type 0 where
   pub page-box-tempo : TempoLine HoldOn boxHoldPage (tempoWords 1248)
   pub page-box-link-3 : lineAt boxHoldPage 4 ≡ heldWords 3 33 2 1000 1001
   pub page-refused : reportOf HoldOn (fileOf sameTwice) ≡ 104 ∷ 111 ∷ 108 ∷ 100 ∷ 10 ∷ refusedPage
+  -- "the highest awake task is chosen only when none is running"
+  pub goes-on : choose HoldOn threes oneDone ≡ 1
+  pub interrupted : choose Preemptive threes oneDone ≡ 2
+  pub none-runs : choose HoldOn threes noneDone ≡ 2
   -- the lower task holds the processor while the higher one wakes, which then waits three ticks; preemptive it waits one
   pub holds : ranIn (history HoldOn pair (pairCalls 1)) ≡ 1 ∷ 1 ∷ 1 ∷ 2 ∷ []
   pub preempts : ranIn (history Preemptive pair (pairCalls 1)) ≡ 1 ∷ 2 ∷ 1 ∷ 1 ∷ []
@@ -88,6 +96,7 @@ pub record HoldFigures : Type 0 where
   -- an arrival at the very tick of choice is seen before the choice
   pub seen : ranIn (history HoldOn pair (pairCalls 0)) ≡ 2 ∷ 1 ∷ 1 ∷ 1 ∷ []
   -- "the state rule allows only one such"
+  pub not-alone : aloneRule HoldOn bothDone ≡ false
   pub one-part : ofOutcome (judgeTick HoldOn threes 200 oneDone (arriving 0)) .number ≡ 0
   pub two-parts : ofOutcome (judgeTick HoldOn threes 200 bothDone (arriving 0)) .number ≡ 16
   pub two-parts-preemptive : ofOutcome (judgeTick Preemptive threes 200 bothDone (arriving 0)) .number ≡ 0

@@ -6,6 +6,7 @@ use mathlib.Core.List.{List}
 use native.Mathlib.Omega.{arith}
 use lib.ListN.{getD}
 use Rattle.model.specs.declared.Description.{Description}
+use Rattle.model.specs.declared.Policy.{Policy}
 use Rattle.model.specs.declared.Outcome.the-variants.{Done, Refused}
 use Rattle.model.specs.declared.Refusal.{Refusal}
 use Rattle.model.specs.declared.Refusal.the-variants.{NoTempo}
@@ -31,55 +32,55 @@ use Rattle.verdicts.proofs.TableLaws.{level-of-tables}
 use Rattle.quotes.specs.Best.{LevelFrom, Best, Slower}
 
 -- a level that is held at one tempo is held at every lower one
-level-slower : (d : Description) → WellFormed d → (t t′ j : ℕ) → 1 ≤ t → t ≤ t′ → t′ ≤ 3000 → levelHeld d (spacingOf d t′) j ≡ true → levelHeld d (spacingOf d t) j ≡ true
-level-slower d g t t′ j a b c e = level-wider d g (spacingOf d t′) (spacingOf d t) j (spaced d g t′ (omega arith) c) (wider d g t t′ a b) e
+level-slower : (pol : Policy) (d : Description) → WellFormed d → (t t′ j : ℕ) → 1 ≤ t → t ≤ t′ → t′ ≤ 3000 → levelHeld pol d (spacingOf d t′) j ≡ true → levelHeld pol d (spacingOf d t) j ≡ true
+level-slower pol d g t t′ j a b c e = level-wider pol d g (spacingOf d t′) (spacingOf d t) j (spaced d g t′ (omega arith) c) (wider d g t t′ a b) e
 
 -- the levels of tables, on the scale of the rounds
-pub level-from : (d : Description) (levels starts critical : List ℕ) (sources : Sources) (tasks j : ℕ) (loads : List ℕ) → LevelTables d levels starts critical sources tasks → j < 32 → LoadsAt levels (sources .count) j loads → LevelFrom d (suc j) (levelWith (getD starts j 0) loads (getD critical j 0)) sources
-level-from d levels starts critical sources tasks j loads t p a =
+pub level-from : (pol : Policy) (d : Description) (levels starts tails critical : List ℕ) (sources : Sources) (tasks j : ℕ) (loads : List ℕ) (tail : ℕ) → LevelTables pol d levels starts tails critical sources tasks → j < tasks → LoadsAt levels (sources .count) j loads → tail ≡ getD tails j 0 → LevelFrom pol d (suc j) (levelWith (getD starts j 0) loads tail (getD critical j 0)) sources
+level-from pol d levels starts tails critical sources tasks j loads tail t p a e =
     record {
       good = t .good;
       task = omega arith;
-      level-is = level-of-tables d levels starts critical sources tasks j loads t p a;
+      level-is = level-of-tables pol d levels starts tails critical sources tasks j loads tail t p a e;
       sources-are = t .by-source;
     }
 
-pub from-on : (d : Description) (j : ℕ) (v : Level) (sources : Sources) (t : ℕ) (gaps : List ℕ) → LevelFrom d j v sources → GapsBy sources t gaps → LevelOn (v .start) (v .loads) gaps (sources .count)
-from-on d j v sources t gaps f z =
-    rw (f .sources-are .counted) (level-on d (f .good) j (f .task) (v .start) (v .loads) (f .level-is .start-is) (f .level-is .load-is) gaps (gaps-of d sources t gaps (f .sources-are) z .fit))
+pub from-on : (pol : Policy) (d : Description) (j : ℕ) (v : Level) (sources : Sources) (t : ℕ) (gaps : List ℕ) → LevelFrom pol d j v sources → GapsBy sources t gaps → LevelOn (v .start) (v .loads) gaps (sources .count)
+from-on pol d j v sources t gaps f z =
+    rw (f .sources-are .counted) (level-on d (f .good) pol j (f .task) (v .start) (v .loads) (f .level-is .start-is) (f .level-is .load-is) gaps (gaps-of d sources t gaps (f .sources-are) z .fit))
 
 -- whether a level is held at the spacings of a tempo
-pub held-from : (d : Description) (j : ℕ) (v : Level) (sources : Sources) (t : ℕ) (gaps : List ℕ) (r : Bool) → LevelFrom d j v sources → GapsBy sources t gaps → HeldBy v gaps (sources .count) r → r ≡ levelHeld d (spacingOf d t) j
-held-from d j v sources t gaps r f z h =
-    h d (spacingOf d t) j (f .good) (f .task) (f .level-is) (f .sources-are .counted) (rw (f .sources-are .counted) (gaps-of d sources t gaps (f .sources-are) z))
+pub held-from : (pol : Policy) (d : Description) (j : ℕ) (v : Level) (sources : Sources) (t : ℕ) (gaps : List ℕ) (r : Bool) → LevelFrom pol d j v sources → GapsBy sources t gaps → HeldBy v gaps (sources .count) r → r ≡ levelHeld pol d (spacingOf d t) j
+held-from pol d j v sources t gaps r f z h =
+    h pol d (spacingOf d t) j (f .good) (f .task) (f .level-is) (f .sources-are .counted) (rw (f .sources-are .counted) (gaps-of d sources t gaps (f .sources-are) z))
 
 -- the search by halves at its end
-pub slower-found : (d : Description) (j doubtful low high : ℕ) → 200 ≤ low → low ≤ high → high ≤ doubtful → high ≤ suc low → levelHeld d (spacingOf d low) j ≡ true → levelHeld d (spacingOf d high) j ≡ false → Slower d j doubtful low
-slower-found d j doubtful low high a b c e h f = go (cmp low high)
+pub slower-found : (pol : Policy) (d : Description) (j doubtful low high : ℕ) → 200 ≤ low → low ≤ high → high ≤ doubtful → high ≤ suc low → levelHeld pol d (spacingOf d low) j ≡ true → levelHeld pol d (spacingOf d high) j ≡ false → Slower pol d j doubtful low
+slower-found pol d j doubtful low high a b c e h f = go (cmp low high)
   where
-    go : Cmp low high → Slower d j doubtful low
+    go : Cmp low high → Slower pol d j doubtful low
     go (less x) = let z : high ≡ suc low = omega arith in record { none = λ q. absurd (omega arith); some = λ q. (a, omega arith, h, rw z at f) }
     go (same x) = absurd (not-both h (rw x f))
     go (more x) = absurd (omega arith)
 
-pub slower-none : (d : Description) (j doubtful : ℕ) → levelHeld d (spacingOf d 200) j ≡ false → Slower d j doubtful 0
-slower-none d j doubtful e = record { none = λ q. e; some = λ q. absurd (omega arith) }
+pub slower-none : (pol : Policy) (d : Description) (j doubtful : ℕ) → levelHeld pol d (spacingOf d 200) j ≡ false → Slower pol d j doubtful 0
+slower-none pol d j doubtful e = record { none = λ q. e; some = λ q. absurd (omega arith) }
 
-module _ (d : Description) where
+module _ (pol : Policy) (d : Description) where
   -- no level yet, the next one held, and the next one in doubt
-  pub best-none : Best d 0 3000
+  pub best-none : Best pol d 0 3000
   best-none = record { low = omega arith; high = omega arith; held = λ k a b. absurd (omega arith); above = λ h. absurd (omega arith) }
 
-  pub best-held : (j best : ℕ) → levelHeld d (spacingOf d best) (suc j) ≡ true → Best d j best → Best d (j + 1) best
+  pub best-held : (j best : ℕ) → levelHeld pol d (spacingOf d best) (suc j) ≡ true → Best pol d j best → Best pol d (j + 1) best
   best-held j best e r =
       record { low = r .low; high = r .high; held = λ k a b. go k a (cmp k (suc j)) b; above = λ h. let x = r .above h in (x .0, x .1, omega (arith, x .2), x .3) }
     where
-      go : (k : ℕ) → 1 ≤ k → Cmp k (suc j) → k ≤ j + 1 → levelHeld d (spacingOf d best) k ≡ true
+      go : (k : ℕ) → 1 ≤ k → Cmp k (suc j) → k ≤ j + 1 → levelHeld pol d (spacingOf d best) k ≡ true
       go k a (less x) b = r .held k a (omega arith)
       go k a (same x) b = rw x e
       go k a (more x) b = absurd (omega arith)
 
-  pub best-slower : WellFormed d → (j best q : ℕ) → (q ≡ 0 → ⊥) → Slower d (suc j) best q → Best d j best → Best d (j + 1) q
+  pub best-slower : WellFormed d → (j best q : ℕ) → (q ≡ 0 → ⊥) → Slower pol d (suc j) best q → Best pol d j best → Best pol d (j + 1) q
   best-slower g j best q n s r =
       let x = s .some (omega arith) in
       record {
@@ -89,37 +90,37 @@ module _ (d : Description) where
         above = λ h. (suc j, omega arith, omega arith, x .3);
       }
     where
-      go : (200 ≤ q) × (q < best) × (levelHeld d (spacingOf d q) (suc j) ≡ true) × (levelHeld d (spacingOf d (suc q)) (suc j) ≡ false) → (k : ℕ) → 1 ≤ k → Cmp k (suc j) → k ≤ j + 1 → levelHeld d (spacingOf d q) k ≡ true
-      go x k a (less y) b = level-slower d g q best k (omega (arith, x .0)) (omega (arith, x .1)) (r .high) (r .held k a (omega arith))
+      go : (200 ≤ q) × (q < best) × (levelHeld pol d (spacingOf d q) (suc j) ≡ true) × (levelHeld pol d (spacingOf d (suc q)) (suc j) ≡ false) → (k : ℕ) → 1 ≤ k → Cmp k (suc j) → k ≤ j + 1 → levelHeld pol d (spacingOf d q) k ≡ true
+      go x k a (less y) b = level-slower pol d g q best k (omega (arith, x .0)) (omega (arith, x .1)) (r .high) (r .held k a (omega arith))
       go x k a (same y) b = rw y (x .2)
       go x k a (more y) b = absurd (omega arith)
 
   -- the quote, where the last level is passed
-  pub best-quote : WellFormed d → ordersHeld d ≡ true → (best : ℕ) → Best d (d .«task_count») best → Tempo best ≡ largestBelow (allHeld d) 2801
+  pub best-quote : WellFormed d → ordersHeld d ≡ true → (best : ℕ) → Best pol d (d .«task_count») best → Tempo best ≡ largestBelow (allHeld pol d) 2801
   best-quote g o best r =
-      sym (quote-at d g best (r .low) (r .high) (levels-all d best g o (r .held)) (λ h. let x = r .above h in not-level d (suc best) (x .0) (x .3)))
+      sym (quote-at pol d g best (r .low) (r .high) (levels-all pol d best g o (r .held)) (λ h. let x = r .above h in not-level pol d (suc best) (x .0) (x .3)))
 
   -- there is none, where a level or an order is in doubt at the lowest tempo
-  pub no-level : WellFormed d → (j : ℕ) → levelHeld d (spacingOf d 200) j ≡ false → Unquoted NoTempo 0 ≡ largestBelow (allHeld d) 2801
-  no-level g j e = sym (quote-none d g (not-level d 200 j e))
+  pub no-level : WellFormed d → (j : ℕ) → levelHeld pol d (spacingOf d 200) j ≡ false → Unquoted NoTempo 0 ≡ largestBelow (allHeld pol d) 2801
+  no-level g j e = sym (quote-none pol d g (not-level pol d 200 j e))
 
-  pub no-order : WellFormed d → ordersHeld d ≡ false → Unquoted NoTempo 0 ≡ largestBelow (allHeld d) 2801
-  no-order g e = sym (quote-none d g (not-orders d 200 e))
+  pub no-order : WellFormed d → ordersHeld d ≡ false → Unquoted NoTempo 0 ≡ largestBelow (allHeld pol d) 2801
+  no-order g e = sym (quote-none pol d g (not-orders pol d 200 e))
 
-pub quote-refused : (d : Description) (r : Refusal) (p : ℕ) → judge d ≡ Refused r p → Unquoted r p ≡ quoteOf d
+pub quote-refused : (pol : Policy) (d : Description) (r : Refusal) (p : ℕ) → judge d ≡ Refused r p → Unquoted r p ≡ quoteOf pol d
 unfolding quoteOf
-quote-refused d r p e = rw e
+quote-refused pol d r p e = rw e
 
-pub quote-judged : (d : Description) → judge d ≡ Done → largestBelow (allHeld d) 2801 ≡ quoteOf d
+pub quote-judged : (pol : Policy) (d : Description) → judge d ≡ Done → largestBelow (allHeld pol d) 2801 ≡ quoteOf pol d
 unfolding quoteOf
-quote-judged d e = rw e
+quote-judged pol d e = rw e
 
 -- the quote of a file, refused or accepted
-module _ (s : List ℕ) where
-  pub file-refused : (r : Refusal) (p : ℕ) → readFile s .outcome ≡ Refused r p → Unquoted r p ≡ quotedFile s
+module _ (pol : Policy) (s : List ℕ) where
+  pub file-refused : (r : Refusal) (p : ℕ) → readFile s .outcome ≡ Refused r p → Unquoted r p ≡ quotedFile pol s
   unfolding quotedFile
   file-refused r p e = rw e
 
-  pub file-quoted : Bytes s → (d : Description) → d ≡ readFile s .description → readFile s .outcome ≡ Done → largestBelow (allHeld d) 2801 ≡ quotedFile s
+  pub file-quoted : Bytes s → (d : Description) → d ≡ readFile s .description → readFile s .outcome ≡ Done → largestBelow (allHeld pol d) 2801 ≡ quotedFile pol s
   unfolding quotedFile
-  file-quoted b d f e = rw (e, f) (quote-judged (readFile s .description) (read-judged s b e))
+  file-quoted b d f e = rw (e, f) (quote-judged pol (readFile s .description) (read-judged s b e))

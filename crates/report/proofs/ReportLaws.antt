@@ -7,6 +7,8 @@ use borrow.Author.Tests.{lt-ltb, le-ltb}
 use lib.ListN.{length, getD, take, drop, length-append}
 use lib.Seq.{take-append-seam}
 use Rattle.model.specs.declared.Description.{Description}
+use Rattle.model.specs.declared.Policy.{Policy}
+use Rattle.model.specs.declared.Policy.the-variants.{Preemptive, HoldOn}
 use Rattle.model.specs.declared.Outcome.{Outcome}
 use Rattle.model.specs.declared.Outcome.the-variants.{Done, Refused}
 use Rattle.model.specs.declared.Refusal.{Refusal}
@@ -17,7 +19,7 @@ use Rattle.model.specs.Basics.{tab, joined}
 use Rattle.model.specs.Graph.{linkAt}
 use Rattle.model.specs.File.{readFile, fillWith, filledBy}
 use Rattle.model.specs.Verdicts.{allHeld, largestBelow, slotAt, freeSlot, verdictAt}
-use Rattle.model.specs.Report.{linkLine, linkLines, refusedLine, reportFor, reportOf, reported, pageReported}
+use Rattle.model.specs.Report.{policyLine, linkLine, linkLines, refusedLine, reportFor, plainReport, reportOf, reported, pageReported}
 use Rattle.theory.proofs.NumberBytes.{Bytes}
 use Rattle.theory.proofs.RecordLaws.{joined-cut}
 use Rattle.lemmas.proofs.Table.{getD-tab, joined-more}
@@ -25,24 +27,33 @@ use Rattle.files.proofs.Laws.{read-good}
 use Rattle.report.specs.Listing.{lineAt, listing}
 use Rattle.report.proofs.ReportLength.{verdicts-length, refusal-length}
 
+-- the model's line
+pub policy-length : (pol : Policy) → length (policyLine pol) ≤ 5
+policy-length Preemptive = omega arith
+policy-length HoldOn = omega arith
+
 -- the two ways that a reading ends
-module _ (s : List ℕ) where
-  pub report-refused : (r : Refusal) (p : ℕ) → readFile s .outcome ≡ Refused r p → refusedLine r p ≡ reportOf s
-  unfolding reportOf
+module _ (pol : Policy) (s : List ℕ) where
+  pub report-refused : (r : Refusal) (p : ℕ) → readFile s .outcome ≡ Refused r p → refusedLine r p ≡ plainReport pol s
+  unfolding plainReport
   report-refused r p e = rw e
 
-  pub report-done : readFile s .outcome ≡ Done → reportFor (readFile s .description) (largestBelow (allHeld (readFile s .description)) 2801) ≡ reportOf s
-  unfolding reportOf
+  pub report-done : readFile s .outcome ≡ Done → reportFor pol (readFile s .description) (largestBelow (allHeld pol (readFile s .description)) 2801) ≡ plainReport pol s
+  unfolding plainReport
   report-done e = rw e
 
-  -- no report is longer than 11,168 bytes
-  pub report-length : Bytes s → length (reportOf s) ≤ 11168
-  report-length b = go (readFile s .outcome) refl
+  -- no report is longer than 11,168 bytes, or 11,173 with the model's line
+  pub plain-length : Bytes s → length (plainReport pol s) ≤ 11168
+  plain-length b = go (readFile s .outcome) refl
     where
-      go : (o : Outcome) → readFile s .outcome ≡ o → length (reportOf s) ≤ 11168
+      go : (o : Outcome) → readFile s .outcome ≡ o → length (plainReport pol s) ≤ 11168
       go (Refused r p) e = rw (← report-refused r p e) (omega (arith, refusal-length r p))
       go Done e =
-          rw (← report-done e) (verdicts-length (readFile s .description) (read-good s b e) (allHeld (readFile s .description)))
+          rw (← report-done e) (verdicts-length pol (readFile s .description) (read-good s b e) (allHeld pol (readFile s .description)))
+
+  pub report-length : Bytes s → length (reportOf pol s) ≤ 11173
+  unfolding reportOf
+  report-length b = rw (length-append (policyLine pol) (plainReport pol s)) (omega (arith, plain-length b, policy-length pol))
 
 -- the lines by the table of verdicts are the lines of the report
 joined-alike : (n : ℕ) (f g : ℕ → List ℕ) → ((l : ℕ) → l < n → f l ≡ g l) → joined n f ≡ joined n g
@@ -50,17 +61,17 @@ unfolding joined
 joined-alike zero f g h = refl
 joined-alike (suc n) f g h = rw (joined-alike n f g (λ l p. h l (omega arith)), h n (omega arith))
 
-pub listing-is : (d : Description) (t : ℕ) (slots : List VerdictSlot) → d .«link_count» ≤ 256 → slots ≡ tab 256 (slotAt d t) → listing d slots (d .«link_count») ≡ linkLines d t
+pub listing-is : (pol : Policy) (d : Description) (t : ℕ) (slots : List VerdictSlot) → d .«link_count» ≤ 256 → slots ≡ tab 256 (slotAt pol d t) → listing d slots (d .«link_count») ≡ linkLines pol d t
 unfolding listing linkLines
-listing-is d t slots h e =
+listing-is pol d t slots h e =
     joined-alike
     (d .«link_count»)
     (lineAt d slots)
-    (λ l. linkLine l (linkAt d l) (verdictAt d t l))
+    (λ l. linkLine l (linkAt d l) (verdictAt pol d t l))
     (λ l p. ap (λ (x : VerdictSlot). linkLine l (linkAt d l) (x .verdict)) (slot l p))
   where
-    slot : (l : ℕ) → l < d .«link_count» → getD slots l freeSlot ≡ record { verdict = verdictAt d t l }
-    slot l p = rw e (getD-tab 256 (slotAt d t) freeSlot l (omega arith) ∙ rw (lt-ltb l (d .«link_count») p))
+    slot : (l : ℕ) → l < d .«link_count» → getD slots l freeSlot ≡ record { verdict = verdictAt pol d t l }
+    slot l p = rw e (getD-tab 256 (slotAt pol d t) freeSlot l (omega arith) ∙ rw (lt-ltb l (d .«link_count») p))
 
 -- a line is behind the lines before it
 pub listing-none : (d : Description) (slots : List VerdictSlot) → [] ≡ listing d slots 0
@@ -78,24 +89,24 @@ listing-room d slots n k h =
     omega (arith, ap length (c .1) ∙ length-append (joined k (lineAt d slots)) (lineAt d slots k ++ c .0), length-append (lineAt d slots k) (c .0))
 
 -- a buffer that takes the longest report takes every report, at its front
-module _ (s out : List ℕ) (bytes : Bytes s) (room : 11168 ≤ length out) where
-  whole-filled : reported s out ≡ Bytes′ (length (reportOf s))
+module _ (pol : Policy) (s out : List ℕ) (bytes : Bytes s) (room : 11173 ≤ length out) where
+  whole-filled : reported pol s out ≡ Bytes′ (length (reportOf pol s))
   unfolding reported fillWith
-  whole-filled = rw (le-ltb (length out) (length (reportOf s)) (omega (arith, report-length s bytes)))
+  whole-filled = rw (le-ltb (length out) (length (reportOf pol s)) (omega (arith, report-length pol s bytes)))
 
-  whole-page : pageReported s out ≡ reportOf s ++ drop (length (reportOf s)) out
+  whole-page : pageReported pol s out ≡ reportOf pol s ++ drop (length (reportOf pol s)) out
   unfolding pageReported filledBy
-  whole-page = rw (le-ltb (length out) (length (reportOf s)) (omega (arith, report-length s bytes)))
+  whole-page = rw (le-ltb (length out) (length (reportOf pol s)) (omega (arith, report-length pol s bytes)))
 
-  pub whole-count : (x : Filled) (n : ℕ) → x ≡ reported s out → x ≡ Bytes′ n → n ≡ length (reportOf s)
+  pub whole-count : (x : Filled) (n : ℕ) → x ≡ reported pol s out → x ≡ Bytes′ n → n ≡ length (reportOf pol s)
   whole-count x n p q = let f = whole-filled in cc
 
-  pub whole-never : (x : Filled) (r : Refusal) (place : ℕ) → x ≡ reported s out → x ≡ Unfilled r place → ⊥
+  pub whole-never : (x : Filled) (r : Refusal) (place : ℕ) → x ≡ reported pol s out → x ≡ Unfilled r place → ⊥
   whole-never x r place p q = let f = whole-filled in let z : _≡_ {A = ℕ} 0 1 = cc in omega arith
 
-  pub whole-fits : length (reportOf s) ≤ length (pageReported s out)
+  pub whole-fits : length (reportOf pol s) ≤ length (pageReported pol s out)
   whole-fits =
-      rw (whole-page, length-append (reportOf s) (drop (length (reportOf s)) out)) (omega arith)
+      rw (whole-page, length-append (reportOf pol s) (drop (length (reportOf pol s)) out)) (omega arith)
 
-  pub whole-front : take (length (reportOf s)) (pageReported s out) ≡ reportOf s
-  whole-front = rw whole-page (take-append-seam (reportOf s) (drop (length (reportOf s)) out))
+  pub whole-front : take (length (reportOf pol s)) (pageReported pol s out) ≡ reportOf pol s
+  whole-front = rw whole-page (take-append-seam (reportOf pol s) (drop (length (reportOf pol s)) out))

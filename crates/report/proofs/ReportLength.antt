@@ -1,4 +1,4 @@
--- How long a report can be: 11,168 bytes. A link's line has at most 41 bytes beside its place; the places 1 to 256 have one, two or three digits; the
+-- How long a report can be: 11,168 bytes, and five more with its line `hold`. A link's line has at most 41 bytes beside its place; the places 1 to 256 have one, two or three digits; the
 -- tempo line has 12. Sixteen fixed sources of the largest spacing, each with a held link to the same sixteen tasks above the ninth, reach it. Assumes nothing.
 use Prim.Native.Nat.{ℕ, zero, suc, _+_, _*_, _/_, _<_, _≤_, min}
 use mathlib.Core.Path.{_≡_, refl}
@@ -9,52 +9,49 @@ use borrow.Author.Tests.{ltb-false}
 use lib.Dec.{ltb, eqb}
 use lib.ListN.{length, length-append}
 use Rattle.model.specs.declared.Description.{Description}
+use Rattle.model.specs.declared.Policy.{Policy}
 use Rattle.model.specs.declared.Refusal.{Refusal}
 use Rattle.model.specs.declared.Verdict.the-variants.{Free, HeldOrder, DoubtOrder}
 use Rattle.model.specs.Basics.{joined}
 use Rattle.model.specs.Refusals.{numberOf}
-use Rattle.model.specs.Graph.{System, system, linkAt}
-use Rattle.model.specs.Delays.{Settled, unchanged, reached, delayOf, spacingOf, roundOf, startOf}
+use Rattle.model.specs.Graph.{system, linkAt}
+use Rattle.model.specs.Delays.{Settled, unchanged, reached, tailOf, delayOf, spacingOf}
 use Rattle.model.specs.Order.{inOrder}
 use Rattle.model.specs.Verdicts.{verdictAt, verdictOf, sourceVerdict, settledVerdict, orderVerdict, largestBelow}
 use Rattle.model.specs.Report.{decimal, verdictText, linkLine, linkLines, tempoLine, refusedLine, reportFor, shownTempo}
 use Rattle.lemmas.proofs.Tests.{Cmp, less, same, more, cmp}
 use Rattle.theory.proofs.WellFormed.{WellFormed}
-use Rattle.theory.proofs.Rounds.{settle-fixed}
+use Rattle.theory.proofs.Rounds.{held-fixed}
 use Rattle.theory.proofs.Quotes.{largest-hit, largest-miss}
 use Rattle.theory.proofs.Links.{from-most, to-most, link-gap-most}
 use Rattle.text.proofs.Digits.{decimal-most, decimal-bound}
 use Rattle.lines.proofs.LineLaws.{held-length, doubt-length, link-length, tempo-length, refused-length}
 
 -- a verdict whose delay is below a spacing of at most 10^9
-settled-length : (r : Settled) (m : ℕ) → m ≤ 1000000000 → ((D : ℕ) → r ≡ unchanged D → D < m) → length (verdictText (settledVerdict r m)) ≤ 29
-settled-length (unchanged D) m h b =
-    omega (arith, held-length D m, decimal-most 8 D (omega (arith, b D refl)), decimal-most 9 m (omega arith))
-settled-length reached m h b = omega (arith, doubt-length m, decimal-most 9 m (omega arith))
+settled-length : (r : Settled) (tail m : ℕ) → m ≤ 1000000000 → ((D : ℕ) → r ≡ unchanged D → D + tail < m) → length (verdictText (settledVerdict r tail m)) ≤ 29
+settled-length (unchanged D) tail m h b =
+    omega (arith, held-length (D + tail) m, decimal-most 8 (D + tail) (omega (arith, b D refl)), decimal-most 9 m (omega arith))
+settled-length reached tail m h b = omega (arith, doubt-length m, decimal-most 9 m (omega arith))
 
 order-length : (b : Bool) → length (verdictText (cond b HeldOrder DoubtOrder)) ≤ 29
 unfolding verdictText
 order-length true = omega arith
 order-length false = omega arith
 
-delay-below : (s : System) (gap : ℕ → ℕ) (i j D : ℕ) → delayOf s gap i j ≡ unchanged D → D < gap i
-unfolding delayOf
-delay-below s gap i j D e = settle-fixed (suc (gap i)) (roundOf s gap j) (gap i) (startOf s j) D e .1
-
-module _ (d : Description) (good : WellFormed d) (t : ℕ) where
-  verdict-length : (l : ℕ) → l < d .«link_count» → length (verdictText (verdictAt d t l)) ≤ 29
+module _ (pol : Policy) (d : Description) (good : WellFormed d) (t : ℕ) where
+  verdict-length : (l : ℕ) → l < d .«link_count» → length (verdictText (verdictAt pol d t l)) ≤ 29
   unfolding verdictAt verdictOf sourceVerdict orderVerdict verdictText
   verdict-length l h = go (eqb (linkAt d l .critical) 0) (ltb (linkAt d l .from) 33) refl
     where
-      go : (b c : Bool) → ltb (linkAt d l .from) 33 ≡ c → length (verdictText (cond b Free (cond c (orderVerdict (system d) (linkAt d l .from) (linkAt d l .to)) (sourceVerdict (system d) (spacingOf d t) (linkAt d l .from) (linkAt d l .to))))) ≤ 29
+      go : (b c : Bool) → ltb (linkAt d l .from) 33 ≡ c → length (verdictText (cond b Free (cond c (orderVerdict (system d) (linkAt d l .from) (linkAt d l .to)) (sourceVerdict pol (system d) (spacingOf d t) (linkAt d l .from) (linkAt d l .to))))) ≤ 29
       go true c e = omega arith
       go false true e = order-length (inOrder (system d) (linkAt d l .from) (linkAt d l .to))
-      go false false e = settled-length (delayOf (system d) (spacingOf d t) (linkAt d l .from) (linkAt d l .to)) (spacingOf d t (linkAt d l .from)) (link-gap-most d (good .fields) t l h (ltb-false (linkAt d l .from) 33 e)) (λ D q. delay-below (system d) (spacingOf d t) (linkAt d l .from) (linkAt d l .to) D q)
+      go false false e = settled-length (delayOf pol (system d) (spacingOf d t) (linkAt d l .from) (linkAt d l .to)) (tailOf pol (system d) (linkAt d l .to)) (spacingOf d t (linkAt d l .from)) (link-gap-most d (good .fields) t l h (ltb-false (linkAt d l .from) 33 e)) (λ D q. held-fixed pol (system d) (spacingOf d t) (linkAt d l .from) (linkAt d l .to) D q .1)
 
-  line-length : (l : ℕ) → l < d .«link_count» → length (linkLine l (linkAt d l) (verdictAt d t l)) ≤ 41 + length (decimal (l + 1))
+  line-length : (l : ℕ) → l < d .«link_count» → length (linkLine l (linkAt d l) (verdictAt pol d t l)) ≤ 41 + length (decimal (l + 1))
   line-length l h =
       omega
-      (arith, link-length l (linkAt d l) (verdictAt d t l), verdict-length l h, decimal-most 1 (linkAt d l .from) (omega (arith, from-most d (good .fields) l h)), decimal-most 1 (linkAt d l .to) (omega (arith, to-most d (good .fields) l h)))
+      (arith, link-length l (linkAt d l) (verdictAt pol d t l), verdict-length l h, decimal-most 1 (linkAt d l .from) (omega (arith, from-most d (good .fields) l h)), decimal-most 1 (linkAt d l .to) (omega (arith, to-most d (good .fields) l h)))
 
 -- how many of the first n numbers are below k
 below : ℕ → ℕ → ℕ
@@ -104,13 +101,13 @@ unfolding below
 all-length n x h b = omega arith
 
 -- a report with verdicts
-pub verdicts-length : (d : Description) → WellFormed d → (good : ℕ → Bool) → length (reportFor d (largestBelow good 2801)) ≤ 11168
+pub verdicts-length : (pol : Policy) (d : Description) → WellFormed d → (good : ℕ → Bool) → length (reportFor pol d (largestBelow good 2801)) ≤ 11168
 unfolding reportFor linkLines
-verdicts-length d w good =
+verdicts-length pol d w good =
     let q = largestBelow good 2801 in
-    let lines : ℕ → List ℕ = λ l. linkLine l (linkAt d l) (verdictAt d (shownTempo q) l) in
+    let lines : ℕ → List ℕ = λ l. linkLine l (linkAt d l) (verdictAt pol d (shownTempo q) l) in
     rw (length-append (tempoLine q) (joined (d .«link_count») lines))
-    (omega (arith, tempo-most good 2801 (omega arith), all-length (d .«link_count») (length (joined (d .«link_count») lines)) (w .fields .few-links) (places-length (d .«link_count») lines (w .fields .few-links) (line-length d w (shownTempo q)))))
+    (omega (arith, tempo-most good 2801 (omega arith), all-length (d .«link_count») (length (joined (d .«link_count») lines)) (w .fields .few-links) (places-length (d .«link_count») lines (w .fields .few-links) (line-length pol d w (shownTempo q)))))
 
 -- a report of a refusal
 pub refusal-length : (r : Refusal) (place : ℕ) → length (refusedLine r place) ≤ 53

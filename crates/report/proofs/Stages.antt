@@ -4,6 +4,7 @@ use mathlib.Core.Path.{_≡_, sym, ap, _∙_}
 use mathlib.Core.List.{List, _++_}
 use native.Mathlib.Omega.{arith}
 use Rattle.model.specs.declared.Description.{Description}
+use Rattle.model.specs.declared.Policy.{Policy}
 use Rattle.model.specs.declared.Outcome.the-variants.{Done, Refused}
 use Rattle.model.specs.declared.Quote.{Quote}
 use Rattle.model.specs.declared.Quote.the-variants.{Tempo, Unquoted}
@@ -12,7 +13,7 @@ use Rattle.model.specs.declared.VerdictSlot.{VerdictSlot}
 use Rattle.model.specs.Basics.{tab}
 use Rattle.model.specs.File.{readFile}
 use Rattle.model.specs.Verdicts.{allHeld, largestBelow, slotAt}
-use Rattle.model.specs.Report.{tempoLine, linkLines, refusedLine, shownTempo, reportFor, reportOf}
+use Rattle.model.specs.Report.{tempoLine, linkLines, refusedLine, shownTempo, reportFor, plainReport}
 use Rattle.theory.proofs.WellFormed.{WellFormed}
 use Rattle.theory.proofs.Quotes.{Largest, largest-found}
 use Rattle.files.specs.declared.Judged.{Judged}
@@ -20,23 +21,23 @@ use Rattle.files.specs.Answers.{ReadAs}
 use Rattle.report.specs.Listing.{listing}
 use Rattle.report.proofs.ReportLaws.{report-refused, report-done, listing-is}
 
-quoted-parts : (d : Description) (q : Quote) (slots : List VerdictSlot) → WellFormed d → q ≡ largestBelow (allHeld d) 2801 → slots ≡ tab 256 (slotAt d (shownTempo q)) → tempoLine q ++ listing d slots (d .«link_count») ≡ reportFor d (largestBelow (allHeld d) 2801)
+quoted-parts : (pol : Policy) (d : Description) (q : Quote) (slots : List VerdictSlot) → WellFormed d → q ≡ largestBelow (allHeld pol d) 2801 → slots ≡ tab 256 (slotAt pol d (shownTempo q)) → tempoLine q ++ listing d slots (d .«link_count») ≡ reportFor pol d (largestBelow (allHeld pol d) 2801)
 unfolding reportFor
-quoted-parts d q slots w e f =
-    ap (λ (l : List ℕ). tempoLine q ++ l) (listing-is d (shownTempo q) slots (w .fields .few-links) f)
-    ∙ ap (λ (x : Quote). tempoLine x ++ linkLines d (shownTempo x)) e
+quoted-parts pol d q slots w e f =
+    ap (λ (l : List ℕ). tempoLine q ++ l) (listing-is pol d (shownTempo q) slots (w .fields .few-links) f)
+    ∙ ap (λ (x : Quote). tempoLine x ++ linkLines pol d (shownTempo x)) e
 
 -- the tempo shown is on the knob
-pub shown-on : (d : Description) (q : Quote) → q ≡ largestBelow (allHeld d) 2801 → (200 ≤ shownTempo q) × (shownTempo q ≤ 3000)
-shown-on d (Tempo t) e =
-    let r : Largest (allHeld d) 2801 t = largest-found (allHeld d) 2801 t (sym e) in
+pub shown-on : (pol : Policy) (d : Description) (q : Quote) → q ≡ largestBelow (allHeld pol d) 2801 → (200 ≤ shownTempo q) × (shownTempo q ≤ 3000)
+shown-on pol d (Tempo t) e =
+    let r : Largest (allHeld pol d) 2801 t = largest-found (allHeld pol d) 2801 t (sym e) in
     (r .low, omega (arith, r .high))
-shown-on d (Unquoted r p) e = (omega arith, omega arith)
+shown-on pol d (Unquoted r p) e = (omega arith, omega arith)
 
-module _ (s : List ℕ) (j : Judged) (examined : ReadAs (readFile s) j) where
+module _ (pol : Policy) (s : List ℕ) (j : Judged) (examined : ReadAs (readFile s) j) where
   -- the file is refused, or accepted
-  pub stage-refused : (r : Refusal) (p : ℕ) → j .outcome ≡ Refused r p → refusedLine r p ≡ reportOf s
-  stage-refused r p e = report-refused s r p (sym (examined .judged) ∙ e)
+  pub stage-refused : (r : Refusal) (p : ℕ) → j .outcome ≡ Refused r p → refusedLine r p ≡ plainReport pol s
+  stage-refused r p e = report-refused pol s r p (sym (examined .judged) ∙ e)
 
   pub told-done : j .outcome ≡ Done → readFile s .outcome ≡ Done
   told-done e = sym (examined .judged) ∙ e
@@ -45,8 +46,8 @@ module _ (s : List ℕ) (j : Judged) (examined : ReadAs (readFile s) j) where
   stage-good e = examined .good (told-done e)
 
   -- the tempo line and the link lines are the report
-  pub stage-parts : j .outcome ≡ Done → (q : Quote) (slots : List VerdictSlot) → q ≡ largestBelow (allHeld (j .description)) 2801 → slots ≡ tab 256 (slotAt (j .description) (shownTempo q)) → tempoLine q ++ listing (j .description) slots (j .description .«link_count») ≡ reportOf s
+  pub stage-parts : j .outcome ≡ Done → (q : Quote) (slots : List VerdictSlot) → q ≡ largestBelow (allHeld pol (j .description)) 2801 → slots ≡ tab 256 (slotAt pol (j .description) (shownTempo q)) → tempoLine q ++ listing (j .description) slots (j .description .«link_count») ≡ plainReport pol s
   stage-parts e q slots f k =
-      quoted-parts (j .description) q slots (stage-good e) f k
-      ∙ ap (λ (d : Description). reportFor d (largestBelow (allHeld d) 2801)) (examined .same)
-      ∙ report-done s (told-done e)
+      quoted-parts pol (j .description) q slots (stage-good e) f k
+      ∙ ap (λ (d : Description). reportFor pol d (largestBelow (allHeld pol d) 2801)) (examined .same)
+      ∙ report-done pol s (told-done e)

@@ -1,11 +1,13 @@
 // The report of a description file.
 
 use lines::link_line;
+use lines::policy_line;
 use lines::refused_line;
 use lines::tempo_line;
 use model::Description;
 use model::Filled;
 use model::Outcome;
+use model::Policy;
 use model::Quote;
 use model::VerdictSlot;
 use quotes::quote_by;
@@ -16,12 +18,12 @@ use verdicts::tables_of;
 ghost use mathlib.Core.Path.{_≡_};
 ghost use Prim.Native.Nat.{_+_, _≤_};
 ghost use lib.ListN.{length, take};
-ghost use Rattle.model.specs.Report.{shownTempo, reportOf, reported, pageReported};
+ghost use Rattle.model.specs.Report.{shownTempo, plainReport, reportOf, reported, pageReported};
 ghost use Rattle.report.specs.Listing.{listing};
 ghost use Rattle.text.specs.Page.{Put};
 
-// The bytes of the longest report.
-pub const LONGEST: usize = 11168;
+// The bytes of the longest report, its line `hold` included.
+pub const LONGEST: usize = 11173;
 
 // A line for each link, with its verdict.
 fn link_lines(page: &mut [u8], at: usize, d: Description, slots: [VerdictSlot; 256]) -> usize
@@ -51,21 +53,22 @@ fn shown_tempo(q: Quote) -> u32
     }
 }
 
-// The report of a file on a page that takes the longest one.
-fn put_report(file: &[u8], page: &mut [u8]) -> usize
-    requires { ⌜ 11168 ≤ length (now page) ⌝ }
-    ensures { λ r. ⌜ Put (now (page .entry)) 0 (reportOf (now (file .entry))) (now (page .exit)) r ⌝ }
+// The lines of a file's report but that of the model, from a place of the page on.
+fn put_plain(p: Policy, file: &[u8], page: &mut [u8], at: usize) -> usize
+    requires { ⌜ at + 11168 ≤ length (now page) ⌝ }
+    ensures { λ r. ⌜ Put (now (page .entry)) at (plainReport p (now (file .entry))) (now (page .exit)) r ⌝ }
 {
     let judged = files::examine(file);
     let outcome = judged.outcome;
     if let Outcome::Refused(why, place) = outcome {
-        return refused_line(&mut *page, 0, why, place);
+        return refused_line(&mut *page, at, why, place);
     }
     let d = judged.description;
-    let t = tables_of(d, &judged.brings, &judged.works);
+    let t = tables_of(p, d, &judged.brings, &judged.works);
     let quote = quote_by(
         &t.levels,
         &t.starts,
+        &t.tails,
         &t.critical,
         t.ordered,
         t.sources,
@@ -73,26 +76,35 @@ fn put_report(file: &[u8], page: &mut [u8]) -> usize
     );
     let shown = shown_tempo(quote);
     let gaps = gaps_by(&t.sources.ticks, &t.sources.pulses, t.sources.count, shown);
-    let slots = slots_at(d, &t.levels, &t.starts, &t.orders, &gaps);
-    let at = tempo_line(&mut *page, 0, quote);
-    link_lines(&mut *page, at, d, slots)
+    let slots = slots_at(p, d, &t.levels, &t.starts, &t.tails, &t.orders, &gaps);
+    let behind = tempo_line(&mut *page, at, quote);
+    link_lines(&mut *page, behind, d, slots)
+}
+
+// The report of a file on a page that takes the longest one.
+fn put_report(p: Policy, file: &[u8], page: &mut [u8]) -> usize
+    requires { ⌜ 11173 ≤ length (now page) ⌝ }
+    ensures { λ r. ⌜ Put (now (page .entry)) 0 (reportOf p (now (file .entry))) (now (page .exit)) r ⌝ }
+{
+    let at = policy_line(&mut *page, 0, p);
+    put_plain(p, file, &mut *page, at)
 }
 
 // The report of a file into a lent buffer: all of it, or not one byte where the buffer is shorter.
-pub fn report(file: &[u8], out: &mut [u8]) -> Filled
-    ensures { λ r. ⌜ (r ≡ reported (now (file .entry)) (now (out .entry))) × (now (out .exit) ≡ pageReported (now (file .entry)) (now (out .entry))) ⌝ }
+pub fn report(p: Policy, file: &[u8], out: &mut [u8]) -> Filled
+    ensures { λ r. ⌜ (r ≡ reported p (now (file .entry)) (now (out .entry))) × (now (out .exit) ≡ pageReported p (now (file .entry)) (now (out .entry))) ⌝ }
 {
     let mut page = [0u8; LONGEST];
-    let n = put_report(file, &mut page);
+    let n = put_report(p, file, &mut page);
     copy_out(&page, n, &mut *out)
 }
 
 // The report of a file at the front of a page that takes the longest one, and its length.
-pub fn put_whole(file: &[u8], page: &mut [u8]) -> usize
-    requires { ⌜ 11168 ≤ length (now page) ⌝ }
-    ensures { λ r. ⌜ (r ≤ length (now (page .exit))) × (take r (now (page .exit)) ≡ reportOf (now (file .entry))) ⌝ }
+pub fn put_whole(p: Policy, file: &[u8], page: &mut [u8]) -> usize
+    requires { ⌜ 11173 ≤ length (now page) ⌝ }
+    ensures { λ r. ⌜ (r ≤ length (now (page .exit))) × (take r (now (page .exit)) ≡ reportOf p (now (file .entry))) ⌝ }
 {
-    let filled = report(file, &mut *page);
+    let filled = report(p, file, &mut *page);
     match filled {
         Filled::Bytes(n) => n,
         Filled::Unfilled(_, _) => 0,

@@ -12,7 +12,7 @@ use Rattle.rounds.specs.declared.Reached.{Reached}
 -- n sources, with loads and spacings from the scale
 pub record LevelOn (start : ℕ) (loads gaps : List ℕ) (n : ℕ) : Type 0 where
   pub few : n ≤ 16
-  pub start-most : start ≤ 1000000000
+  pub start-most : start ≤ 1010000000
   pub load-most : (u : ℕ) → u < n → getD loads u 0 ≤ 1000000000
   pub gap-some : (u : ℕ) → u < n → 1 ≤ getD gaps u 0
   pub gap-most : (u : ℕ) → u < n → getD gaps u 0 ≤ 1000000000

@@ -10,7 +10,7 @@ use sets::has;
 use sets::with;
 ghost use mathlib.Core.Path.{_≡_};
 ghost use mathlib.Core.Bool.{_||_, _&&_};
-ghost use Prim.Native.Nat.{ℕ, _+_, _≤_, _<_};
+ghost use Prim.Native.Nat.{ℕ, _+_, _-_, _≤_, _<_};
 ghost use lib.Dec.{eqb};
 ghost use Rattle.theory.proofs.WellFormed.{WellFormed};
 ghost use Rattle.sets.specs.Sets.{member};
@@ -47,7 +47,7 @@ pub fn critical_of(d: Description) -> [u64; 32]
     sets
 }
 
-// The load of each of m sources at task j + 1, from the table of levels.
+// The load of each of m sources that the rounds of task j + 1 go by, from the table of levels.
 pub fn level_loads(levels: &[u64; 528], m: usize, j: usize) -> [u64; 16]
     requires { ⌜ (m ≤ 16) × (j < 32) ⌝ }
     ensures { λ r. ⌜ LoadsAt (now (levels .entry)) m j r ⌝ }
@@ -82,11 +82,29 @@ fn narrowest(set: u64, gaps: &[u32; 16], m: usize) -> u64
     best
 }
 
-// Whether every critical link from a source to a task is held, at the spacings of m sources: by the start of the task's rounds, the
-// load of each source at it, and the set of sources with a critical link to it. The link of the source with the narrowest spacing decides.
-pub fn level_held(start: u64, loads: &[u64; 16], critical: u64, gaps: &[u32; 16], m: usize) -> bool
+// What the rounds of a task have of a spacing, if its delay has so much beyond them.
+pub fn room(gap: u64, tail: u64) -> u64
+    ensures { λ r. ⌜ r ≡ gap - tail ⌝ }
+{
+    if gap <= tail {
+        return 0;
+    }
+    gap - tail
+}
+
+// Whether every critical link from a source to a task is held, at the spacings of m sources: by the start of the task's rounds, the load of each
+// source that they go by, what its delay has beyond them, and the set of sources with a critical link to it. The link of the source with the
+// narrowest spacing decides.
+pub fn level_held(
+    start: u64,
+    loads: &[u64; 16],
+    tail: u64,
+    critical: u64,
+    gaps: &[u32; 16],
+    m: usize,
+) -> bool
     requires { ⌜ LevelOn start (now loads) (now gaps) m ⌝ }
-    ensures { λ r. ⌜ HeldBy (levelWith start (now (loads .entry)) critical) (now (gaps .entry)) m r ⌝ }
+    ensures { λ r. ⌜ HeldBy (levelWith start (now (loads .entry)) tail critical) (now (gaps .entry)) m r ⌝ }
 {
     if critical == 0 {
         return true;
@@ -95,5 +113,6 @@ pub fn level_held(start: u64, loads: &[u64; 16], critical: u64, gaps: &[u32; 16]
     if 1000000000 < narrow {
         return true;
     }
-    level_reach(start, loads, gaps, m, narrow) < narrow
+    let limit = room(narrow, tail);
+    level_reach(start, loads, gaps, m, limit) < limit
 }

@@ -2,10 +2,12 @@
 // task are held at given spacings (`level`), the verdict on each link at given spacings (`slots`), and the verdict call.
 
 use level::critical_of;
+use loads::levels::hold_starts_of;
 use loads::levels::levels_of;
 use loads::levels::starts_of;
 use model::Description;
 use model::Outcome;
+use model::Policy;
 use model::Refusal;
 use model::Verdict;
 use model::VerdictSlot;
@@ -25,31 +27,76 @@ ghost use mathlib.Core.Path.{_≡_};
 ghost use Rattle.model.specs.Verdicts.{verdicts};
 ghost use Rattle.theory.proofs.WellFormed.{WellFormed};
 ghost use Rattle.loads.specs.Tables.{LoadsOf};
-ghost use Rattle.verdicts.specs.Tables.{TablesOf};
+ghost use Rattle.verdicts.specs.Tables.{belowOf, StartsOf, TailsOf, TablesOf};
 ghost use Rattle.verdicts.specs.Slots.{refusedVerdicts};
 
 // What is worked out once for a description, whatever the tempo: its sources in plain numbers; for each task the loads of sources
-// at it (16 places a task), the start of its rounds, and the sources with a critical link to it; for each link whether it is in order,
-// and whether all critical ones between tasks are.
+// that its rounds go by (16 places a task), the start of its rounds, what its delay has beyond them, and the sources with a critical link to it; for
+// each link whether it is in order, and whether all critical ones between tasks are. Where the model has a say, it has it here alone.
 pub struct Tables {
     pub tasks: usize,
     pub sources: Sources,
     pub levels: [u64; 528],
     pub starts: [u64; 32],
+    pub tails: [u32; 32],
     pub critical: [u64; 32],
     pub orders: [bool; 256],
     pub ordered: bool,
 }
 
-// The tables of a judged description, from the sets and works that its loads are sums of.
-pub fn tables_of<'a>(d: Description, brings: &'a [u64; 48], works: &'a [u64; 32]) -> Tables
+// How many tasks from the lowest on have no row in the table of levels.
+fn below_of(p: Policy) -> usize
+    ensures { λ r. ⌜ r ≡ belowOf p ⌝ }
+{
+    match p {
+        Policy::Preemptive => 0,
+        Policy::HoldOn => 1,
+    }
+}
+
+// Where the rounds of each task start.
+fn starts_by<'a>(
+    p: Policy,
+    d: Description,
+    brings: &'a [u64; 48],
+    works: &'a [u64; 32],
+) -> [u64; 32]
     requires { ⌜ WellFormed d × LoadsOf d (now brings) (now works) ⌝ }
-    ensures { λ r. ⌜ TablesOf d r ⌝ }
+    ensures { λ r. ⌜ StartsOf p d r ⌝ }
+{
+    let n = d.task_count;
+    let Policy::HoldOn = p else {
+        return starts_of(brings, works, n);
+    };
+    hold_starts_of(brings, works, &d.runs, n)
+}
+
+// What the delay of each task has beyond its rounds: on the hold-on model its own run.
+fn tails_of(p: Policy, d: Description) -> [u32; 32]
+    requires { ⌜ WellFormed d ⌝ }
+    ensures { λ r. ⌜ TailsOf p d r ⌝ }
+{
+    let Policy::HoldOn = p else {
+        return [0u32; 32];
+    };
+    d.runs
+}
+
+// The tables of a judged description, from the sets and works that its loads are sums of.
+pub fn tables_of<'a>(
+    p: Policy,
+    d: Description,
+    brings: &'a [u64; 48],
+    works: &'a [u64; 32],
+) -> Tables
+    requires { ⌜ WellFormed d × LoadsOf d (now brings) (now works) ⌝ }
+    ensures { λ r. ⌜ TablesOf p d r ⌝ }
 {
     let n = d.task_count;
     let m = d.source_count;
-    let levels = levels_of(brings, works, n, m);
-    let starts = starts_of(brings, works, n);
+    let levels = levels_of(brings, works, n, m, below_of(p));
+    let starts = starts_by(p, d, brings, works);
+    let tails = tails_of(p, d);
     let critical = critical_of(d);
     let orders = orders_of(d);
     let ordered = orders_held(d, &orders);
@@ -59,6 +106,7 @@ pub fn tables_of<'a>(d: Description, brings: &'a [u64; 48], works: &'a [u64; 32]
         sources,
         levels,
         starts,
+        tails,
         critical,
         orders,
         ordered,
@@ -78,8 +126,8 @@ fn refused(why: Refusal, place: usize) -> Verdicts
 }
 
 // The verdict on each link of a description at tempo t.
-pub fn verdicts(d: Description, t: u32) -> Verdicts
-    ensures { λ r. ⌜ r ≡ verdicts d t ⌝ }
+pub fn verdicts(p: Policy, d: Description, t: u32) -> Verdicts
+    ensures { λ r. ⌜ r ≡ verdicts p d t ⌝ }
 {
     let judged = files::examine_record(d);
     let outcome = judged.outcome;
@@ -89,14 +137,22 @@ pub fn verdicts(d: Description, t: u32) -> Verdicts
     if !on_knob(t) {
         return refused(Refusal::OffKnob, 0);
     }
-    let tables = tables_of(d, &judged.brings, &judged.works);
+    let tables = tables_of(p, d, &judged.brings, &judged.works);
     let gaps = gaps_by(
         &tables.sources.ticks,
         &tables.sources.pulses,
         tables.sources.count,
         t,
     );
-    let slots = slots_at(d, &tables.levels, &tables.starts, &tables.orders, &gaps);
+    let slots = slots_at(
+        p,
+        d,
+        &tables.levels,
+        &tables.starts,
+        &tables.tails,
+        &tables.orders,
+        &gaps,
+    );
     Verdicts {
         outcome: Outcome::Done,
         slots,

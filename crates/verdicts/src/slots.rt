@@ -1,12 +1,15 @@
 // The verdict on each link from the tables, at given spacings.
 
+use crate::level::room;
 use loads::levels::larger;
 use loads::levels::loads_at;
 use model::Description;
 use model::Link;
+use model::Policy;
 use model::Verdict;
 use model::VerdictSlot;
 use numbers::index;
+use numbers::wide;
 use reach::level_reach;
 ghost use mathlib.Core.Path.{_≡_};
 ghost use Prim.Native.Nat.{ℕ, _≤_, _<_};
@@ -46,29 +49,32 @@ fn limits_at(d: Description, gaps: &[u32; 16]) -> [u64; 32]
     limits
 }
 
-// Where the rounds of each of n tasks come to below its limit, with m sources.
+// Where the delay of each of n tasks comes to, its rounds below its limit, with m sources.
 fn reaches_at(
     levels: &[u64; 528],
     starts: &[u64; 32],
+    tails: &[u32; 32],
     gaps: &[u32; 16],
     limits: &[u64; 32],
     n: usize,
     m: usize,
 ) -> [u64; 32]
-    requires { ⌜ Leveled (now levels) (now starts) n m × Fit m (now gaps) × ((j : ℕ) → getD (now limits) j 0 ≤ 1000000000) ⌝ }
-    ensures { λ r. ⌜ ReachesBy (now (levels .entry)) (now (starts .entry)) (now (gaps .entry)) (now (limits .entry)) n m r ⌝ }
+    requires { ⌜ Leveled (now levels) (now starts) (now tails) n m × Fit m (now gaps) × ((j : ℕ) → getD (now limits) j 0 ≤ 1000000000) ⌝ }
+    ensures { λ r. ⌜ ReachesBy (now (levels .entry)) (now (starts .entry)) (now (tails .entry)) (now (gaps .entry)) (now (limits .entry)) n m r ⌝ }
 {
     let mut reaches = [0u64; 32];
     let mut j: usize = 0;
     while j < n {
         let loads = loads_at(levels, m, j);
-        reaches[j] = level_reach(starts[j], &loads, gaps, m, limits[j]);
+        let tail = wide(tails[j]);
+        let limit = room(limits[j], tail);
+        reaches[j] = level_reach(starts[j], &loads, gaps, m, limit) + tail;
         j += 1;
     }
     reaches
 }
 
-// The verdict on a link: whether it is in order, its source's spacing, and where its task's rounds come to.
+// The verdict on a link: whether it is in order, its source's spacing, and where its task's delay comes to.
 fn verdict_by(link: Link, order: bool, gap: u32, reach: u64) -> Verdict
     ensures { λ r. ⌜ r ≡ verdictBy link order gap reach ⌝ }
 {
@@ -134,18 +140,20 @@ fn decide_all(
 
 // The verdicts on all links at the spacings of a table, from the tables that are worked out once.
 pub fn slots_at<'a>(
+    p: Policy,
     d: Description,
     levels: &'a [u64; 528],
     starts: &'a [u64; 32],
+    tails: &'a [u32; 32],
     orders: &'a [bool; 256],
     gaps: &[u32; 16],
 ) -> [VerdictSlot; 256]
-    requires { ⌜ SlotTables d (now levels) (now starts) (now orders) × Fit (d .«source_count») (now gaps) ⌝ }
-    ensures { λ r. ⌜ SlotsAt d (now (gaps .entry)) r ⌝ }
+    requires { ⌜ SlotTables p d (now levels) (now starts) (now tails) (now orders) × Fit (d .«source_count») (now gaps) ⌝ }
+    ensures { λ r. ⌜ SlotsAt p d (now (gaps .entry)) r ⌝ }
 {
     let n = d.task_count;
     let m = d.source_count;
     let limits = limits_at(d, gaps);
-    let reaches = reaches_at(levels, starts, gaps, &limits, n, m);
+    let reaches = reaches_at(levels, starts, tails, gaps, &limits, n, m);
     decide_all(d, orders, gaps, &reaches)
 }

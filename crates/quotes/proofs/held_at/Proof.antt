@@ -17,12 +17,12 @@ level-held-requires : tie.Need-level-held-requires
 level-held-requires c κs =
     let a = c .before .before .before .args in
     let w = c .before .before .before .pre .0 in
-    from-on (w .of) (w .at) (levelWith (a .start) (a .loads .now) (a .critical)) (sourcesWith (a .m) (a .ticks .now) (a .pulses .now)) (a .t) _ (w .from) (c .before .fill-gaps .ensures .0)
+    from-on (w .model) (w .of) (w .at) (levelWith (a .start) (a .loads .now) (a .tail) (a .critical)) (sourcesWith (a .m) (a .ticks .now) (a .pulses .now)) (a .t) _ (w .from) (c .before .fill-gaps .ensures .0)
 
 returns : tie.Need-returns
 returns c =
     let a = c .before .before .before .before .args in
-    (λ d j f. held-from d j (levelWith (a .start) (a .loads .now) (a .critical)) (sourcesWith (a .m) (a .ticks .now) (a .pulses .now)) (a .t) _ (c .level-held .result) f (c .before .before .fill-gaps .ensures .0) (c .level-held .ensures), c .before .before .fill-gaps .ensures .1)
+    (λ pol d j f. held-from pol d j (levelWith (a .start) (a .loads .now) (a .tail) (a .critical)) (sourcesWith (a .m) (a .ticks .now) (a .pulses .now)) (a .t) _ (c .level-held .result) f (c .before .before .fill-gaps .ensures .0) (c .level-held .ensures), c .before .before .fill-gaps .ensures .1)
 
 pub held-at-spec : {M : Type 1} → statement M
 held-at-spec = tie.close (tie.spec fill-gaps-requires level-held-requires returns)

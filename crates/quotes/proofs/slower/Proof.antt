@@ -5,6 +5,7 @@ use mathlib.Core.Bool.{true, false}
 use native.Mathlib.Omega.{arith}
 use borrow.Author.Tests.{not-true, not-false}
 use Rattle.model.specs.declared.Description.{Description}
+use Rattle.model.specs.declared.Policy.{Policy}
 use Rattle.model.specs.Delays.{spacingOf}
 use Rattle.spacings.specs.declared.Sources.{Sources}
 use Rattle.spacings.specs.Sources.{sourcesWith}
@@ -19,22 +20,22 @@ use Rattle.quotes.proofs.slower.Tie as tie
 
 -- of every description that the level is of and in doubt: held at one tempo and not at another
 abbrev Between : Level → Sources → ℕ → ℕ → ℕ → Type 0
-Between level sources doubtful low high = (d : Description) (j : ℕ) → LevelFrom d j level sources → levelHeld d (spacingOf d doubtful) j ≡ false → (levelHeld d (spacingOf d low) j ≡ true) × (levelHeld d (spacingOf d high) j ≡ false)
+Between level sources doubtful low high = (pol : Policy) (d : Description) (j : ℕ) → LevelFrom pol d j level sources → levelHeld pol d (spacingOf d doubtful) j ≡ false → (levelHeld pol d (spacingOf d low) j ≡ true) × (levelHeld pol d (spacingOf d high) j ≡ false)
 
 abbrev Inv-loop : tie.InvT-loop
-Inv-loop start loads critical ticks pulses m doubtful gaps₀ low₀ high₀ gaps low high = Room gaps × (200 ≤ low) × (low ≤ high) × (high ≤ doubtful) × Between (levelWith start loads critical) (sourcesWith m ticks pulses) doubtful low high
+Inv-loop start loads tail critical ticks pulses m doubtful gaps₀ low₀ high₀ gaps low high = Room gaps × (200 ≤ low) × (low ≤ high) × (high ≤ doubtful) × Between (levelWith start loads tail critical) (sourcesWith m ticks pulses) doubtful low high
 
 abbrev μ-loop : tie.MeasureT-loop
-μ-loop start loads critical ticks pulses m doubtful gaps₀ low₀ high₀ gaps low high = high - low
+μ-loop start loads tail critical ticks pulses m doubtful gaps₀ low₀ high₀ gaps low high = high - low
 
 held-at-requires : tie.Need-held-at-requires Inv-loop μ-loop
 held-at-requires c κs = (c .before .pre .0, omega arith, omega arith, zeros-room)
 
 returns : tie.Need-returns Inv-loop μ-loop
-returns c = λ d j f e. slower-none d j (c .before .before .before .args .doubtful) (sym (c .before .held-at .ensures .0 d j f) ∙ not-true _ (c .if1 .taken))
+returns c = λ pol d j f e. slower-none pol d j (c .before .before .before .args .doubtful) (sym (c .before .held-at .ensures .0 pol d j f) ∙ not-true _ (c .if1 .taken))
 
 loop-holds : tie.Need-loop-holds Inv-loop μ-loop
-loop-holds c = (c .before .held-at .ensures .1, omega arith, c .before .before .before .pre .1, omega arith, λ d j f e. (sym (c .before .held-at .ensures .0 d j f) ∙ not-false _ (c .if1 .left), e))
+loop-holds c = (c .before .held-at .ensures .1, omega arith, c .before .before .before .pre .1, omega arith, λ pol d j f e. (sym (c .before .held-at .ensures .0 pol d j f) ∙ not-false _ (c .if1 .left), e))
 
 sub-loop : tie.Need-sub-loop Inv-loop μ-loop
 sub-loop c = omega arith
@@ -52,16 +53,16 @@ loop-less : tie.Need-loop-less Inv-loop μ-loop
 loop-less c = omega arith
 
 loop-again : tie.Need-loop-again Inv-loop μ-loop
-loop-again c = let L = c .before .before .before .before .loop in (c .before .held-at2 .ensures .1, omega arith, omega arith, L .inv .3, λ d j f e. (sym (c .before .held-at2 .ensures .0 d j f) ∙ c .if2 .taken, L .inv .4 d j f e .1))
+loop-again c = let L = c .before .before .before .before .loop in (c .before .held-at2 .ensures .1, omega arith, omega arith, L .inv .3, λ pol d j f e. (sym (c .before .held-at2 .ensures .0 pol d j f) ∙ c .if2 .taken, L .inv .4 pol d j f e .1))
 
 loop-less-2 : tie.Need-loop-less-2 Inv-loop μ-loop
 loop-less-2 c = omega arith
 
 loop-again-2 : tie.Need-loop-again-2 Inv-loop μ-loop
-loop-again-2 c = let L = c .before .before .before .before .loop in (c .before .held-at2 .ensures .1, L .inv .1, omega arith, omega (arith, L .inv .3), λ d j f e. (L .inv .4 d j f e .0, sym (c .before .held-at2 .ensures .0 d j f) ∙ c .if2 .left))
+loop-again-2 c = let L = c .before .before .before .before .loop in (c .before .held-at2 .ensures .1, L .inv .1, omega arith, omega (arith, L .inv .3), λ pol d j f e. (L .inv .4 pol d j f e .0, sym (c .before .held-at2 .ensures .0 pol d j f) ∙ c .if2 .left))
 
 returns-2 : tie.Need-returns-2 Inv-loop μ-loop
-returns-2 c = let L = c .before .loop in λ d j f e. slower-found d j (c .before .before .before .before .before .args .doubtful) (L .low) (L .high) (L .inv .1) (L .inv .2) (L .inv .3) (omega (arith, L .inv .2, c .loop-test .left)) (L .inv .4 d j f e .0) (L .inv .4 d j f e .1)
+returns-2 c = let L = c .before .loop in λ pol d j f e. slower-found pol d j (c .before .before .before .before .before .args .doubtful) (L .low) (L .high) (L .inv .1) (L .inv .2) (L .inv .3) (omega (arith, L .inv .2, c .loop-test .left)) (L .inv .4 pol d j f e .0) (L .inv .4 pol d j f e .1)
 
 pub slower-spec : {M : Type 1} → statement M
 slower-spec =

@@ -28,8 +28,8 @@ returns c =
     let b : Bytes s = λ i. c .before .before .before .before .before .before .before .before .shared-slice-known .given i .fits in
     let e = c .before .before .before .before .before .report .ensures in
     let w = c .before .filled .given in
-    let n : w .0 .0 ≡ length (reportOf s) = whole-count s out b (S .pre) (c .before .before .before .before .before .report .result) (w .0 .0) (e .0) (w .1) in
-    rw (n, e .1) (whole-fits s out b (S .pre), whole-front s out b (S .pre))
+    let n : w .0 .0 ≡ length (reportOf (S .args .p) s) = whole-count (S .args .p) s out b (S .pre) (c .before .before .before .before .before .report .result) (w .0 .0) (e .0) (w .1) in
+    rw (n, e .1) (whole-fits (S .args .p) s out b (S .pre), whole-front (S .args .p) s out b (S .pre))
 
 same-length-2 : tie.Need-same-length-2
 same-length-2 c = search needs
@@ -38,7 +38,7 @@ returns-2 : tie.Need-returns-2
 returns-2 c =
     let S = c .before .before .before .before .before .before .before .before in
     let w = c .enum-told .given in
-    absurd (whole-never (S .args .file .now) (S .args .page .now) (λ i. c .before .before .before .before .before .before .before .shared-slice-known .given i .fits) (S .pre) (c .before .before .before .before .report .result) (w .0 .0) (w .0 .1 .0) (c .before .before .before .before .report .ensures .0) (w .1))
+    absurd (whole-never (S .args .p) (S .args .file .now) (S .args .page .now) (λ i. c .before .before .before .before .before .before .before .shared-slice-known .given i .fits) (S .pre) (c .before .before .before .before .report .result) (w .0 .0) (w .0 .1 .0) (c .before .before .before .before .report .ensures .0) (w .1))
 
 pub put-whole-spec : {M : Type 1} → statement M
 put-whole-spec =

@@ -23,7 +23,7 @@ slice-aggregate-copy-out c = search needs
 copy-out-requires : tie.Need-copy-out-requires
 copy-out-requires c κs =
     let p = c .before .before .before .put-report .ensures in
-    omega (arith, p .put-end, p .put-size, length-replicate {A = ℕ} 11168 0, report-length (c .before .before .before .before .before .before .before .args .file .now) (λ i. c .before .before .before .before .before .before .shared-slice-known .given i .fits))
+    omega (arith, p .put-end, p .put-size, length-replicate {A = ℕ} 11173 0, report-length (c .before .before .before .before .before .before .before .args .p) (c .before .before .before .before .before .before .before .args .file .now) (λ i. c .before .before .before .before .before .before .shared-slice-known .given i .fits))
 
 same-length : tie.Need-same-length
 same-length c = search needs

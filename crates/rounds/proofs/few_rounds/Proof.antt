@@ -25,7 +25,7 @@ returns c =
     (omega (arith, c .if1 .taken, round-in-start (a .start) (a .loads .now) (a .gaps .now) (a .n) (a .start))))
 
 round-at-requires : tie.Need-round-at-requires Inv-loop μ-loop
-round-at-requires c κs = (c .before .before .pre .0, refl, c .before .before .pre .0 .start-most)
+round-at-requires c κs = (c .before .before .pre .0, refl, omega (arith, c .before .before .pre .1))
 
 loop-holds : tie.Need-loop-holds Inv-loop μ-loop
 loop-holds c =

@@ -13,7 +13,7 @@ use Rattle.rounds.proofs.flow_bound.Tie as tie
 
 abbrev Inv-loop : tie.InvT-loop
 Inv-loop start loads gaps n ends shares far limit rest₀ flow₀ u₀ rest flow u =
-    (u ≤ n) × ((d : ℕ) → Counted loads gaps n d ends → rest ≡ restTo start loads gaps n ends shares far d u) × (flow ≡ flowTo start loads gaps n ends shares far u) × (rest ≤ 1000000000 + u * 1000000000) × (flow ≤ u * 8589934593)
+    (u ≤ n) × ((d : ℕ) → Counted loads gaps n d ends → rest ≡ restTo start loads gaps n ends shares far d u) × (flow ≡ flowTo start loads gaps n ends shares far u) × (rest ≤ 1010000000 + u * 1000000000) × (flow ≤ u * 8589934593)
 
 abbrev μ-loop : tie.MeasureT-loop
 μ-loop start loads gaps n ends shares far limit rest₀ flow₀ u₀ rest flow u = n - u

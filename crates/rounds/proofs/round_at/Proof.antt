@@ -11,7 +11,7 @@ use Rattle.rounds.proofs.round_at.Tie as tie
 
 abbrev Inv-loop : tie.InvT-loop
 Inv-loop start loads gaps n d ends₀ sum₀ u₀ ends sum u =
-    (u ≤ n) × (sum ≡ roundIn start loads gaps u d) × (sum ≤ 1000000000 + u * 1000000000000000000) × Counted loads gaps u d ends
+    (u ≤ n) × (sum ≡ roundIn start loads gaps u d) × (sum ≤ 1010000000 + u * 1000000000000000000) × Counted loads gaps u d ends
 
 abbrev μ-loop : tie.MeasureT-loop
 μ-loop start loads gaps n d ends₀ sum₀ u₀ ends sum u = n - u

@@ -1,5 +1,5 @@
 -- `lawful` meets its contract. Assumes nothing.
-use mathlib.Core.Path.{refl, sym, _∙_}
+use mathlib.Core.Path.{_≡_, refl, sym, _∙_}
 use borrow.Author.Tests.{not-true, not-false}
 use Rattle.model.specs.Machine.{rulesKept, aloneRule, lawful}
 use Rattle.lemmas.proofs.Tests.{and-false-left}
@@ -22,8 +22,10 @@ alone-requires c κs = search needs
 returns-2 : tie.Need-returns-2
 unfolding lawful
 returns-2 c = λ d r g.
-    c .alone .ensures (c .before .before .before .before .before .args .t4) refl
-    ∙ sym (and-true (rulesKept d (c .before .before .before .before .before .args .t4)) (aloneRule (c .before .before .before .before .before .args .p) (c .before .before .before .before .before .args .t4)) (sym (c .before .before .before .before .rules-kept .ensures d r g) ∙ not-false (c .before .before .before .before .rules-kept .result) (c .before .before .before .if1 .left)))
+    let p = c .before .before .before .before .before .args .p in
+    let m = c .before .before .before .before .before .args .t4 in
+    let alone : c .alone .result ≡ aloneRule p m = c .alone .ensures m refl in
+    alone ∙ sym (and-true (rulesKept d m) (aloneRule p m) (sym (c .before .before .before .before .rules-kept .ensures d r g) ∙ not-false (c .before .before .before .before .rules-kept .result) (c .before .before .before .if1 .left)))
 
 pub lawful-spec : {M : Type 1} → statement M
 lawful-spec = tie.close (tie.spec rules-kept-requires returns alone-requires returns-2)

@@ -10,16 +10,19 @@ use Rattle.loads.proofs.levels.levels_of.Statement.{statement}
 use Rattle.loads.proofs.levels.levels_of.Tie as tie
 
 abbrev Inv-loop : tie.InvT-loop
-Inv-loop brings works n m levels₀ j₀ levels j = (j ≤ n) × LevelsFrom brings works n m j levels
+Inv-loop brings works n m below levels₀ j₀ levels j = (j ≤ n) × LevelsFrom brings works n m below j levels
 
 abbrev μ-loop : tie.MeasureT-loop
-μ-loop brings works n m levels₀ j₀ levels j = j
+μ-loop brings works n m below levels₀ j₀ levels j = j
 
 loop-holds : tie.Need-loop-holds Inv-loop μ-loop
-loop-holds c = (omega arith, levels-none (c .args .brings .now) (c .args .works .now) (c .args .n) (c .args .m) (c .pre .1))
+loop-holds c = (omega arith, levels-none (c .args .brings .now) (c .args .works .now) (c .args .n) (c .args .m) (c .args .below) (c .pre .1))
 
 sub-j : tie.Need-sub-j Inv-loop μ-loop
 sub-j c = search needs
+
+sub-source-column : tie.Need-sub-source-column Inv-loop μ-loop
+sub-source-column c = search needs
 
 mul-source-column : tie.Need-mul-source-column Inv-loop μ-loop
 mul-source-column c = search needs
@@ -31,9 +34,10 @@ source-column-requires : tie.Need-source-column-requires Inv-loop μ-loop
 source-column-requires c κs =
     let S = c .before .before .before .before in
     let L = c .before .before .before .loop in
-    let b = L .j - 1 in
-    let up : suc b ≡ L .j = omega arith in
-    (S .pre .1, omega (arith, S .pre .0), L .inv .1 .0, S .pre .2 b, λ u p. let e : 16 * b + 16 + u ≡ 16 * L .j + u = omega arith in omega (arith, rw (← e) at (L .inv .1 .1 (L .j) u (omega arith) (omega (arith, S .pre .0)) p), loadBy-most (getD (S .args .brings .now) (32 + u) 0) (S .args .works .now) (S .args .n) (suc (L .j)) (S .pre .0) (S .pre .2) (omega arith)))
+    let b = S .args .below in
+    let row = L .j - 1 - b in
+    let up : b + suc row ≡ L .j = omega arith in
+    (S .pre .1, omega (arith, S .pre .0), omega (arith, S .pre .0), L .inv .1 .0, S .pre .3 (L .j - 1), λ u p. let e : 16 * row + 16 + u ≡ 16 * suc row + u = omega arith in omega (arith, rw (← e, up) at (L .inv .1 .1 (suc row) u (omega arith) (omega (arith, S .pre .0)) p), loadBy-most (getD (S .args .brings .now) (32 + u) 0) (S .args .works .now) (S .args .n) (suc (L .j)) (S .pre .0) (S .pre .3) (omega arith)))
 
 loop-less : tie.Need-loop-less Inv-loop μ-loop
 loop-less c = search needs
@@ -42,9 +46,10 @@ loop-again : tie.Need-loop-again Inv-loop μ-loop
 loop-again c =
     let S = c .before .before .before .before .before in
     let L = c .before .before .before .before .loop in
-    let b = L .j - 1 in
-    let e : L .j ≡ suc b = omega arith in
-    (omega arith, levels-step (S .args .brings .now) (S .args .works .now) (S .args .n) (S .args .m) b (L .levels) _ (omega arith) (S .pre .0) (S .pre .1) (c .source-column .ensures) (rw e at (L .inv .1)))
+    let b = S .args .below in
+    let row = L .j - 1 - b in
+    let e : L .j ≡ suc (L .j - 1) = omega arith in
+    (omega arith, levels-step (S .args .brings .now) (S .args .works .now) (S .args .n) (S .args .m) b row (L .j - 1) (L .levels) _ (omega arith) (omega arith) (S .pre .0) (S .pre .1) (c .source-column .ensures) (rw e at (L .inv .1)))
 
 returns : tie.Need-returns Inv-loop μ-loop
 returns c =
@@ -59,6 +64,7 @@ levels-of-spec =
     μ-loop
     loop-holds
     sub-j
+    sub-source-column
     mul-source-column
     element-copy-out-source-column
     source-column-requires

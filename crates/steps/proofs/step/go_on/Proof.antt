@@ -37,11 +37,12 @@ with-requires c κs = search needs
 returns-2 : tie.Need-returns-2
 returns-2 c =
     let A = (c .before .before .before .before .before) .args in
+    let more : (k : ℕ) → member (c .with .result) k ≡ (member (A .w .running) k || eqb k (A .h)) = c .with .ensures in
     record {
       marks = (refl, refl, refl);
       then = refl;
       knob = (refl, refl);
-      runs = λ k. c .with .ensures k ∙ sym (ap (goes (A .w .running) (A .h) k) (c .before .before .before .enum-told .given .1));
+      runs = λ k. more k ∙ sym (ap (goes (A .w .running) (A .h) k) (c .before .before .before .enum-told .given .1));
     }
 
 pub go-on-spec : {M : Type 1} → statement M

@@ -1,5 +1,6 @@
 -- `sleep` meets its contract, bit by bit. Assumes nothing.
-use mathlib.Core.Path.{refl, ap, _∙_}
+use Prim.Native.Nat.{ℕ}
+use mathlib.Core.Path.{_≡_, refl, ap, _∙_}
 use mathlib.Core.Bool.{Bool, _&&_, not}
 use Rattle.sets.specs.Sets.{member}
 use Rattle.steps.proofs.MarkLaws.{marks-slept}
@@ -31,11 +32,13 @@ without-requires-3 c κs = search needs
 returns : tie.Need-returns
 returns c =
     let A = (c .before .before .before .before .before .before .before) .args in
+    let one = c .before .before .before .before .before .one in
+    let rest : (k : ℕ) → member (c .before .without2 .result) k ≡ (member (A .w .running) k && not (member (one .result) k)) = c .before .without2 .ensures in
     record {
-      slept = λ d m g r p q h. marks-slept d (A .rows .now) (A .h) (A .w) _ (c .before .before .before .before .before .one .result) (c .before .before .before .before .before .before .row .result) (c .before .before .before .before .before .before .row .ensures) (c .before .before .before .before .before .one .ensures) (c .before .before .without .ensures) (c .without3 .ensures) refl m g r p q h;
+      slept = λ d m g r p q h. marks-slept d (A .rows .now) (A .h) (A .w) _ (one .result) (c .before .before .before .before .before .before .row .result) (c .before .before .before .before .before .before .row .ensures) (one .ensures) (c .before .before .without .ensures) (c .without3 .ensures) refl m g r p q h;
       then = refl;
       knob = (refl, refl);
-      runs = λ k. c .before .without2 .ensures k ∙ ap (λ (b : Bool). member (A .w .running) k && not b) (c .before .before .before .before .before .one .ensures k);
+      runs = λ k. rest k ∙ ap (λ (b : Bool). member (A .w .running) k && not b) (one .ensures k);
     }
 
 pub sleep-spec : {M : Type 1} → statement M

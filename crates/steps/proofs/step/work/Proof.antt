@@ -1,11 +1,12 @@
 -- `work` meets its contract: none is awake, the run goes on, or it ends. Assumes nothing.
 use Prim.Native.Nat.{ℕ, _-_, _+_, _≤_, _<_}
 use mathlib.Core.Path.{_≡_, refl, sym, subst, _∙_}
-use mathlib.Core.Bool.{cond, true, _&&_, not}
+use mathlib.Core.Bool.{cond, true, _||_, _&&_, not}
 use native.Mathlib.Omega.{arith}
 use lib.ListN.{getD}
 use lib.Dec.{eqb}
 use Rattle.sets.specs.Sets.{member, LastIn}
+use Rattle.steps.specs.Words.{holdsOn}
 use Rattle.steps.proofs.ChoiceLaws.{goes-over, goes-more, eligible-some, eligible-awake}
 use Rattle.steps.proofs.StepLaws.{work-none, work-on, work-over}
 use borrow.Author.Needs.{needs}
@@ -26,7 +27,7 @@ eligible-requires : tie.Need-eligible-requires
 eligible-requires c κs = search needs
 
 last-requires : tie.Need-last-requires
-last-requires c κs = subst (λ s. 0 < s) (sym (c .eligible .ensures)) (eligible-some (c .before .before .before .args .w .running) (c .before .before .before .args .w .awake) (c .before .if1 .left))
+last-requires c κs = subst (λ s. 0 < s) (sym (c .eligible .ensures)) (eligible-some (c .before .before .before .args .w .running) (c .before .before .before .args .w .awake) (λ z. omega (arith, c .before .if1 .left)))
 
 -- the task that runs is one of those to choose from, and so awake
 chosen : (c : tie.After-last) → LastIn (cond (eqb (c .before .before .before .before .args .w .running) 0) (c .before .before .before .before .args .w .awake) (c .before .before .before .before .args .w .running)) (c .last .result)
@@ -105,9 +106,10 @@ returns-3 c =
     let A = S .args in
     let h = c .before .before .before .before .before .last .result in
     let b = low (c .before .before .before .before .before) in
+    let on : (k : ℕ) → member (c .go-on .result .running) k ≡ (member (A .w .running) k || (holdsOn (A .p) && eqb k h)) = c .go-on .ensures .runs in
     record {
       worked-on = λ d since m g r s e H. work-on (A .p) d (A .w) (A .used .now) since (A .runs .now) (A .finish) m g s (S .pre .going) e H h (getD (A .used .now) (h - 1) 0 + 1) (chosen (c .before .before .before .before .before)) (b .0) (b .1) refl (c .go-on .result) (c .go-on .ensures .marks) (c .go-on .ensures .then) (sym (c .before .before .ends .ensures) ∙ c .before .if2 .left);
-      goes = λ z e. goes-more (A .p) (A .w .running) (c .go-on .result .running) (A .used .now) h (b .0) (b .1) z e (getD (A .used .now) (h - 1) 0 + 1) (omega arith) (c .go-on .ensures .runs);
+      goes = λ z e. goes-more (A .p) (A .w .running) (c .go-on .result .running) (A .used .now) h (b .0) (b .1) z e (getD (A .used .now) (h - 1) 0 + 1) (omega arith) on;
       then = c .go-on .ensures .then;
       knob = c .go-on .ensures .knob;
     }

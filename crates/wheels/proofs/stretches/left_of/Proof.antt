@@ -14,7 +14,7 @@ use Rattle.wheels.proofs.stretches.left_of.Statement.{statement}
 use Rattle.wheels.proofs.stretches.left_of.Tie as tie
 
 abbrev Inv-loop : tie.InvT-loop
-Inv-loop start loads gaps n wheels count ends rest₀ u₀ rest u = (u ≤ n) × ((p : ℕ) → Counted loads gaps n p ends → rest ≡ leftIn start loads gaps wheels u count p) × (rest ≤ 1000000000 + u * 1000000000)
+Inv-loop start loads gaps n wheels count ends rest₀ u₀ rest u = (u ≤ n) × ((p : ℕ) → Counted loads gaps n p ends → rest ≡ leftIn start loads gaps wheels u count p) × (rest ≤ 1010000000 + u * 1000000000)
 
 abbrev μ-loop : tie.MeasureT-loop
 μ-loop start loads gaps n wheels count ends rest₀ u₀ rest u = n - u

@@ -9,6 +9,7 @@ use model::Filled;
 use model::Found;
 use model::Machine;
 use model::Outcome;
+use model::Policy;
 use model::Quote;
 use model::Ticked;
 use refusals::number_of;
@@ -59,7 +60,8 @@ pub fn judges(t: Tally, d: Description, number: usize, place: usize) -> Tally {
 
 // A record's quote is a tempo, number 0, or refused with a number and a place.
 pub fn quotes(t: Tally, d: Description, number: usize, value: u32) -> Tally {
-    let quote = quotes::quote(d);
+    let p = t.policy;
+    let quote = quotes::quote(p, d);
     match quote {
         Quote::Tempo(q) => counted(t, number == 0 && q == value),
         Quote::Unquoted(why, place) => {
@@ -88,7 +90,8 @@ pub fn writes(t: Tally, d: Description, page: &mut [u8], number: usize, value: u
 
 // A run of calls whose outcomes go to a buffer is done, number 0, or refused with a number.
 pub fn runs(t: Tally, d: Description, calls: &[u8], outcomes: &mut [u8], number: usize) -> Tally {
-    let ran = ticks::run(d, calls, outcomes);
+    let p = t.policy;
+    let ran = ticks::run(p, d, calls, outcomes);
     let outcome = ran.outcome;
     counted(t, is_outcome(outcome, number, 0))
 }
@@ -122,21 +125,33 @@ pub fn ticks_once(
     a: Arrivals,
     number: usize,
 ) -> Tally {
-    let r = ticks::advanced(d, tempo, m, a, false);
+    let p = t.policy;
+    let r = ticks::advanced(p, d, tempo, m, a, false);
     let outcome = r.outcome;
     counted(t, is_outcome(outcome, number, 0))
 }
 
-// A record after a tick at 20.0.
-pub fn later(d: Description, m: Machine, a: Arrivals, finish: bool) -> Machine {
-    let r = ticks::advanced(d, 200, m, a, finish);
+// A record after a tick at a tempo, on a model.
+pub fn later_on(
+    p: Policy,
+    d: Description,
+    tempo: u32,
+    m: Machine,
+    a: Arrivals,
+    finish: bool,
+) -> Machine {
+    let r = ticks::advanced(p, d, tempo, m, a, finish);
     r.machine
 }
 
-// A record after a tick at a tempo.
+// A record after a tick at 20.0, on the preemptive model.
+pub fn later(d: Description, m: Machine, a: Arrivals, finish: bool) -> Machine {
+    later_on(Policy::Preemptive, d, 200, m, a, finish)
+}
+
+// A record after a tick at a tempo, on the preemptive model.
 pub fn later_at(d: Description, tempo: u32, m: Machine, a: Arrivals) -> Machine {
-    let r = ticks::advanced(d, tempo, m, a, false);
-    r.machine
+    later_on(Policy::Preemptive, d, tempo, m, a, false)
 }
 
 // The record after a start.
@@ -161,4 +176,12 @@ pub fn ages(t: Tally, m: Machine, first: u32, second: u32) -> Tally {
 // Of a record the first two sources' kept tempos.
 pub fn keeps(t: Tally, m: Machine, first: u32, second: u32) -> Tally {
     counted(t, m.fastest[0] == first && m.fastest[1] == second)
+}
+
+// Of a record the first task's used, and whether the first two tasks are awake.
+pub fn tasks(t: Tally, m: Machine, used: u32, first: bool, second: bool) -> Tally {
+    counted(
+        t,
+        m.used[0] == used && m.awake[0] == first && m.awake[1] == second,
+    )
 }

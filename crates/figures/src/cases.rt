@@ -2,24 +2,42 @@
 
 use model::Filled;
 use model::Outcome;
+use model::Policy;
 use model::Verdict;
 use refusals::number_of;
 ghost use Prim.Native.Nat.{_≤_};
 
-// How many figures were run, and how many agree.
+// How many figures were run, how many agree, and the model that the next one is run on.
 pub struct Tally {
+    pub policy: Policy,
     pub cases: u64,
     pub agree: u64,
 }
 
+// No figure yet; the first is run on the preemptive model.
 pub fn none() -> Tally {
-    Tally { cases: 0, agree: 0 }
+    Tally {
+        policy: Policy::Preemptive,
+        cases: 0,
+        agree: 0,
+    }
+}
+
+// The tally with further figures on a model.
+pub fn on(policy: Policy, t: Tally) -> Tally {
+    Tally {
+        policy,
+        cases: t.cases,
+        agree: t.agree,
+    }
 }
 
 // The tally with one figure more.
 pub fn counted(t: Tally, agree: bool) -> Tally {
     let one: u64 = if agree { 1 } else { 0 };
+    let policy = t.policy;
     Tally {
+        policy,
         cases: std::num::wrapping_add_u64(t.cases, 1),
         agree: std::num::wrapping_add_u64(t.agree, one),
     }
@@ -51,11 +69,11 @@ fn begins(page: &[u8], n: usize, text: &[u8]) -> bool {
 }
 
 // The number of the refusal of a report into a part of a page, or 0.
-fn refusal(file: &[u8], page: &mut [u8], size: usize) -> usize {
+fn refusal(p: Policy, file: &[u8], page: &mut [u8], size: usize) -> usize {
     if page.len() < size {
         return 0;
     }
-    let filled = report::report(file, &mut page[..size]);
+    let filled = report::report(p, file, &mut page[..size]);
     match filled {
         Filled::Bytes(_) => 0,
         Filled::Unfilled(why, _) => number_of(why),
@@ -65,7 +83,8 @@ fn refusal(file: &[u8], page: &mut [u8], size: usize) -> usize {
 // A file's report is the expected text.
 pub fn reports(t: Tally, file: &[u8], text: &[u8]) -> Tally {
     let mut page = [0u8; report::LONGEST];
-    let n = report::put_whole(file, &mut page);
+    let p = t.policy;
+    let n = report::put_whole(p, file, &mut page);
     let agree = begins(&page, n, text);
     counted(t, agree)
 }
@@ -73,7 +92,8 @@ pub fn reports(t: Tally, file: &[u8], text: &[u8]) -> Tally {
 // The report of a file fills a buffer of `size` bytes, number 0, or is refused with a number.
 pub fn fills(t: Tally, file: &[u8], size: usize, number: usize) -> Tally {
     let mut page = [0u8; report::LONGEST];
-    let told = refusal(file, &mut page, size);
+    let p = t.policy;
+    let told = refusal(p, file, &mut page, size);
     counted(t, told == number)
 }
 
@@ -126,16 +146,17 @@ pub fn added(t: Tally, file: &[u8], i: usize, j: usize, expected: u64) -> Tally 
 pub fn judged_at(t: Tally, file: &[u8], tempo: u32, number: usize) -> Tally {
     let r = files::read(file);
     let d = r.description;
-    let v = verdicts::verdicts(d, tempo);
+    let p = t.policy;
+    let v = verdicts::verdicts(p, d, tempo);
     let outcome = v.outcome;
     counted(t, is_outcome(outcome, number, 0))
 }
 
 // The verdict on the link at a place counted from 1, at tempo T.
-fn verdict_of(file: &[u8], tempo: u32, place: usize) -> Verdict {
+fn verdict_of(p: Policy, file: &[u8], tempo: u32, place: usize) -> Verdict {
     let r = files::read(file);
     let d = r.description;
-    let v = verdicts::verdicts(d, tempo);
+    let v = verdicts::verdicts(p, d, tempo);
     if place < 1 {
         return Verdict::Free;
     }
@@ -147,7 +168,8 @@ fn verdict_of(file: &[u8], tempo: u32, place: usize) -> Verdict {
 }
 
 pub fn held(t: Tally, file: &[u8], tempo: u32, place: usize, delay: u32, spacing: u32) -> Tally {
-    let v = verdict_of(file, tempo, place);
+    let p = t.policy;
+    let v = verdict_of(p, file, tempo, place);
     let Verdict::Held(d, m) = v else {
         return counted(t, false);
     };
@@ -155,7 +177,8 @@ pub fn held(t: Tally, file: &[u8], tempo: u32, place: usize, delay: u32, spacing
 }
 
 pub fn doubtful(t: Tally, file: &[u8], tempo: u32, place: usize, spacing: u32) -> Tally {
-    let v = verdict_of(file, tempo, place);
+    let p = t.policy;
+    let v = verdict_of(p, file, tempo, place);
     let Verdict::Doubt(m) = v else {
         return counted(t, false);
     };
@@ -198,7 +221,8 @@ pub fn drops(t: Tally, file: &[u8], calls: &[u8], place: usize, expected: bool) 
     let r = files::read(file);
     let d = r.description;
     let mut outcomes = [0u8; 64];
-    let ran = ticks::run(d, calls, &mut outcomes);
+    let p = t.policy;
+    let ran = ticks::run(p, d, calls, &mut outcomes);
     let m = ran.machine;
     if place < 1 {
         return counted(t, false);
@@ -214,7 +238,8 @@ pub fn ticks(t: Tally, file: &[u8], calls: &[u8], k: usize, number: u8) -> Tally
     let r = files::read(file);
     let d = r.description;
     let mut outcomes = [255u8; 64];
-    ticks::run(d, calls, &mut outcomes);
+    let p = t.policy;
+    ticks::run(p, d, calls, &mut outcomes);
     if 64 <= k {
         return counted(t, false);
     }

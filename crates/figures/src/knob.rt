@@ -3,6 +3,7 @@
 use crate::cases::Tally;
 use crate::cases::counted;
 use model::Machine;
+use model::Policy;
 
 // Source 33 comes in call 0 and in the last one. The knob stands at 20.0, but in one call at another tempo, and in that the source may come too.
 pub struct Turn {
@@ -13,7 +14,7 @@ pub struct Turn {
 }
 
 // How the calls of a run are made: from a turn, or in rounds of three calls at one tempo. In a round source 33 tries to come, then source 34,
-// and the third call has no arrival. The knob rises from 20.0 in 63 rounds and is at a tempo in the 64th.
+// and the third call has no arrival. The knob rises from 20.0 in 63 rounds, up to a tempo, and is at that in the 64th.
 enum Rule {
     Turned(Turn),
     Rounds(u32),
@@ -36,6 +37,7 @@ fn turned(turn: Turn, i: usize) -> Call {
 
 fn in_round(top: u32, i: usize) -> Call {
     let round = (i / 3 % 64) as u32;
+    let tempo = 200 + 25 * round;
     let mask = match i % 3 {
         0 => 1,
         1 => 2,
@@ -43,7 +45,11 @@ fn in_round(top: u32, i: usize) -> Call {
     };
     Call {
         mask,
-        tempo: if round == 63 { top } else { 200 + 25 * round },
+        tempo: if round == 63 || top < tempo {
+            top
+        } else {
+            tempo
+        },
     }
 }
 
@@ -79,13 +85,13 @@ fn fill(page: &mut [u8], rule: Rule, n: usize) {
 }
 
 // The record after the first n calls of a page, and their codes in a buffer; a blank one where the page has fewer.
-fn played(file: &[u8], page: &[u8], n: usize, codes: &mut [u8]) -> Machine {
+fn played(p: Policy, file: &[u8], page: &[u8], n: usize, codes: &mut [u8]) -> Machine {
     let r = files::read(file);
     let d = r.description;
     if page.len() / 6 < n {
         return refusals::blank_machine();
     }
-    let ran = ticks::run(d, &page[..6 * n], codes);
+    let ran = ticks::run(p, d, &page[..6 * n], codes);
     ran.machine
 }
 
@@ -125,7 +131,8 @@ pub fn codes(t: Tally, file: &[u8], turn: Turn, at_turn: u8, at_last: u8) -> Tal
     }
     let n = turn.last + 1;
     fill(&mut page, Rule::Turned(turn), n);
-    played(file, &page, n, &mut codes);
+    let p = t.policy;
+    played(p, file, &page, n, &mut codes);
     let agree = same_codes(&codes, turn, at_turn, at_last);
     counted(t, agree)
 }
@@ -157,12 +164,12 @@ pub struct AfterRounds {
     pub still: u64,
 }
 
-// 2,048 rounds.
-pub fn rounds(file: &[u8], top: u32) -> AfterRounds {
+// 2,048 rounds on a model.
+pub fn rounds(p: Policy, file: &[u8], top: u32) -> AfterRounds {
     let mut page = [0u8; 36864];
     let mut codes = [255u8; 6144];
     fill(&mut page, Rule::Rounds(top), 6144);
-    let machine = played(file, &page, 6144, &mut codes);
+    let machine = played(p, file, &page, 6144, &mut codes);
     let first = done_in(&codes, 0);
     let second = done_in(&codes, 1);
     let still = done_in(&codes, 2);

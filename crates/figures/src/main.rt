@@ -6,6 +6,7 @@ use libc::STDOUT_FILENO;
 use model::Description;
 use model::Link;
 use model::Machine;
+use model::Policy;
 use model::Source;
 use model::SourceSlot;
 
@@ -762,24 +763,24 @@ fn turned_knob() -> Tally {
     turns(t, up(1, 105), 0, 0)
 }
 
-// Box with the knob between 20.0 and its quote, 178.3, both sources trying to come in each round: no critical link is dropped, and no tempo above the
-// quote is kept. Up to 300.0 its third link is dropped.
-fn moving_knob() -> Tally {
-    let r = knob::rounds(&BOX, 1783);
+// Box with the knob between 20.0 and its quote, which is 178.3 on the preemptive model and 124.8 on the hold-on one, both sources trying to come in each round: no critical link is
+// dropped, and no tempo above the quote is kept. Up to 300.0 its third link is dropped.
+fn moving_knob(p: Policy, quote: u32) -> Tally {
+    let r = knob::rounds(p, &BOX, quote);
     let m = r.machine;
     let t = cases::none();
     let t = cases::counted(t, !m.dropped[1]);
     let t = cases::counted(t, !m.dropped[2]);
     let t = cases::counted(t, !m.dropped[3]);
-    let t = cases::counted(t, m.fastest[0] <= 1783);
-    let t = cases::counted(t, m.fastest[1] <= 1783);
+    let t = cases::counted(t, m.fastest[0] <= quote);
+    let t = cases::counted(t, m.fastest[1] <= quote);
     let t = cases::counted(t, r.first == 3);
     let t = cases::counted(t, r.second == 2);
     let t = cases::counted(t, r.still == 2048);
-    let fast = knob::rounds(&BOX, 3000);
+    let fast = knob::rounds(p, &BOX, 3000);
     let m = fast.machine;
     let t = cases::counted(t, m.dropped[2]);
-    cases::counted(t, 1783 < m.fastest[0])
+    cases::counted(t, quote < m.fastest[0])
 }
 
 // What a record keeps: this tick's tempo at a firing, the larger one afterwards, 0 before the first firing; a refused tick's tempo is not kept. Ages rise up to the
@@ -862,6 +863,112 @@ fn kept_rules() -> Tally {
     calls::ticks_once(t, d, 200, m, calls::arriving(true, true), 16)
 }
 
+// A task of run 3 and a higher one of run 1, each with a fixed source of 10 of its own; both links are critical.
+const PAIR: [u8; 40] =
+    *b"\x01\x00\x04\x00\x00\x00\x03\x01\x00\x04\x00\x00\x00\x01\x02\x00\x04\x00\x00\x00\x0a\x02\x00\x04\x00\x00\x00\x0a\x04\x00\x03\x21\x01\x01\x04\x00\x03\x22\x02\x01";
+
+// No figure yet; the first is run on the hold-on model.
+fn hold() -> Tally {
+    cases::on(Policy::HoldOn, cases::none())
+}
+
+// C-14: Box on the hold-on model, where 33>2 waits for task 1 or for task 2 with what that wakes, then for source 34's load, and runs for 300 itself. Its report
+// into a buffer that it just fills, and one that is a byte shorter.
+fn hold_box() -> Tally {
+    let t = calls::quotes(hold(), calls::described(&BOX), 0, 1248);
+    let t = cases::held(t, &BOX, 1248, 3, 1000, 1001);
+    let t = cases::doubtful(t, &BOX, 1249, 3, 1000);
+    let t = cases::held(t, &BOX, 1248, 4, 600, 2000);
+    let t = cases::reports(
+        t,
+        &BOX,
+        b"hold\ntempo 124.8\nlink 1 2>1 free\nlink 2 2>3 held order\nlink 3 33>2 held 1000 of 1001\nlink 4 34>3 held 600 of 2000\n",
+    );
+    let t = cases::fills(t, &BOX, 114, 0);
+    cases::fills(t, &BOX, 113, 13)
+}
+
+// Twin with the spacings 11 and 10.
+fn hold_twin() -> Tally {
+    let t = cases::held(hold(), &twin(11), 200, 3, 10, 11);
+    let t = cases::held(t, &twin(11), 200, 4, 6, 11);
+    let t = cases::doubtful(t, &twin(10), 200, 3, 10);
+    let t = calls::quotes(t, calls::described(&twin(11)), 0, 3000);
+    let t = calls::quotes(t, calls::described(&twin(10)), 12, 0);
+    cases::reports(
+        t,
+        &twin(10),
+        b"hold\ntempo none\nlink 1 1>3 held order\nlink 2 2>3 held order\nlink 3 33>1 doubt of 10\nlink 4 33>2 held 6 of 10\n",
+    )
+}
+
+// The line `hold` before a refusal, and before a tempo without links; the report of the longest file, and a buffer that is a byte shorter.
+fn hold_pages() -> Tally {
+    let t = cases::reports(hold(), b"", b"hold\nrefused 8 at 0\n");
+    let t = cases::reports(
+        t,
+        b"\x01\x00\x04\x00\x00\x00\x01\x01\x00\x04\x00\x00\x00\x01\x04\x00\x03\x01\x02\x00\x04\x00\x03\x01\x02\x00",
+        b"hold\nrefused 4 at 20\n",
+    );
+    let t = cases::reports(t, b"\x01\x00\x04\x00\x00\x00\x01", b"hold\ntempo 300.0\n");
+    let t = cases::longest(t, 11157, 0);
+    cases::longest(t, 11156, 13)
+}
+
+// The pair's record after a tick at 20.0.
+fn pair_later(p: Policy, m: Machine, first: bool, second: bool) -> Machine {
+    calls::later_on(
+        p,
+        calls::described(&PAIR),
+        200,
+        m,
+        calls::arriving(first, second),
+        false,
+    )
+}
+
+// Source 33 comes in the first of four ticks and source 34 in the second. On the hold-on model the lower task runs on to its end, and the higher one then; on the preemptive model
+// the higher one runs at once. Where both come in the first tick, the higher one is chosen on either.
+fn holding() -> Tally {
+    let p = Policy::HoldOn;
+    let idle = calls::idle(calls::described(&PAIR));
+    let t = hold();
+    let m = pair_later(p, idle, true, false);
+    let t = calls::tasks(t, m, 1, true, false);
+    let m = pair_later(p, m, false, true);
+    let t = calls::tasks(t, m, 2, true, true);
+    let m = pair_later(p, m, false, false);
+    let t = calls::tasks(t, m, 0, false, true);
+    let m = pair_later(p, m, false, false);
+    let t = calls::tasks(t, m, 0, false, false);
+    let m = pair_later(p, idle, true, true);
+    let t = calls::tasks(t, m, 0, true, false);
+    let m = pair_later(p, m, false, false);
+    let t = calls::tasks(t, m, 1, true, false);
+    let p = Policy::Preemptive;
+    let m = pair_later(p, idle, true, false);
+    let t = calls::tasks(t, m, 1, true, false);
+    let m = pair_later(p, m, false, true);
+    let t = calls::tasks(t, m, 1, true, false);
+    let m = pair_later(p, idle, true, true);
+    calls::tasks(t, m, 0, true, false)
+}
+
+// The rule that at most one task is part done is the hold-on model's alone: one of two tasks of run 3, then both, which gives 16; on the preemptive model it passes.
+fn parts_done() -> Tally {
+    let d = calls::described(b"\x01\x00\x04\x00\x00\x00\x03\x01\x00\x04\x00\x00\x00\x03");
+    let still = calls::arriving(false, false);
+    let mut m = calls::idle(d);
+    m.awake[0] = true;
+    m.used[0] = 1;
+    let t = calls::ticks_once(hold(), d, 200, m, still, 0);
+    m.awake[1] = true;
+    let t = calls::ticks_once(t, d, 200, m, still, 0);
+    m.used[1] = 1;
+    let t = calls::ticks_once(t, d, 200, m, still, 16);
+    calls::ticks_once(cases::on(Policy::Preemptive, t), d, 200, m, still, 0)
+}
+
 fn print_group(name: &[u8], t: Tally) {
     io::write_all(STDOUT_FILENO, name);
     io::write_all(STDOUT_FILENO, b": ");
@@ -905,7 +1012,19 @@ fn main() {
     print_group(b"C-11, ticks", swung_ticks());
     print_group(b"C-12, Box with a pulse of each kind", alike());
     print_group(b"C-13, the knob", turned_knob());
-    print_group(b"C-13, Box with the knob moving", moving_knob());
+    print_group(
+        b"C-13, Box with the knob moving",
+        moving_knob(Policy::Preemptive, 1783),
+    );
     print_group(b"C-13, kept tempos", kept_tempos());
     print_group(b"C-13, rules of the record", kept_rules());
+    print_group(b"C-14, Box", hold_box());
+    print_group(b"C-14, Twin", hold_twin());
+    print_group(b"C-14, reports", hold_pages());
+    print_group(b"C-14, the task that runs", holding());
+    print_group(b"C-14, rules of the record", parts_done());
+    print_group(
+        b"C-14, Box with the knob moving",
+        moving_knob(Policy::HoldOn, 1248),
+    );
 }

@@ -1,6 +1,7 @@
 // Compares the answers of the calls with the shared vectors: the report of each file, and each run of the tick machine.
 
 use libc::STDOUT_FILENO;
+use model::Policy;
 use parts::Tally;
 
 mod parts;
@@ -37,16 +38,16 @@ fn print_tally(t: Tally, what: &[u8]) {
     }
 }
 
-// What the cases of a data file are.
+// What the cases of a data file are, and the model that they are of.
 enum Cases {
-    Reports,
-    Runs,
+    Reports(Policy),
+    Runs(Policy),
 }
 
 fn compare_all(s: &[u8], cases: Cases) -> Tally {
     match cases {
-        Cases::Reports => reports::compare_all(s),
-        Cases::Runs => runs::compare_all(s),
+        Cases::Reports(p) => reports::compare_all(p, s),
+        Cases::Runs(p) => runs::compare_all(p, s),
     }
 }
 
@@ -58,12 +59,28 @@ fn compare_file(path: &[u8], cases: Cases, what: &[u8]) {
 }
 
 fn main() {
-    compare_file(b"reports.bin", Cases::Reports, b" reports agree\n");
-    compare_file(b"swing.bin", Cases::Reports, b" reports with swing agree\n");
-    compare_file(b"knob-runs.bin", Cases::Runs, b" runs agree\n");
+    let plain = Policy::Preemptive;
+    let hold = Policy::HoldOn;
+    compare_file(b"reports.bin", Cases::Reports(plain), b" reports agree\n");
+    compare_file(
+        b"swing.bin",
+        Cases::Reports(plain),
+        b" reports with swing agree\n",
+    );
+    compare_file(b"knob-runs.bin", Cases::Runs(plain), b" runs agree\n");
     compare_file(
         b"steady-runs.bin",
-        Cases::Runs,
+        Cases::Runs(plain),
         b" runs at one tempo agree\n",
+    );
+    compare_file(
+        b"hold-reports.bin",
+        Cases::Reports(hold),
+        b" reports of the hold-on model agree\n",
+    );
+    compare_file(
+        b"hold-runs.bin",
+        Cases::Runs(hold),
+        b" runs of the hold-on model agree\n",
     );
 }

@@ -3,16 +3,17 @@
 use crate::parts::Tally;
 use crate::parts::counted;
 use crate::parts::part_at;
+use model::Policy;
 
 // Whether the report of a file is the expected one.
-fn agrees(file: &[u8], expected: &[u8]) -> bool {
+fn agrees(p: Policy, file: &[u8], expected: &[u8]) -> bool {
     let mut page = [0u8; report::LONGEST];
-    let n = report::put_whole(file, &mut page);
+    let n = report::put_whole(p, file, &mut page);
     check::same(&page[..n], expected)
 }
 
 // All cases of the vectors.
-pub fn compare_all(s: &[u8]) -> Tally {
+pub fn compare_all(p: Policy, s: &[u8]) -> Tally {
     let mut t = Tally {
         cases: 0,
         agree: 0,
@@ -26,7 +27,7 @@ pub fn compare_all(s: &[u8]) -> Tally {
         let expected = part_at(s, to);
         let begin = expected.start;
         let end = expected.end;
-        let agree = agrees(&s[from..to], &s[begin..end]);
+        let agree = agrees(p, &s[from..to], &s[begin..end]);
         t = counted(t, agree);
         at = end;
     }

@@ -1,5 +1,5 @@
 // data/knob-runs.bin repeats four parts, each a length in two bytes, high byte first, and its bytes: a file, its calls of six bytes each,
-// their recorded outcomes, and the record after the last call. data/steady-runs.bin has document 01's runs, each at one tempo, in the same
+// their recorded outcomes, and the record after the last call; so does data/hold-runs.bin, of the hold-on model. data/steady-runs.bin has document 01's runs, each at one tempo, in the same
 // form (tools/steady-runs), with document 01's record of 736 bytes and the tempo behind it.
 
 use crate::parts::Tally;
@@ -8,6 +8,7 @@ use crate::parts::part_at;
 use crate::records::begins;
 use model::Machine;
 use model::Outcome;
+use model::Policy;
 ghost use Prim.Native.Nat.{_≤_, _<_};
 ghost use lib.ListN.{length};
 
@@ -36,11 +37,11 @@ fn same_record(m: Machine, recorded: &[u8]) -> bool {
     n == 768 && begins(m, recorded)
 }
 
-fn agrees(file: &[u8], calls: &[u8], recorded: &[u8], record: &[u8]) -> bool {
+fn agrees(p: Policy, file: &[u8], calls: &[u8], recorded: &[u8], record: &[u8]) -> bool {
     let r = files::read(file);
     let d = r.description;
     let mut outcomes = [255u8; 1024];
-    let ran = ticks::run(d, calls, &mut outcomes);
+    let ran = ticks::run(p, d, calls, &mut outcomes);
     let outcome = ran.outcome;
     let Outcome::Done = outcome else {
         return false;
@@ -56,7 +57,7 @@ fn agrees(file: &[u8], calls: &[u8], recorded: &[u8], record: &[u8]) -> bool {
 }
 
 // The run that begins at `at`.
-fn run_at(s: &[u8], at: usize) -> Step
+fn run_at(p: Policy, s: &[u8], at: usize) -> Step
     requires { ⌜ at ≤ length (now s) ⌝ }
     ensures { λ r. ⌜ (r .next ≤ length (now (s .entry))) × (at < length (now (s .entry)) → at < r .next) ⌝ }
 {
@@ -73,6 +74,7 @@ fn run_at(s: &[u8], at: usize) -> Step
     let left_start = left.start;
     let left_end = left.end;
     let agree = agrees(
+        p,
         &s[file_start..file_end],
         &s[calls_start..calls_end],
         &s[recorded_start..recorded_end],
@@ -85,7 +87,7 @@ fn run_at(s: &[u8], at: usize) -> Step
 }
 
 // All runs of the vectors.
-pub fn compare_all(s: &[u8]) -> Tally {
+pub fn compare_all(p: Policy, s: &[u8]) -> Tally {
     let mut t = Tally {
         cases: 0,
         agree: 0,
@@ -93,7 +95,7 @@ pub fn compare_all(s: &[u8]) -> Tally {
     };
     let mut at: usize = 0;
     while at < s.len() {
-        let step = run_at(s, at);
+        let step = run_at(p, s, at);
         t = counted(t, step.agree);
         at = step.next;
     }

@@ -17,7 +17,7 @@ array-share-prefix-page c = search needs
 slice-aggregate-same : tie.Need-slice-aggregate-same
 slice-aggregate-same c =
     let p = c .before .before .put-whole in
-    sym (length-take-le (p .result) (p .last .1 .0) (p .ensures .0))
+    sym (length-take-le (p .result) (p .last .1 .1 .0) (p .ensures .0))
 
 same-requires : tie.Need-same-requires
 same-requires c κs = search needs

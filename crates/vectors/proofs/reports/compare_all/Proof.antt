@@ -8,10 +8,10 @@ use Rattle.vectors.proofs.reports.compare_all.Statement.{statement}
 use Rattle.vectors.proofs.reports.compare_all.Tie as tie
 
 abbrev Inv-loop : tie.InvT-loop
-Inv-loop s t₀ at₀ t at = at ≤ length s
+Inv-loop p s t₀ at₀ t at = at ≤ length s
 
 abbrev μ-loop : tie.MeasureT-loop
-μ-loop s t₀ at₀ t at = length s - at
+μ-loop p s t₀ at₀ t at = length s - at
 
 loop-holds : tie.Need-loop-holds Inv-loop μ-loop
 loop-holds c = search needs

@@ -1,9 +1,9 @@
--- `bench::main` is safe and ends. Assumes nothing.
+-- `printing::print_report` is safe and ends. Assumes nothing.
 use mathlib.Core.Path.{sym}
 use lib.Seq.{length-take-le}
 use borrow.Author.Needs.{needs}
-use Rattle.bench.proofs.main.Statement.{statement}
-use Rattle.bench.proofs.main.Tie as tie
+use Rattle.printing.proofs.print_report.Statement.{statement}
+use Rattle.printing.proofs.print_report.Tie as tie
 
 slice-aggregate-read-input : tie.Need-slice-aggregate-read-input
 slice-aggregate-read-input c = search needs
@@ -16,9 +16,6 @@ enum-known-n c = search needs
 
 enum-told : tie.Need-enum-told
 enum-told c = search needs
-
-slice-aggregate-fail : tie.Need-slice-aggregate-fail
-slice-aggregate-fail c = search needs
 
 fail-requires : tie.Need-fail-requires
 fail-requires c κs = search needs
@@ -44,7 +41,7 @@ array-share-prefix-page c = search needs
 slice-aggregate-write-output : tie.Need-slice-aggregate-write-output
 slice-aggregate-write-output c =
     let p = c .before .before .put-whole in
-    sym (length-take-le (p .result) (p .last .1 .0) (p .ensures .0))
+    sym (length-take-le (p .result) (p .last .1 .1 .0) (p .ensures .0))
 
 write-output-requires : tie.Need-write-output-requires
 write-output-requires c κs = search needs
@@ -55,9 +52,6 @@ enum-told-2 c = search needs
 enum-told-3 : tie.Need-enum-told-3
 enum-told-3 c = search needs
 
-slice-aggregate-fail-2 : tie.Need-slice-aggregate-fail-2
-slice-aggregate-fail-2 c = search needs
-
 fail-requires-2 : tie.Need-fail-requires-2
 fail-requires-2 c κs = search needs
 
@@ -67,15 +61,14 @@ returns-2 c = search needs
 returns-3 : tie.Need-returns-3
 returns-3 c = search needs
 
-pub main-spec : {M : Type 1} → statement M
-main-spec =
+pub print-report-spec : {M : Type 1} → statement M
+print-report-spec =
     tie.close
     (tie.spec
     slice-aggregate-read-input
     read-input-requires
     enum-known-n
     enum-told
-    slice-aggregate-fail
     fail-requires
     returns
     array-share-prefix-input
@@ -87,7 +80,6 @@ main-spec =
     write-output-requires
     enum-told-2
     enum-told-3
-    slice-aggregate-fail-2
     fail-requires-2
     returns-2
     returns-3)

@@ -2,7 +2,8 @@
 //! Without the proved archive it times plain Rust alone.
 
 use compare::generate::{self, Draft, Knob};
-use compare::{LONGEST_REPORT, RECORD_BYTES, Side, library, plain};
+use compare::plain::{self, Policy};
+use compare::{LONGEST_REPORT, RECORD_BYTES, Side, library};
 use std::hint::black_box;
 use std::sync::mpsc;
 use std::thread;
@@ -72,7 +73,7 @@ fn samples() -> Vec<(&'static str, Vec<u8>)> {
 fn print_tempo(name: &'static str, file: &[u8], sides: &[Side]) {
     let plan = plain::Plan::read(file).unwrap_or_else(|_| panic!("{name}: refused"));
     let mut tried = 0;
-    let quoted = plain::quote::quote_telling(&plan, |_| tried += 1);
+    let quoted = plain::quote::quote_telling(Policy::Preemptive, &plan, |_| tried += 1);
     let steady = quoted.ok().and_then(|tempo| generate::steady(file, tempo));
     let steady = steady.unwrap_or_else(|| panic!("{name}: no tempo"));
     let times = medians_in_turns(&mut [quote(name, file.to_vec()), quote(name, steady)], sides);
@@ -108,7 +109,7 @@ fn time_once(side: Side, file: &[u8]) -> Option<(f64, Vec<u8>)> {
     thread::spawn(move || {
         let mut page = vec![0; LONGEST_REPORT];
         let start = Instant::now();
-        let written = (side.report)(&file, &mut page);
+        let written = (side.report)(Policy::Preemptive, &file, &mut page);
         let time = start.elapsed().as_nanos() as f64;
         page.truncate(usize::try_from(written).unwrap_or(0));
         // Nobody listens once it is given up.
@@ -153,7 +154,7 @@ fn cases() -> Vec<Case> {
 fn report(name: &'static str, file: Vec<u8>) -> Case {
     let mut page = [0; LONGEST_REPORT];
     let call = move |side: &Side| {
-        let written = (side.report)(black_box(&file), &mut page);
+        let written = (side.report)(Policy::Preemptive, black_box(&file), &mut page);
         black_box(&page);
         written
     };
@@ -161,7 +162,7 @@ fn report(name: &'static str, file: Vec<u8>) -> Case {
 }
 
 fn quote(name: &'static str, file: Vec<u8>) -> Case {
-    Case { name, units: 1, call: Box::new(move |side| (side.quote)(black_box(&file))) }
+    Case { name, units: 1, call: Box::new(move |side| (side.quote)(Policy::Preemptive, black_box(&file))) }
 }
 
 /// The reading alone has no call of its own: a run without ticks reads, judges and starts.
@@ -181,7 +182,7 @@ fn ticks(name: &'static str, file: &[u8], knob: Knob) -> Case {
 
 fn run(side: &Side, file: &[u8], calls: &[u8], outcomes: &mut [u8]) -> i64 {
     let mut record = [0; RECORD_BYTES];
-    let code = (side.run)(black_box(file), black_box(calls), outcomes, &mut record);
+    let code = (side.run)(Policy::Preemptive, black_box(file), black_box(calls), outcomes, &mut record);
     black_box((outcomes, &record));
     code
 }

@@ -1,7 +1,7 @@
 //! `front`: runs the built program `bench` on inputs that fail, trickle or never end and on outputs that fail, and
 //! holds what it writes to plain Rust's report. A report on a part of the input may have too high a tempo.
 
-use compare::plain::report::report;
+use compare::plain::{Policy, report};
 use compare::{generate, vectors};
 use std::fmt;
 use std::fs::{self, File, OpenOptions};
@@ -58,8 +58,8 @@ fn main() -> ExitCode {
 fn inputs(program: &Program, tally: &mut Tally) -> io::Result<()> {
     let file = generate::boxed().bytes();
     let file = file.as_slice();
-    let whole = || Expected::Report(report(file));
-    assert_ne!(report(file), report(&file[..CUT]));
+    let whole = || Expected::Report(report::report(Policy::Preemptive, file));
+    assert_ne!(report::report(Policy::Preemptive, file), report::report(Policy::Preemptive, &file[..CUT]));
 
     tally.one("Box from a file", program.reads(File::open(at_home(BOX))?)?, whole());
     tally.one("Box through a pipe", program.fed(Feed::whole(file))?, whole());
@@ -75,13 +75,20 @@ fn inputs(program: &Program, tally: &mut Tally) -> io::Result<()> {
     let never = Feed { rest: vec![], end: End::Never, ..Feed::late(file) };
     tally.one("non-blocking: 51 bytes of Box, the rest never", program.fed(never)?, Expected::Failure(READ));
     let late = program.fed(Feed::late(file))?;
-    tally.one("non-blocking: 51 bytes of Box, the rest late", late, Expected::Either(report(file), READ));
+    tally.one(
+        "non-blocking: 51 bytes of Box, the rest late",
+        late,
+        Expected::Either(report::report(Policy::Preemptive, file), READ),
+    );
     let mut runs = Vec::new();
     for millis in (30..70).step_by(2) {
         // The program starts after about 50 milliseconds.
         let command = program.in_shell("sleep 0.05; exec \"$0\"");
         let feed = Feed { pause: Duration::from_millis(millis), ..Feed::late(file) };
-        runs.push((run_fed(command, feed)?, Expected::Either(report(file), READ)));
+        runs.push((
+            run_fed(command, feed)?,
+            Expected::Either(report::report(Policy::Preemptive, file), READ),
+        ));
     }
     tally.many("non-blocking: 51 bytes of Box, the rest before or after the first read", runs);
     Ok(())
@@ -99,20 +106,28 @@ fn broken_inputs(program: &Program, tally: &mut Tally) -> io::Result<()> {
 
 /// None, and more than the program looks at.
 fn long_inputs(program: &Program, tally: &mut Tally) -> io::Result<()> {
-    tally.one("no input", program.reads(File::open("/dev/null")?)?, Expected::Report(report(&[])));
+    tally.one(
+        "no input",
+        program.reads(File::open("/dev/null")?)?,
+        Expected::Report(report::report(Policy::Preemptive, &[])),
+    );
     let mut long = generate::boxed().bytes();
     long.resize(10_000_000, 0);
-    assert_eq!(report(&long), report(&long[..INPUT]));
-    tally.one("Box and zeros, 10 MB", program.fed(Feed::whole(&long))?, Expected::Report(report(&long)));
+    assert_eq!(report::report(Policy::Preemptive, &long), report::report(Policy::Preemptive, &long[..INPUT]));
+    tally.one(
+        "Box and zeros, 10 MB",
+        program.fed(Feed::whole(&long))?,
+        Expected::Report(report::report(Policy::Preemptive, &long)),
+    );
     let zeros = program.reads(File::open("/dev/zero")?)?;
-    tally.one("zeros without end", zeros, Expected::Report(report(&[0; INPUT])));
+    tally.one("zeros without end", zeros, Expected::Report(report::report(Policy::Preemptive, &[0; INPUT])));
     Ok(())
 }
 
 /// The recorded reports, through the program.
 fn recorded(program: &Program, tally: &mut Tally) -> io::Result<()> {
     let mut runs = Vec::new();
-    for vector in vectors::reports() {
+    for vector in vectors::reports(Policy::Preemptive) {
         runs.push((program.fed(Feed::whole(vector.file))?, Expected::Report(vector.report.to_vec())));
     }
     tally.many("recorded reports", runs);
@@ -145,7 +160,11 @@ fn outputs(program: &Program, tally: &mut Tally) -> io::Result<()> {
     ran.out = fs::read(&output)?;
     fs::remove_file(&input)?;
     fs::remove_file(&output)?;
-    tally.one("a file that may not grow", ran, Expected::Cut(report(&file), WRITE));
+    tally.one(
+        "a file that may not grow",
+        ran,
+        Expected::Cut(report::report(Policy::Preemptive, &file), WRITE),
+    );
     Ok(())
 }
 
@@ -159,7 +178,7 @@ fn interruptions(program: &Program, tally: &mut Tally) -> io::Result<()> {
         return Ok(());
     }
     let path = at_home(BOX).canonicalize()?;
-    let expected = || Expected::Report(report(&generate::boxed().bytes()));
+    let expected = || Expected::Report(report::report(Policy::Preemptive, &generate::boxed().bytes()));
     for (name, call) in [("interrupted reads", "read"), ("interrupted writes", "write")] {
         let mut traced = by_strace();
         // Only calls on the input, as the loader reads too; of writes there are no others.

@@ -14,6 +14,8 @@ pub mod verdicts;
 mod definition;
 #[cfg(test)]
 mod figures;
+#[cfg(test)]
+mod promise;
 
 use crate::{CALL_BYTES, RECORD_BYTES, Side};
 use description::Description;

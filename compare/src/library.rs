@@ -16,11 +16,26 @@ pub fn side() -> Option<Side> {
 
 #[cfg(proved)]
 mod linked {
-    // A `&[u8]` of the library's functions passes as pointer and length.
+    use crate::plain::Policy;
+
+    // A `&[u8]` of the library's functions passes as pointer and length. The calls of the hold-on
+    // model have the parameters and answers of the others.
     unsafe extern "C" {
         fn bench_report(file: *const u8, file_len: usize, out: *mut u8, out_len: usize) -> i64;
+        fn bench_hold_report(file: *const u8, file_len: usize, out: *mut u8, out_len: usize) -> i64;
         fn bench_quote(file: *const u8, file_len: usize) -> i64;
+        fn bench_hold_quote(file: *const u8, file_len: usize) -> i64;
         fn bench_run(
+            file: *const u8,
+            file_len: usize,
+            calls: *const u8,
+            calls_len: usize,
+            outcomes: *mut u8,
+            outcomes_len: usize,
+            record: *mut u8,
+            record_len: usize,
+        ) -> i64;
+        fn bench_hold_run(
             file: *const u8,
             file_len: usize,
             calls: *const u8,
@@ -36,17 +51,29 @@ mod linked {
     // that lives through the call, the slices written to are borrowed alone, and the library
     // keeps no pointer.
 
-    pub fn report(file: &[u8], page: &mut [u8]) -> i64 {
-        unsafe { bench_report(file.as_ptr(), file.len(), page.as_mut_ptr(), page.len()) }
+    pub fn report(policy: Policy, file: &[u8], page: &mut [u8]) -> i64 {
+        let call = match policy {
+            Policy::Preemptive => bench_report,
+            Policy::HoldOn => bench_hold_report,
+        };
+        unsafe { call(file.as_ptr(), file.len(), page.as_mut_ptr(), page.len()) }
     }
 
-    pub fn quote(file: &[u8]) -> i64 {
-        unsafe { bench_quote(file.as_ptr(), file.len()) }
+    pub fn quote(policy: Policy, file: &[u8]) -> i64 {
+        let call = match policy {
+            Policy::Preemptive => bench_quote,
+            Policy::HoldOn => bench_hold_quote,
+        };
+        unsafe { call(file.as_ptr(), file.len()) }
     }
 
-    pub fn run(file: &[u8], calls: &[u8], outcomes: &mut [u8], record: &mut [u8]) -> i64 {
+    pub fn run(policy: Policy, file: &[u8], calls: &[u8], outcomes: &mut [u8], record: &mut [u8]) -> i64 {
+        let call = match policy {
+            Policy::Preemptive => bench_run,
+            Policy::HoldOn => bench_hold_run,
+        };
         unsafe {
-            bench_run(
+            call(
                 file.as_ptr(),
                 file.len(),
                 calls.as_ptr(),

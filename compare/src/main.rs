@@ -1,9 +1,11 @@
-//! `compare`: puts the same inputs to the proved library and to plain Rust, and counts where they
-//! agree. Without the proved archive, plain Rust is compared with the recorded answers alone.
+//! `compare`: puts the same inputs to the proved library and to plain Rust, on both models, and counts
+//! where they agree. Without the proved archive, plain Rust is compared with the recorded answers alone.
 
 use compare::generate::{self, Random, Run};
-use compare::vectors::{self, RunVector};
-use compare::{CALL_BYTES, LONGEST_REPORT, RECORD_BYTES, Side, library, plain};
+use compare::plain::machine::{HoldOnMachine, read_call};
+use compare::plain::{self, Plan, Policy};
+use compare::vectors::{self, ReportVector, RunVector};
+use compare::{CALL_BYTES, LONGEST_REPORT, RECORD_BYTES, Side, library};
 use std::fmt;
 use std::ops::Range;
 use std::process::ExitCode;
@@ -68,40 +70,43 @@ impl fmt::Display for Difference {
 
 /// One side against the recorded answers.
 fn check_vectors(side: &Side) -> Result<(), Difference> {
-    let reports = vectors::reports();
-    for vector in &reports {
-        let recorded = Page { code: vector.report.len() as i64, page: padded(vector.report, LONGEST_REPORT) };
-        let input = || format!("report on {}", hex(vector.file));
-        same(input, ("recorded", recorded), (side.name, report(side, vector.file, LONGEST_REPORT)))?;
+    for policy in Policy::BOTH {
+        let (reports, runs) = (vectors::reports(policy), vectors::knob_runs(policy));
+        reports.iter().try_for_each(|vector| check_report(policy, side, vector))?;
+        runs.iter().try_for_each(|vector| check_run(policy, side, vector, |record| record))?;
+        let (name, reports, runs) = (side.name, reports.len(), runs.len());
+        println!("{name} and the recorded answers, {policy}: {reports} reports and {runs} runs agree");
     }
-    let knob_runs = vectors::knob_runs();
-    for vector in &knob_runs {
-        check_run(side, vector, |record| record)?;
+    let runs = vectors::steady_runs();
+    for vector in &runs {
+        check_run(Policy::Preemptive, side, vector, |record| vectors::at_one_tempo(record, vector))?;
     }
-    let steady_runs = vectors::steady_runs();
-    for vector in &steady_runs {
-        check_run(side, vector, |record| vectors::at_one_tempo(record, vector))?;
-    }
-    println!(
-        "{} and the recorded answers: {} reports, {} runs and {} runs at one tempo agree",
-        side.name,
-        reports.len(),
-        knob_runs.len(),
-        steady_runs.len()
-    );
+    println!("{} and the recorded answers, at one tempo: {} runs agree", side.name, runs.len());
     Ok(())
 }
 
-/// One side against a recorded run. `terms` puts the record that the side left as the recorded one is.
-fn check_run(side: &Side, vector: &RunVector, terms: impl Fn(Vec<u8>) -> Vec<u8>) -> Result<(), Difference> {
-    let recorded = Ran { code: 0, outcomes: vector.outcomes.to_vec(), record: vector.record.to_vec() };
-    let run = Run { file: vector.file.to_vec(), calls: vector.calls.to_vec() };
-    let mut answer = ticks(side, &run, vector.outcomes.len(), RECORD_BYTES);
-    answer.record = terms(answer.record);
-    same(|| run_words(&run), ("recorded", recorded), (side.name, answer))
+fn check_report(policy: Policy, side: &Side, vector: &ReportVector) -> Result<(), Difference> {
+    let recorded = Page { code: vector.report.len() as i64, page: padded(vector.report, LONGEST_REPORT) };
+    let answer = report(policy, side, vector.file, LONGEST_REPORT);
+    let input = || format!("{policy} report on {}", hex(vector.file));
+    same(input, ("recorded", recorded), (side.name, answer))
 }
 
-/// How many answers agreed, and of which kinds they were.
+/// One side against a recorded run. `terms` puts the record that the side left as the recorded one is.
+fn check_run(
+    policy: Policy,
+    side: &Side,
+    vector: &RunVector,
+    terms: impl Fn(Vec<u8>) -> Vec<u8>,
+) -> Result<(), Difference> {
+    let recorded = Ran { code: 0, outcomes: vector.outcomes.to_vec(), record: vector.record.to_vec() };
+    let run = Run { file: vector.file.to_vec(), calls: vector.calls.to_vec() };
+    let mut answer = ticks(policy, side, &run, vector.outcomes.len(), RECORD_BYTES);
+    answer.record = terms(answer.record);
+    same(|| run_words(policy, &run), ("recorded", recorded), (side.name, answer))
+}
+
+/// How many answers on a model agreed, and of which kinds they were.
 #[derive(Default)]
 struct Tally {
     reports: u64,
@@ -117,80 +122,110 @@ struct Tally {
     /// Calls of runs by their outcomes, 0 for a tick.
     calls: [u64; 17],
     runs_with_drops: u64,
+    /// On the hold-on model, ticks that leave a higher task awake than the one that is running.
+    held_back: u64,
 }
 
-/// The proved side against plain Rust, on every edge and then on random inputs.
+/// The proved side against plain Rust, on every edge and then on random inputs, each on both models.
 fn compare(proved: &Side, cases: u64, seed: u64) -> Result<(), Difference> {
-    let mut tally = Tally::default();
+    let mut models = Policy::BOTH.map(|policy| Model { policy, proved, tally: Tally::default() });
     let mut random = Random::new(seed);
     for file in generate::edges() {
-        compare_file(proved, &file, &mut random, &mut tally)?;
+        models.iter_mut().try_for_each(|model| model.compare_file(&file, &mut random))?;
     }
     for case in 0..cases {
         if case % RUN_EVERY == 0 {
-            compare_run(proved, &generate::run(&mut random), &mut random, &mut tally)?;
+            let run = generate::run(&mut random);
+            models.iter_mut().try_for_each(|model| model.compare_run(&run, &mut random))?;
         } else {
-            compare_file(proved, &generate::file(&mut random), &mut random, &mut tally)?;
+            let file = generate::file(&mut random);
+            models.iter_mut().try_for_each(|model| model.compare_file(&file, &mut random))?;
         }
     }
-    println!("{tally}");
+    for Model { policy, tally, .. } in models {
+        println!("proved and plain, {policy}: {tally}");
+    }
     Ok(())
 }
 
-fn compare_file(
-    proved: &Side,
-    file: &[u8],
-    random: &mut Random,
-    tally: &mut Tally,
-) -> Result<(), Difference> {
-    let expected = report(&plain::SIDE, file, LONGEST_REPORT);
-    // The longest page, one that the report just fits, and one that is too short for it.
-    let needed = expected.code as usize;
-    for room in [LONGEST_REPORT, needed, random.index(needed)] {
-        let input = || format!("report into {room} bytes on {}", hex(file));
-        same(input, ("plain", report(&plain::SIDE, file, room)), (proved.name, report(proved, file, room)))?;
-    }
-    tally.reports += 1;
-
-    let quoted = (plain::SIDE.quote)(file);
-    let answer = Number((proved.quote)(file));
-    same(|| format!("quote of {}", hex(file)), ("plain", Number(quoted)), (proved.name, answer))?;
-    tally.quotes += 1;
-    tally.note_quote(quoted);
-    compare_steady(proved, file, quoted, tally)
+/// The comparison on one model.
+struct Model<'a> {
+    policy: Policy,
+    proved: &'a Side,
+    tally: Tally,
 }
 
-/// A verdict goes by structure and spacings alone: the file with each source fixed at its spacing
-/// at the tempo shown has the same lines after the first.
-fn compare_steady(proved: &Side, file: &[u8], quoted: i64, tally: &mut Tally) -> Result<(), Difference> {
-    let shown = u32::try_from(quoted).unwrap_or(plain::SLOWEST);
-    let Some(steady) = generate::steady(file, shown) else {
-        return Ok(());
-    };
-    for side in [&plain::SIDE, proved] {
-        let input = || format!("links of {} and of {}", hex(file), hex(&steady));
-        same(input, (side.name, links(side, file)), ("steady", links(side, &steady)))?;
+impl Model<'_> {
+    fn compare_file(&mut self, file: &[u8], random: &mut Random) -> Result<(), Difference> {
+        let (policy, proved) = (self.policy, self.proved);
+        let expected = report(policy, &plain::SIDE, file, LONGEST_REPORT);
+        // The longest page, one that the report just fits, and one that is too short for it.
+        let needed = expected.code as usize;
+        for room in [LONGEST_REPORT, needed, random.index(needed)] {
+            let input = || format!("{policy} report into {room} bytes on {}", hex(file));
+            let [plain, answer] = [&plain::SIDE, proved].map(|side| report(policy, side, file, room));
+            same(input, ("plain", plain), (proved.name, answer))?;
+        }
+        self.tally.reports += 1;
+
+        let quoted = (plain::SIDE.quote)(policy, file);
+        let answer = Number((proved.quote)(policy, file));
+        let input = || format!("{policy} quote of {}", hex(file));
+        same(input, ("plain", Number(quoted)), (proved.name, answer))?;
+        self.tally.quotes += 1;
+        self.tally.note_quote(quoted);
+        self.compare_steady(file, quoted)
     }
-    tally.steady += 1;
-    Ok(())
+
+    /// A verdict goes by structure and spacings alone: the file with each source fixed at its spacing
+    /// at the tempo shown has the same link lines.
+    fn compare_steady(&mut self, file: &[u8], quoted: i64) -> Result<(), Difference> {
+        let shown = u32::try_from(quoted).unwrap_or(plain::SLOWEST);
+        let Some(steady) = generate::steady(file, shown) else {
+            return Ok(());
+        };
+        let policy = self.policy;
+        for side in [&plain::SIDE, self.proved] {
+            let input = || format!("{policy} links of {} and of {}", hex(file), hex(&steady));
+            same(input, (side.name, links(policy, side, file)), ("steady", links(policy, side, &steady)))?;
+        }
+        self.tally.steady += 1;
+        Ok(())
+    }
+
+    fn compare_run(&mut self, run: &Run, random: &mut Random) -> Result<(), Difference> {
+        let (policy, proved) = (self.policy, self.proved);
+        let calls = run.calls.len() / CALL_BYTES;
+        let (outcomes, record) = match random.below(20) {
+            0 => (random.index(calls + 1), RECORD_BYTES),
+            1 => (calls, random.index(RECORD_BYTES)),
+            2 => (calls + random.index(5), RECORD_BYTES + random.index(5)),
+            _ => (calls, RECORD_BYTES),
+        };
+        let expected = ticks(policy, &plain::SIDE, run, outcomes, record);
+        if expected.code == 0 {
+            self.tally.note_run(&expected.outcomes[..calls], &expected.record);
+            if policy == Policy::HoldOn {
+                self.tally.held_back += held_back(run);
+            }
+        }
+        let input = || format!("{} into {outcomes} and {record} bytes", run_words(policy, run));
+        let answer = ticks(policy, proved, run, outcomes, record);
+        same(input, ("plain", expected), (proved.name, answer))?;
+        self.tally.runs += 1;
+        Ok(())
+    }
 }
 
-fn compare_run(proved: &Side, run: &Run, random: &mut Random, tally: &mut Tally) -> Result<(), Difference> {
-    let calls = run.calls.len() / CALL_BYTES;
-    let (outcomes, record) = match random.below(20) {
-        0 => (random.index(calls + 1), RECORD_BYTES),
-        1 => (calls, random.index(RECORD_BYTES)),
-        2 => (calls + random.index(5), RECORD_BYTES + random.index(5)),
-        _ => (calls, RECORD_BYTES),
-    };
-    let expected = ticks(&plain::SIDE, run, outcomes, record);
-    if expected.code == 0 {
-        tally.note_run(&expected.outcomes[..calls], &expected.record);
-    }
-    let input = || format!("{} into {outcomes} and {record} bytes", run_words(run));
-    same(input, ("plain", expected), (proved.name, ticks(proved, run, outcomes, record)))?;
-    tally.runs += 1;
-    Ok(())
+/// The ticks of a hold-on run that leave a higher task awake than the one that is running.
+fn held_back(run: &Run) -> u64 {
+    let Ok(plan) = Plan::read(&run.file) else { return 0 };
+    let mut machine = HoldOnMachine::start(&plan.description);
+    let calls = run.calls.chunks_exact(CALL_BYTES).map(read_call);
+    let ticks = calls.filter(|&(arrivals, tempo, finish)| {
+        machine.tick(arrivals, tempo, finish).is_ok() && machine.holds_back()
+    });
+    ticks.count() as u64
 }
 
 impl Tally {
@@ -213,11 +248,7 @@ impl Tally {
 
 impl fmt::Display for Tally {
     fn fmt(&self, f: &mut fmt::Formatter) -> fmt::Result {
-        writeln!(
-            f,
-            "proved and plain: {} reports, {} quotes and {} runs agree",
-            self.reports, self.quotes, self.runs
-        )?;
+        writeln!(f, "{} reports, {} quotes and {} runs agree", self.reports, self.quotes, self.runs)?;
         writeln!(f, "  links: those of {} files agree with those of fixed sources alike", self.steady)?;
         writeln!(
             f,
@@ -233,7 +264,11 @@ impl fmt::Display for Tally {
         for (number, count) in self.calls.iter().enumerate().skip(1).filter(|(_, count)| **count > 0) {
             write!(f, " {number} × {count},")?;
         }
-        write!(f, " and {} runs end with a dropped event", self.runs_with_drops)
+        write!(f, " and {} runs end with a dropped event", self.runs_with_drops)?;
+        match self.held_back {
+            0 => Ok(()),
+            ticks => write!(f, "\n  {ticks} of the ticks leave a higher task awake than the one that runs"),
+        }
     }
 }
 
@@ -255,24 +290,25 @@ struct Ran {
 #[derive(PartialEq)]
 struct Number(i64);
 
-fn report(side: &Side, file: &[u8], room: usize) -> Page {
+fn report(policy: Policy, side: &Side, file: &[u8], room: usize) -> Page {
     let mut page = vec![UNTOUCHED; room];
-    let code = (side.report)(file, &mut page);
+    let code = (side.report)(policy, file, &mut page);
     Page { code, page }
 }
 
-/// The lines of a report after its first.
-fn links(side: &Side, file: &[u8]) -> Page {
-    let whole = report(side, file, LONGEST_REPORT);
+/// The link lines of a report.
+fn links(policy: Policy, side: &Side, file: &[u8]) -> Page {
+    let whole = report(policy, side, file, LONGEST_REPORT);
     let text = &whole.page[..usize::try_from(whole.code).unwrap_or(0)];
-    let first = text.iter().position(|&byte| byte == b'\n').map_or(0, |end| end + 1);
-    Page { code: (text.len() - first) as i64, page: text[first..].to_vec() }
+    let lines = text.split_inclusive(|&byte| byte == b'\n').filter(|line| line.starts_with(b"link "));
+    let page: Vec<u8> = lines.flatten().copied().collect();
+    Page { code: page.len() as i64, page }
 }
 
-fn ticks(side: &Side, run: &Run, outcomes: usize, record: usize) -> Ran {
+fn ticks(policy: Policy, side: &Side, run: &Run, outcomes: usize, record: usize) -> Ran {
     let mut outcomes = vec![UNTOUCHED; outcomes];
     let mut record = vec![UNTOUCHED; record];
-    let code = (side.run)(&run.file, &run.calls, &mut outcomes, &mut record);
+    let code = (side.run)(policy, &run.file, &run.calls, &mut outcomes, &mut record);
     Ran { code, outcomes, record }
 }
 
@@ -322,8 +358,8 @@ fn same<A: Words>(input: impl Fn() -> String, one: (&str, A), other: (&str, A)) 
     Err(Difference { input: input(), one: words(one), other: words(other) })
 }
 
-fn run_words(run: &Run) -> String {
-    format!("run of {} with calls {}", hex(&run.file), hex(&run.calls))
+fn run_words(policy: Policy, run: &Run) -> String {
+    format!("{policy} run of {} with calls {}", hex(&run.file), hex(&run.calls))
 }
 
 fn hex(bytes: &[u8]) -> String {

@@ -1,15 +1,17 @@
 //! The recorded answers of another implementation of document 01 and its change requests: the data of the crate `vectors`.
 
-use crate::plain::Plan;
+use crate::plain::{Plan, Policy};
 use std::ops::Range;
 
-/// Reports of document 01's files, and of files with swing (C-11).
+/// Reports of document 01's files, of files with swing (C-11), and on the hold-on model (C-14).
 static REPORTS: [&[u8]; 2] = [
     include_bytes!("../../crates/vectors/data/reports.bin"),
     include_bytes!("../../crates/vectors/data/swing.bin"),
 ];
-/// Runs with a tempo in each call (C-13), and document 01's, each at one tempo.
+static HOLD_REPORTS: [&[u8]; 1] = [include_bytes!("../../crates/vectors/data/hold-reports.bin")];
+/// Runs with a tempo in each call (C-13), the same on the hold-on model (C-14), and document 01's, each at one tempo.
 static KNOB_RUNS: &[u8] = include_bytes!("../../crates/vectors/data/knob-runs.bin");
+static HOLD_RUNS: &[u8] = include_bytes!("../../crates/vectors/data/hold-runs.bin");
 static STEADY_RUNS: &[u8] = include_bytes!("../../crates/vectors/data/steady-runs.bin");
 
 /// The ages of a record; behind them are the fastest tempos.
@@ -29,10 +31,14 @@ pub struct RunVector {
     pub record: &'static [u8],
 }
 
-/// All recorded reports: repeatedly length, file, length, report.
-pub fn reports() -> Vec<ReportVector> {
+/// All recorded reports of a model: repeatedly length, file, length, report.
+pub fn reports(policy: Policy) -> Vec<ReportVector> {
+    let recorded: &[&[u8]] = match policy {
+        Policy::Preemptive => &REPORTS,
+        Policy::HoldOn => &HOLD_REPORTS,
+    };
     let mut vectors = Vec::new();
-    for recorded in REPORTS {
+    for recorded in recorded {
         let mut bytes = Cursor(recorded);
         while !bytes.0.is_empty() {
             vectors.push(ReportVector { file: bytes.sized(), report: bytes.sized() });
@@ -41,9 +47,12 @@ pub fn reports() -> Vec<ReportVector> {
     vectors
 }
 
-/// All recorded runs with a tempo in each call.
-pub fn knob_runs() -> Vec<RunVector> {
-    runs(KNOB_RUNS)
+/// All recorded runs of a model with a tempo in each call.
+pub fn knob_runs(policy: Policy) -> Vec<RunVector> {
+    runs(match policy {
+        Policy::Preemptive => KNOB_RUNS,
+        Policy::HoldOn => HOLD_RUNS,
+    })
 }
 
 /// All runs of document 01, each with its tempo in every call; the record is as [`at_one_tempo`]
@@ -115,30 +124,34 @@ mod tests {
 
     #[test]
     fn plain_reports_agree() {
-        let vectors = reports();
-        assert_eq!(vectors.len(), 379 + 300);
-        for vector in vectors {
-            let mut page = [0; LONGEST_REPORT];
-            let written = (SIDE.report)(vector.file, &mut page) as usize;
-            assert_eq!(&page[..written], vector.report, "{:02x?}", vector.file);
+        for (policy, count) in [(Policy::Preemptive, 379 + 300), (Policy::HoldOn, 300)] {
+            let vectors = reports(policy);
+            assert_eq!(vectors.len(), count);
+            for vector in vectors {
+                let mut page = [0; LONGEST_REPORT];
+                let written = (SIDE.report)(policy, vector.file, &mut page) as usize;
+                assert_eq!(&page[..written], vector.report, "{:02x?}", vector.file);
+            }
         }
     }
 
     /// The record that plain Rust leaves, where its outcomes are the recorded ones.
-    fn record_left(run: &RunVector) -> Vec<u8> {
+    fn record_left(policy: Policy, run: &RunVector) -> Vec<u8> {
         let mut outcomes = vec![0; run.outcomes.len()];
         let mut record = vec![0; RECORD_BYTES];
-        assert_eq!((SIDE.run)(run.file, run.calls, &mut outcomes, &mut record), 0);
+        assert_eq!((SIDE.run)(policy, run.file, run.calls, &mut outcomes, &mut record), 0);
         assert_eq!(outcomes, run.outcomes, "{:02x?}", run.file);
         record
     }
 
     #[test]
     fn plain_knob_runs_agree() {
-        let vectors = knob_runs();
-        assert_eq!(vectors.len(), 120);
-        for run in vectors {
-            assert_eq!(record_left(&run), run.record, "{:02x?}", run.file);
+        for policy in Policy::BOTH {
+            let vectors = knob_runs(policy);
+            assert_eq!(vectors.len(), 120);
+            for run in vectors {
+                assert_eq!(record_left(policy, &run), run.record, "{:02x?}", run.file);
+            }
         }
     }
 
@@ -147,7 +160,8 @@ mod tests {
         let vectors = steady_runs();
         assert_eq!(vectors.len(), 150);
         for run in vectors {
-            assert_eq!(at_one_tempo(record_left(&run), &run), run.record, "{:02x?}", run.file);
+            let record = record_left(Policy::Preemptive, &run);
+            assert_eq!(at_one_tempo(record, &run), run.record, "{:02x?}", run.file);
         }
     }
 }

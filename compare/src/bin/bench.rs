@@ -1,8 +1,9 @@
-//! `bench`: the time of each call, proved and plain Rust on the same inputs in the same run.
-//! Without the proved archive it times plain Rust alone.
+//! `bench`: the time of each call, proved and plain Rust on the same inputs in the same run, on both
+//! models. Without the proved archive it times plain Rust alone.
 
 use compare::generate::{self, Draft, Knob};
-use compare::{LONGEST_REPORT, RECORD_BYTES, Side, library, plain};
+use compare::plain::{self, Policy};
+use compare::{CALL_BYTES, LONGEST_REPORT, RECORD_BYTES, Side, library};
 use std::hint::black_box;
 use std::sync::mpsc;
 use std::thread;
@@ -20,9 +21,14 @@ const GIVE_UP: Duration = Duration::from_secs(60);
 const TICKS: usize = 100_000;
 const TEMPO: u32 = 1_200;
 
+/// The models that a call is timed on.
+const ONE: &[Policy] = &[Policy::Preemptive];
+const BOTH: &[Policy] = &Policy::BOTH;
+
 /// One line of the table: a call, and how many units of work (calls, or ticks) it is.
 struct Case {
     name: &'static str,
+    policy: Policy,
     units: usize,
     call: Box<dyn FnMut(&Side) -> i64>,
 }
@@ -31,15 +37,12 @@ fn main() {
     let sides: Vec<Side> = [Some(plain::SIDE), library::side()].into_iter().flatten().collect();
     println!("time per call, or per tick in a run; median of up to {REPETITIONS} repetitions\n");
     print_head(&sides);
-    for mut case in cases() {
-        let answers: Vec<i64> = sides.iter().map(|side| (case.call)(side)).collect();
-        assert!(
-            answers.iter().all(|answer| *answer == answers[0]),
-            "{}: answers differ: {answers:?}",
-            case.name
-        );
-        let times = medians(&mut case, &sides);
-        print_line(&case, &times);
+    for mut cases in rows() {
+        cases.iter_mut().for_each(|case| assert_same(case, &sides));
+        let times = medians_in_turns(&mut cases, &sides);
+        for (case, case_times) in cases.iter().zip(&times) {
+            print_line(case, case_times, &times[0]);
+        }
     }
     println!("\ncost of one more tempo tried in a quote\n");
     print_head(&sides);
@@ -48,8 +51,8 @@ fn main() {
     }
     println!("\ntime of one report on levels that take many rounds\n");
     print_head(&sides);
-    for (name, file) in slow_files() {
-        let timed: Vec<_> = sides.iter().map(|side| time_once(*side, &file)).collect();
+    for (name, policy, file) in slow_files() {
+        let timed: Vec<_> = sides.iter().map(|side| time_once(policy, *side, &file)).collect();
         let mut answers = timed.iter().flatten().map(|(_, answer)| answer);
         let first = answers.next();
         assert!(answers.all(|answer| Some(answer) == first), "{name}: answers differ");
@@ -72,10 +75,11 @@ fn samples() -> Vec<(&'static str, Vec<u8>)> {
 fn print_tempo(name: &'static str, file: &[u8], sides: &[Side]) {
     let plan = plain::Plan::read(file).unwrap_or_else(|_| panic!("{name}: refused"));
     let mut tried = 0;
-    let quoted = plain::quote::quote_telling(&plan, |_| tried += 1);
+    let quoted = plain::quote::quote_telling(Policy::Preemptive, &plan, |_| tried += 1);
     let steady = quoted.ok().and_then(|tempo| generate::steady(file, tempo));
     let steady = steady.unwrap_or_else(|| panic!("{name}: no tempo"));
-    let times = medians_in_turns(&mut [quote(name, file.to_vec()), quote(name, steady)], sides);
+    let mut cases: Vec<Case> = [file, &steady].into_iter().flat_map(|file| quote(name, file, ONE)).collect();
+    let times = medians_in_turns(&mut cases, sides);
     let times: Vec<f64> =
         times[0].iter().zip(&times[1]).map(|(with, without)| (with - without) / f64::from(tried)).collect();
     print!("{:<46}", format!("{name}, {tried} tempos tried"));
@@ -88,27 +92,35 @@ fn print_tempo(name: &'static str, file: &[u8], sides: &[Side]) {
     println!();
 }
 
-/// Files with slow levels. The last is the slowest for plain Rust: a report that is given up goes on beside what follows.
-fn slow_files() -> Vec<(&'static str, Vec<u8>)> {
-    let small_spacings = generate::many_levels(&generate::small_spacings_of_many());
+/// Files with slow levels, two of them on the hold-on model too: its rounds at a task are those of the
+/// level above it. The last is the slowest for plain Rust: a report that is given up goes on beside
+/// what follows.
+fn slow_files() -> Vec<(&'static str, Policy, Vec<u8>)> {
+    use Policy::{HoldOn, Preemptive};
+    let worst = generate::one_level(&generate::worst_level()).bytes();
+    let worst_of_many = generate::many_levels(&generate::worst_of_many()).bytes();
+    let small = generate::one_level(&generate::small_spacings()).bytes();
+    let small_of_many = generate::many_levels(&generate::small_spacings_of_many()).bytes();
     vec![
-        ("one level (2, 3, 7, 43, 1807, 3290000)", generate::level_1807().bytes()),
-        ("ten such levels", generate::ten_levels().bytes()),
-        ("the worst level found", generate::one_level(&generate::worst_level()).bytes()),
-        ("the worst of many found (32 tasks)", generate::many_levels(&generate::worst_of_many()).bytes()),
-        ("the worst level for jumps alone", generate::one_level(&generate::small_spacings()).bytes()),
-        ("the worst of many for jumps alone (32 tasks)", small_spacings.bytes()),
+        ("one level (2, 3, 7, 43, 1807, 3290000)", Preemptive, generate::level_1807().bytes()),
+        ("ten such levels", Preemptive, generate::ten_levels().bytes()),
+        ("the worst level found", Preemptive, worst.clone()),
+        ("  the same, hold-on", HoldOn, worst),
+        ("the worst of many found (32 tasks)", Preemptive, worst_of_many.clone()),
+        ("  the same, hold-on", HoldOn, worst_of_many),
+        ("the worst level for jumps alone", Preemptive, small),
+        ("the worst of many for jumps alone (32 tasks)", Preemptive, small_of_many),
     ]
 }
 
 /// The time of a report in nanoseconds, and the report; none if it takes too long.
-fn time_once(side: Side, file: &[u8]) -> Option<(f64, Vec<u8>)> {
+fn time_once(policy: Policy, side: Side, file: &[u8]) -> Option<(f64, Vec<u8>)> {
     let file = file.to_vec();
     let (sender, receiver) = mpsc::channel();
     thread::spawn(move || {
         let mut page = vec![0; LONGEST_REPORT];
         let start = Instant::now();
-        let written = (side.report)(&file, &mut page);
+        let written = (side.report)(policy, &file, &mut page);
         let time = start.elapsed().as_nanos() as f64;
         page.truncate(usize::try_from(written).unwrap_or(0));
         // Nobody listens once it is given up.
@@ -117,26 +129,27 @@ fn time_once(side: Side, file: &[u8]) -> Option<(f64, Vec<u8>)> {
     receiver.recv_timeout(GIVE_UP).ok()
 }
 
-fn cases() -> Vec<Case> {
+/// The rows of the table: a call on each model that it is timed on.
+fn rows() -> Vec<Vec<Case>> {
     let small = generate::boxed().bytes();
     let typical = generate::bench_typical();
     let swung = generate::bench_swung();
     let full = generate::bench_full();
     vec![
-        report("report, small (3 tasks, 2 sources, 4 links)", small.clone()),
-        report("report, typical (12, 5, 30)", typical.clone()),
-        report("report, typical with swing", swung.clone()),
-        report("report, full (32, 16, 256)", full.clone()),
-        quote("quote, small", small.clone()),
-        quote("quote, typical", typical.clone()),
-        quote("quote, typical with swing", swung.clone()),
-        quote("quote, full", full.clone()),
-        read("reading accepted, typical (run of no ticks)", typical.clone()),
-        read("reading accepted, full (run of no ticks)", full.clone()),
-        quote("reading refused at the last field, full", refused_late(&full)),
-        report("report, dense (2^30 paths)", generate::dense().bytes()),
-        report("report, hostile (10^9 bare rounds)", generate::hostile().bytes()),
-        report("report, loaded by 1 exactly (3, 3, 3)", generate::exactly_one().bytes()),
+        report("report, small (3 tasks, 2 sources, 4 links)", &small, BOTH),
+        report("report, typical (12, 5, 30)", &typical, BOTH),
+        report("report, typical with swing", &swung, BOTH),
+        report("report, full (32, 16, 256)", &full, BOTH),
+        quote("quote, small", &small, BOTH),
+        quote("quote, typical", &typical, BOTH),
+        quote("quote, typical with swing", &swung, BOTH),
+        quote("quote, full", &full, BOTH),
+        read("reading accepted, typical (run of no ticks)", &typical),
+        read("reading accepted, full (run of no ticks)", &full),
+        quote("reading refused at the last field, full", &refused_late(&full), ONE),
+        report("report, dense (2^30 paths)", &generate::dense().bytes(), ONE),
+        report("report, hostile (10^9 bare rounds)", &generate::hostile().bytes(), ONE),
+        report("report, loaded by 1 exactly (3, 3, 3)", &generate::exactly_one().bytes(), ONE),
         ticks("tick, small", &small, Knob::Steady),
         ticks("tick, typical", &typical, Knob::Steady),
         ticks("tick, typical with swing", &swung, Knob::Steady),
@@ -150,40 +163,51 @@ fn cases() -> Vec<Case> {
     ]
 }
 
-fn report(name: &'static str, file: Vec<u8>) -> Case {
-    let mut page = [0; LONGEST_REPORT];
-    let call = move |side: &Side| {
-        let written = (side.report)(black_box(&file), &mut page);
-        black_box(&page);
-        written
+fn report(name: &'static str, file: &[u8], models: &[Policy]) -> Vec<Case> {
+    let case = |&policy| {
+        let (file, mut page) = (file.to_vec(), [0; LONGEST_REPORT]);
+        let call = move |side: &Side| {
+            let written = (side.report)(policy, black_box(&file), &mut page);
+            black_box(&page);
+            written
+        };
+        Case { name, policy, units: 1, call: Box::new(call) }
     };
-    Case { name, units: 1, call: Box::new(call) }
+    models.iter().map(case).collect()
 }
 
-fn quote(name: &'static str, file: Vec<u8>) -> Case {
-    Case { name, units: 1, call: Box::new(move |side| (side.quote)(black_box(&file))) }
+fn quote(name: &'static str, file: &[u8], models: &[Policy]) -> Vec<Case> {
+    let case = |&policy| {
+        let file = file.to_vec();
+        Case { name, policy, units: 1, call: Box::new(move |side| (side.quote)(policy, black_box(&file))) }
+    };
+    models.iter().map(case).collect()
 }
 
 /// The reading alone has no call of its own: a run without ticks reads, judges and starts.
-fn read(name: &'static str, file: Vec<u8>) -> Case {
-    Case { name, units: 1, call: Box::new(move |side| run(side, &file, &[], &mut [])) }
+fn read(name: &'static str, file: &[u8]) -> Vec<Case> {
+    runs(name, file, Vec::new(), ONE)
 }
 
 /// A long run, in which reading the file once does not count. A knob that moves has another tempo
 /// in every call.
-fn ticks(name: &'static str, file: &[u8], knob: Knob) -> Case {
-    let file = file.to_vec();
-    let calls = generate::legal_calls(&file, TEMPO, knob, TICKS, 7);
-    let mut outcomes = vec![0; TICKS];
-    let call = move |side: &Side| run(side, &file, &calls, &mut outcomes);
-    Case { name, units: TICKS, call: Box::new(call) }
+fn ticks(name: &'static str, file: &[u8], knob: Knob) -> Vec<Case> {
+    runs(name, file, generate::legal_calls(file, TEMPO, knob, TICKS, 7), BOTH)
 }
 
-fn run(side: &Side, file: &[u8], calls: &[u8], outcomes: &mut [u8]) -> i64 {
-    let mut record = [0; RECORD_BYTES];
-    let code = (side.run)(black_box(file), black_box(calls), outcomes, &mut record);
-    black_box((outcomes, &record));
-    code
+fn runs(name: &'static str, file: &[u8], calls: Vec<u8>, models: &[Policy]) -> Vec<Case> {
+    let count = calls.len() / CALL_BYTES;
+    let case = |&policy| {
+        let (file, calls, mut outcomes) = (file.to_vec(), calls.clone(), vec![0; count]);
+        let call = move |side: &Side| {
+            let mut record = [0; RECORD_BYTES];
+            let code = (side.run)(policy, black_box(&file), black_box(&calls), &mut outcomes, &mut record);
+            black_box((&outcomes, &record));
+            code
+        };
+        Case { name, policy, units: count.max(1), call: Box::new(call) }
+    };
+    models.iter().map(case).collect()
 }
 
 /// The file with a last link that names no critical number.
@@ -202,12 +226,14 @@ fn busy() -> Vec<u8> {
     Draft::new(&[2, 1, 1, 1], &[Fixed(9), Fixed(4), Fixed(2)], &links).bytes()
 }
 
-/// The median time of one unit on each side, in nanoseconds.
-fn medians(case: &mut Case, sides: &[Side]) -> Vec<f64> {
-    medians_in_turns(std::slice::from_mut(case), sides).remove(0)
+fn assert_same(case: &mut Case, sides: &[Side]) {
+    let answers: Vec<i64> = sides.iter().map(|side| (case.call)(side)).collect();
+    let same = answers.iter().all(|answer| *answer == answers[0]);
+    assert!(same, "{}, {}: answers differ: {answers:?}", case.name, case.policy);
 }
 
-/// The same of several cases that are timed in turns, so that their differences can be told.
+/// The median time of one unit of each case on each side, in nanoseconds. Cases are timed in turns, so
+/// that their differences can be told.
 fn medians_in_turns(cases: &mut [Case], sides: &[Side]) -> Vec<Vec<f64>> {
     let counts: Vec<Vec<u32>> = cases
         .iter_mut()
@@ -258,8 +284,10 @@ fn print_head(sides: &[Side]) {
     println!("{}", if sides.len() > 1 { "   proved / plain" } else { "" });
 }
 
-fn print_line(case: &Case, times: &[f64]) {
-    print!("{:<46}", case.name);
+/// A row's line for one model. That of the hold-on model has its times by those of the preemptive one.
+fn print_line(case: &Case, times: &[f64], preemptive: &[f64]) {
+    let hold_on = case.policy == Policy::HoldOn;
+    print!("{:<46}", if hold_on { "  the same, hold-on" } else { case.name });
     for &time in times {
         print!("{:>12}", words(time));
     }
@@ -269,6 +297,10 @@ fn print_line(case: &Case, times: &[f64]) {
     if case.units > 1 {
         let rates: Vec<String> = times.iter().map(|time| format!("{:.1}", 1e3 / time)).collect();
         print!("   {} million ticks a second", rates.join(", "));
+    }
+    if hold_on {
+        let ratios = times.iter().zip(preemptive).map(|(time, other)| format!("{:.2}", time / other));
+        print!("   hold-on / preemptive {}", ratios.collect::<Vec<_>>().join(", "));
     }
     println!();
 }

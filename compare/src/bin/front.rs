@@ -1,7 +1,7 @@
-//! `front`: runs the built program `bench` on inputs that fail, trickle or never end and on outputs that fail, and
-//! holds what it writes to plain Rust's report. A report on a part of the input may have too high a tempo.
+//! `front`: runs the built programs `bench` and `hold` on inputs that fail, trickle or never end and on outputs that
+//! fail, and holds what they write to plain Rust's report. A report on a part of the input may have too high a tempo.
 
-use compare::plain::report::report;
+use compare::plain::{Policy, report};
 use compare::{generate, vectors};
 use std::fmt;
 use std::fs::{self, File, OpenOptions};
@@ -14,9 +14,8 @@ use std::process::{Child, Command, ExitCode, ExitStatus, Stdio};
 use std::thread::{self, JoinHandle};
 use std::time::{Duration, Instant};
 
-const USAGE: &str = "usage: front [PROGRAM]";
-/// Where `rt check bench` puts the program, from this project's folder.
-const PROGRAM: &str = "../target/bin/bench";
+/// Where `rt check` puts the programs, from this project's folder.
+const PROGRAMS: [&str; 2] = ["../target/bin/bench", "../target/bin/hold"];
 const BOX: &str = "../samples/box.bin";
 /// The program looks at so many bytes of its input.
 const INPUT: usize = 4_096;
@@ -25,30 +24,27 @@ const CUT: usize = 51;
 /// A program that has not ended by then is stopped, which is a difference.
 const PATIENCE: Duration = Duration::from_secs(20);
 const LATE: Duration = Duration::from_millis(300);
-/// How the lines on standard error start.
-const READ: &str = "bench: read: ";
-const WRITE: &str = "bench: write: ";
 /// Linux's flag for an open that never waits, and its signal for a pipe that nobody reads.
 const NONBLOCKING: i32 = 0o4000;
 const SIGPIPE: i32 = 13;
 
 fn main() -> ExitCode {
-    let mut arguments = std::env::args_os().skip(1);
-    let path = arguments.next().map_or_else(|| at_home(PROGRAM), PathBuf::from);
-    if arguments.next().is_some() {
-        eprintln!("{USAGE}");
-        return ExitCode::from(2);
+    let mut paths: Vec<PathBuf> = std::env::args_os().skip(1).map(PathBuf::from).collect();
+    if paths.is_empty() {
+        paths = PROGRAMS.map(at_home).into();
     }
-    if !path.exists() {
-        eprintln!("{} is missing: `rt check bench`, in the root of the repository, makes it", path.display());
+    if let Some(path) = paths.iter().find(|path| !path.exists()) {
+        eprintln!("{} is missing: `rt check`, in the root of the repository, makes it", path.display());
         return ExitCode::FAILURE;
     }
-    let program = Program { path };
     let mut tally = Tally::default();
-    let tests = [inputs, broken_inputs, long_inputs, recorded, outputs, interruptions];
-    if let Err(error) = tests.iter().try_for_each(|test| test(&program, &mut tally)) {
-        println!("a test could not be set up: {error}");
-        return ExitCode::FAILURE;
+    for program in paths.into_iter().map(Program::at) {
+        println!("{}, {}:", program.path.display(), program.policy);
+        let tests = [inputs, broken_inputs, long_inputs, recorded, outputs, interruptions];
+        if let Err(error) = tests.iter().try_for_each(|test| test(&program, &mut tally)) {
+            println!("a test could not be set up: {error}");
+            return ExitCode::FAILURE;
+        }
     }
     println!("{} runs, {} DIFFERENT", tally.runs, tally.different);
     if tally.different == 0 { ExitCode::SUCCESS } else { ExitCode::FAILURE }
@@ -58,8 +54,8 @@ fn main() -> ExitCode {
 fn inputs(program: &Program, tally: &mut Tally) -> io::Result<()> {
     let file = generate::boxed().bytes();
     let file = file.as_slice();
-    let whole = || Expected::Report(report(file));
-    assert_ne!(report(file), report(&file[..CUT]));
+    let whole = || program.whole(file);
+    assert_ne!(program.report(file), program.report(&file[..CUT]));
 
     tally.one("Box from a file", program.reads(File::open(at_home(BOX))?)?, whole());
     tally.one("Box through a pipe", program.fed(Feed::whole(file))?, whole());
@@ -71,17 +67,17 @@ fn inputs(program: &Program, tally: &mut Tally) -> io::Result<()> {
     let there = Feed { first: file, end: End::BeforeStart, ..Feed::late(file) };
     tally.one("non-blocking: Box, closed", program.fed(there)?, whole());
     let open = Feed { first: file, rest: vec![], end: End::Never, ..Feed::late(file) };
-    tally.one("non-blocking: Box, never closed", program.fed(open)?, Expected::Failure(READ));
+    tally.one("non-blocking: Box, never closed", program.fed(open)?, program.unread());
     let never = Feed { rest: vec![], end: End::Never, ..Feed::late(file) };
-    tally.one("non-blocking: 51 bytes of Box, the rest never", program.fed(never)?, Expected::Failure(READ));
+    tally.one("non-blocking: 51 bytes of Box, the rest never", program.fed(never)?, program.unread());
     let late = program.fed(Feed::late(file))?;
-    tally.one("non-blocking: 51 bytes of Box, the rest late", late, Expected::Either(report(file), READ));
+    tally.one("non-blocking: 51 bytes of Box, the rest late", late, program.whole_or_unread(file));
     let mut runs = Vec::new();
     for millis in (30..70).step_by(2) {
         // The program starts after about 50 milliseconds.
         let command = program.in_shell("sleep 0.05; exec \"$0\"");
         let feed = Feed { pause: Duration::from_millis(millis), ..Feed::late(file) };
-        runs.push((run_fed(command, feed)?, Expected::Either(report(file), READ)));
+        runs.push((run_fed(command, feed)?, program.whole_or_unread(file)));
     }
     tally.many("non-blocking: 51 bytes of Box, the rest before or after the first read", runs);
     Ok(())
@@ -90,29 +86,29 @@ fn inputs(program: &Program, tally: &mut Tally) -> io::Result<()> {
 /// Inputs that cannot be read.
 fn broken_inputs(program: &Program, tally: &mut Tally) -> io::Result<()> {
     let closed = run(program.in_shell("exec \"$0\" <&-"))?;
-    tally.one("a closed input", closed, Expected::Failure(READ));
-    tally.one("a directory as input", program.reads(File::open("/")?)?, Expected::Failure(READ));
+    tally.one("a closed input", closed, program.unread());
+    tally.one("a directory as input", program.reads(File::open("/")?)?, program.unread());
     let write_only = OpenOptions::new().write(true).open("/dev/null")?;
-    tally.one("a write-only input", program.reads(write_only)?, Expected::Failure(READ));
+    tally.one("a write-only input", program.reads(write_only)?, program.unread());
     Ok(())
 }
 
 /// None, and more than the program looks at.
 fn long_inputs(program: &Program, tally: &mut Tally) -> io::Result<()> {
-    tally.one("no input", program.reads(File::open("/dev/null")?)?, Expected::Report(report(&[])));
+    tally.one("no input", program.reads(File::open("/dev/null")?)?, program.whole(&[]));
     let mut long = generate::boxed().bytes();
     long.resize(10_000_000, 0);
-    assert_eq!(report(&long), report(&long[..INPUT]));
-    tally.one("Box and zeros, 10 MB", program.fed(Feed::whole(&long))?, Expected::Report(report(&long)));
+    assert_eq!(program.report(&long), program.report(&long[..INPUT]));
+    tally.one("Box and zeros, 10 MB", program.fed(Feed::whole(&long))?, program.whole(&long));
     let zeros = program.reads(File::open("/dev/zero")?)?;
-    tally.one("zeros without end", zeros, Expected::Report(report(&[0; INPUT])));
+    tally.one("zeros without end", zeros, program.whole(&[0; INPUT]));
     Ok(())
 }
 
 /// The recorded reports, through the program.
 fn recorded(program: &Program, tally: &mut Tally) -> io::Result<()> {
     let mut runs = Vec::new();
-    for vector in vectors::reports() {
+    for vector in vectors::reports(program.policy) {
         runs.push((program.fed(Feed::whole(vector.file))?, Expected::Report(vector.report.to_vec())));
     }
     tally.many("recorded reports", runs);
@@ -122,17 +118,17 @@ fn recorded(program: &Program, tally: &mut Tally) -> io::Result<()> {
 /// Outputs that take nothing, or not all.
 fn outputs(program: &Program, tally: &mut Tally) -> io::Result<()> {
     let full = OpenOptions::new().write(true).open("/dev/full")?;
-    tally.one("a full disk", program.writes(full)?, Expected::Failure(WRITE));
+    tally.one("a full disk", program.writes(full)?, program.unwritten());
     let closed = run(program.in_shell("exec \"$0\" </dev/null >&-"))?;
-    tally.one("a closed output", closed, Expected::Failure(WRITE));
-    tally.one("a read-only output", program.writes(File::open("/dev/null")?)?, Expected::Failure(WRITE));
+    tally.one("a closed output", closed, program.unwritten());
+    tally.one("a read-only output", program.writes(File::open("/dev/null")?)?, program.unwritten());
     let (reader, writer) = full_pipe()?;
-    tally.one("non-blocking: a full pipe", program.writes(writer)?, Expected::Failure(WRITE));
+    tally.one("non-blocking: a full pipe", program.writes(writer)?, program.unwritten());
     drop(reader);
     tally.one("a pipe that nobody reads", program.writes(unread_pipe()?)?, Expected::Killed(SIGPIPE));
     let mut ignoring = program.in_shell("trap '' PIPE; exec \"$0\" </dev/null");
     ignoring.stdout(unread_pipe()?);
-    tally.one("a pipe that nobody reads, the signal ignored", run(ignoring)?, Expected::Failure(WRITE));
+    tally.one("a pipe that nobody reads, the signal ignored", run(ignoring)?, program.unwritten());
 
     // A file may grow to one block of 512 bytes: the first write is cut, and the second fails.
     let file = generate::bench_full();
@@ -145,7 +141,7 @@ fn outputs(program: &Program, tally: &mut Tally) -> io::Result<()> {
     ran.out = fs::read(&output)?;
     fs::remove_file(&input)?;
     fs::remove_file(&output)?;
-    tally.one("a file that may not grow", ran, Expected::Cut(report(&file), WRITE));
+    tally.one("a file that may not grow", ran, Expected::Cut(program.report(&file), program.write));
     Ok(())
 }
 
@@ -159,7 +155,7 @@ fn interruptions(program: &Program, tally: &mut Tally) -> io::Result<()> {
         return Ok(());
     }
     let path = at_home(BOX).canonicalize()?;
-    let expected = || Expected::Report(report(&generate::boxed().bytes()));
+    let expected = || program.whole(&generate::boxed().bytes());
     for (name, call) in [("interrupted reads", "read"), ("interrupted writes", "write")] {
         let mut traced = by_strace();
         // Only calls on the input, as the loader reads too; of writes there are no others.
@@ -254,7 +250,7 @@ impl Ran {
 
 impl fmt::Display for Ran {
     fn fmt(&self, f: &mut fmt::Formatter) -> fmt::Result {
-        let first = self.out.split(|&byte| byte == b'\n').next().unwrap_or_default();
+        let first = self.out.split(|&byte| byte == b'\n').find(|line| *line != b"hold").unwrap_or_default();
         match self.out.len() {
             0 => write!(f, "no report")?,
             length => write!(f, "{length} bytes, `{}`", String::from_utf8_lossy(first))?,
@@ -352,9 +348,42 @@ impl<'a> Feed<'a> {
 
 struct Program {
     path: PathBuf,
+    policy: Policy,
+    /// How its lines on standard error start.
+    read: &'static str,
+    write: &'static str,
 }
 
 impl Program {
+    /// A program named `hold` is of the hold-on model, any other one is `bench`.
+    fn at(path: PathBuf) -> Program {
+        if path.file_name().is_some_and(|name| name == "hold") {
+            Program { path, policy: Policy::HoldOn, read: "hold: read: ", write: "hold: write: " }
+        } else {
+            Program { path, policy: Policy::Preemptive, read: "bench: read: ", write: "bench: write: " }
+        }
+    }
+
+    fn report(&self, file: &[u8]) -> Vec<u8> {
+        report::report(self.policy, file)
+    }
+
+    fn whole(&self, file: &[u8]) -> Expected {
+        Expected::Report(self.report(file))
+    }
+
+    fn unread(&self) -> Expected {
+        Expected::Failure(self.read)
+    }
+
+    fn whole_or_unread(&self, file: &[u8]) -> Expected {
+        Expected::Either(self.report(file), self.read)
+    }
+
+    fn unwritten(&self) -> Expected {
+        Expected::Failure(self.write)
+    }
+
     fn reads(&self, input: File) -> io::Result<Ran> {
         let mut command = collecting(&self.path);
         command.stdin(input);

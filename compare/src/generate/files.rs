@@ -2,10 +2,10 @@
 
 use super::draft::Draft;
 use super::random::Random;
-use crate::plain::Plan;
 use crate::plain::description::Source::{self, Fixed, Paced, Swung};
 use crate::plain::quote::quote;
 use crate::plain::verdicts::{Verdict, Verdicts};
+use crate::plain::{Plan, Policy};
 
 /// How a random file is made.
 struct Shape {
@@ -108,7 +108,8 @@ pub fn any(random: &mut Random) -> Draft {
     Shape::any(random).draft(random)
 }
 
-/// A file whose quote is made to lie inside the range, if that can be had by its longest runs.
+/// A file whose quote on one of the models is made to lie inside the range, if that can be had by its
+/// longest runs.
 pub fn tuned(random: &mut Random) -> Draft {
     let mut shape = Shape::any(random);
     shape.sources = shape.sources.max(1);
@@ -131,7 +132,7 @@ pub fn tuned(random: &mut Random) -> Draft {
         1 => 3_000,
         _ => random.within(201..=2_999),
     };
-    tune(&mut draft, tempo);
+    tune(&mut draft, Policy::BOTH[random.index(2)], tempo);
     draft
 }
 
@@ -146,11 +147,11 @@ fn widen(draft: &mut Draft, most_pulses: u32, random: &mut Random) {
     }
 }
 
-/// Makes links between tasks free where no tempo would hold them.
+/// Makes links between tasks free where no tempo would hold them, on either model.
 fn free_doubtful_orders(draft: &mut Draft) {
     let light = Draft { runs: vec![1; draft.runs.len()], ..draft.clone() };
     let Ok(plan) = Plan::read(&light.bytes()) else { return };
-    let verdicts = Verdicts::at(&plan, 200);
+    let verdicts = Verdicts::at(Policy::Preemptive, &plan, 200);
     for (link, critical) in plan.description.links.iter().zip(&mut draft.links) {
         if verdicts.on(*link) == (Verdict::Order { held: false }) {
             critical[2] = 0;
@@ -159,13 +160,13 @@ fn free_doubtful_orders(draft: &mut Draft) {
 }
 
 /// Scales the longest runs so that the quote comes close to `tempo`.
-fn tune(draft: &mut Draft, tempo: u32) {
+fn tune(draft: &mut Draft, policy: Policy, tempo: u32) {
     let weights = draft.runs.clone();
     let (mut light, mut heavy) = (0u64, 1 << 32);
     for _ in 0..28 {
         let middle = (light + heavy) / 2;
         draft.runs = scale(&weights, middle);
-        let quoted = Plan::read(&draft.bytes()).and_then(|plan| quote(&plan));
+        let quoted = Plan::read(&draft.bytes()).and_then(|plan| quote(policy, &plan));
         match quoted {
             Ok(quoted) if quoted >= tempo => light = middle,
             _ => heavy = middle,
@@ -257,7 +258,8 @@ pub fn hostile() -> Draft {
 }
 
 /// Sources that ask for nearly all the time, all of it, or a little more, so that rounds are many.
-/// The critical source's spacing bounds their number.
+/// The critical source's spacing bounds their number. On the hold-on model rounds go by what is above
+/// a task, so the critical link may lead to one below.
 pub fn nearly_full(random: &mut Random) -> Draft {
     const FULL: [&[u32]; 7] =
         [&[1], &[2, 2], &[3, 3, 3], &[2, 3, 6], &[2, 3, 7], &[2, 3, 7, 43], &[2, 3, 7, 43, 1_807]];
@@ -269,9 +271,13 @@ pub fn nearly_full(random: &mut Random) -> Draft {
         let change = if place == nudge { random.within(0..=1) } else { 0 };
         sources.push(Fixed(spacing * run + change));
     }
-    let links = (0..sources.len()).map(|source| [33 + source as u8, 1, (source == 0).into()]);
-    let links = links.collect();
-    Draft { runs: vec![run], sources, links }
+    let mut runs = vec![run];
+    if random.chance(50) {
+        runs.insert(0, random.scaled(1..=100));
+    }
+    let mut links = vec![[33, 1, 1]];
+    links.extend((1..sources.len()).map(|source| [33 + source as u8, runs.len() as u8, 0]));
+    Draft { runs, sources, links }
 }
 
 /// An accepted file of the given size with a quote inside the range, for the benchmarks.
@@ -296,9 +302,9 @@ fn bench_file(tasks: u32, sources: u32, links: usize, swung: u64, seed: u64) -> 
         }
         widen(&mut draft, 96, &mut random);
         free_doubtful_orders(&mut draft);
-        tune(&mut draft, 1_500);
+        tune(&mut draft, Policy::Preemptive, 1_500);
         let file = draft.bytes();
-        let quoted = Plan::read(&file).and_then(|plan| quote(&plan));
+        let quoted = Plan::read(&file).and_then(|plan| quote(Policy::Preemptive, &plan));
         let inside = quoted.is_ok_and(|tempo| (1_000..2_500).contains(&tempo));
         if draft.links.len() == links && inside {
             return file;

@@ -75,12 +75,21 @@ pub fn run(random: &mut Random) -> Run {
 }
 
 /// A file whose tasks end and whose sources fire within a few ticks, or within some hundreds where
-/// the tempo counts.
+/// the tempo counts. In half of the files each source wakes a task, so that tasks meet.
 fn brisk(random: &mut Random) -> Draft {
     let mut draft = files::any(random);
     let fixed = [85, 85, 20][random.index(3)];
+    let longest = [8, 8, 40][random.index(3)];
     for run in &mut draft.runs {
-        *run = random.scaled(1..=8);
+        *run = random.scaled(1..=longest);
+    }
+    if random.chance(50) {
+        draft.links.truncate(240);
+        for source in (33..).take(draft.sources.len()) {
+            let task = random.within(1..=draft.runs.len() as u32) as u8;
+            draft.links.push([source, task, random.chance(50).into()]);
+        }
+        draft = draft.sorted();
     }
     for source in &mut draft.sources {
         *source = if random.chance(fixed) {

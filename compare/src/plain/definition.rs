@@ -1,13 +1,15 @@
-//! The definitions of document 01 and C-13 word by word, slow, and only for tests: what the fast
+//! The definitions of document 01, C-13 and C-14 word by word, slow, and only for tests: what the fast
 //! code of this module must equal on small files and in runs.
 
 use super::description::{Description, Link, TASKS};
-use super::machine::{Machine, Record};
+use super::machine::{PreemptiveMachine, Record, read_call};
 use super::quote::quote;
 use super::verdicts::{Verdict, Verdicts};
-use super::{Plan, SIDE};
-use crate::generate::{self, Random};
+use super::{Plan, Policy, SIDE};
+use crate::generate::{self, Random, Run};
 use crate::{CALL_BYTES, RECORD_BYTES};
+
+const TEMPOS: [u32; 4] = [200, 777, 1_200, 3_000];
 
 /// W(j): e(j) plus the sum of added(j, k) over tasks k > j.
 fn work(file: &Description, j: usize) -> u64 {
@@ -34,22 +36,31 @@ fn spacings(delay: u64, spacing: u64) -> u64 {
     delay.div_ceil(spacing).max(1)
 }
 
+/// The first D at task j, the task whose loads a round goes by, and what the delay has beyond D.
+fn terms(policy: Policy, file: &Description, j: usize) -> (u64, usize, u64) {
+    let run = |k: usize| u64::from(file.runs[k - 1]);
+    match policy {
+        Policy::Preemptive => ((1..j).map(|k| load(file, k, j)).max().unwrap_or(0), j, 0),
+        Policy::HoldOn => ((1..=j).map(|k| run(k) + load(file, k, j + 1)).max().unwrap_or(0), j + 1, run(j)),
+    }
+}
+
 /// The delay of a link from a source, if it is held.
-fn delay(file: &Description, link: Link, tempo: u32) -> Option<u64> {
+fn delay(policy: Policy, file: &Description, link: Link, tempo: u32) -> Option<u64> {
     let j = usize::from(link.to);
     let sources = || {
         file.sources.iter().enumerate().map(|(place, source)| (33 + place, u64::from(source.spacing(tempo))))
     };
     let (_, own) = sources().nth(link.source()?)?;
-    let start = (1..j).map(|k| load(file, k, j)).max().unwrap_or(0);
-    let loads: Vec<(u64, u64)> = sources().map(|(u, spacing)| (load(file, u, j), spacing)).collect();
-    let mut delay = start;
-    while delay < own {
-        let next = start + loads.iter().map(|&(load, spacing)| load * spacings(delay, spacing)).sum::<u64>();
-        if next == delay {
-            return Some(delay);
+    let (start, level, beyond) = terms(policy, file, j);
+    let loads: Vec<(u64, u64)> = sources().map(|(u, spacing)| (load(file, u, level), spacing)).collect();
+    let mut d = start;
+    while d + beyond < own {
+        let next = start + loads.iter().map(|&(load, spacing)| load * spacings(d, spacing)).sum::<u64>();
+        if next == d {
+            return Some(d + beyond);
         }
-        delay = next;
+        d = next;
     }
     None
 }
@@ -76,13 +87,13 @@ fn has_neighbourhood(file: &Description, i: usize, j: usize) -> bool {
     })
 }
 
-fn verdict(file: &Description, link: Link, tempo: u32) -> Verdict {
+fn verdict(policy: Policy, file: &Description, link: Link, tempo: u32) -> Verdict {
     match link.source() {
         _ if !link.critical => Verdict::Free,
         None => Verdict::Order { held: has_neighbourhood(file, link.from.into(), link.to.into()) },
         Some(source) => {
             let spacing = file.sources[source].spacing(tempo);
-            Verdict::Delay { delay: delay(file, link, tempo), spacing }
+            Verdict::Delay { delay: delay(policy, file, link, tempo), spacing }
         }
     }
 }
@@ -96,8 +107,27 @@ fn fire(file: &Description, record: &mut Record, node: usize) {
     }
 }
 
+/// Whether a source's age has reached its spacing at the fastest tempo given since it last fired, its
+/// present tick included.
+pub fn due(file: &Description, record: &Record, u: usize, tempo: u16) -> bool {
+    record.ages[u] >= file.sources[u].spacing(record.fastest[u].max(tempo).into())
+}
+
+/// The task that runs: the highest awake one, on the hold-on model only when none is running, which
+/// is the one whose used is above 0.
+fn chosen(policy: Policy, file: &Description, record: &Record) -> Option<usize> {
+    let tasks = || (1..=file.runs.len()).rev();
+    let running = tasks().find(|j| policy == Policy::HoldOn && record.used[j - 1] > 0);
+    running.or(tasks().find(|j| record.awake[j - 1]))
+}
+
 /// One call on a record that obeys the rules: 0 for a tick, or the number of its refusal.
-fn tick(file: &Description, record: &mut Record, arrivals: u16, tempo: u16, finish: bool) -> u8 {
+pub fn tick(
+    policy: Policy,
+    file: &Description,
+    record: &mut Record,
+    (arrivals, tempo, finish): (u16, u16, bool),
+) -> u8 {
     let arriving: Vec<usize> = (0..16).filter(|u| arrivals >> u & 1 == 1).collect();
     if !(200..=3_000).contains(&tempo) {
         return 11;
@@ -105,16 +135,14 @@ fn tick(file: &Description, record: &mut Record, arrivals: u16, tempo: u16, fini
     if arriving.iter().any(|&u| u >= file.sources.len()) {
         return 15;
     }
-    // At its spacing at the fastest tempo given since it last fired, its present tick included.
-    let due = |u: usize| record.ages[u] >= file.sources[u].spacing(record.fastest[u].max(tempo).into());
-    if !arriving.iter().all(|&u| due(u)) {
+    if !arriving.iter().all(|&u| due(file, record, u, tempo)) {
         return 14;
     }
     for &u in &arriving {
         fire(file, record, 33 + u);
         (record.ages[u], record.fastest[u]) = (0, tempo);
     }
-    if let Some(j) = (1..=file.runs.len()).rev().find(|j| record.awake[j - 1]) {
+    if let Some(j) = chosen(policy, file, record) {
         record.used[j - 1] += 1;
         if record.used[j - 1] == file.runs[j - 1] || finish {
             (record.awake[j - 1], record.used[j - 1]) = (false, 0);
@@ -159,10 +187,12 @@ fn loads_are_the_defined_ones() {
 #[test]
 fn verdicts_are_the_defined_ones() {
     for plan in small_plans(2, 7, 400) {
-        for tempo in [200, 777, 1_200, 3_000] {
-            let verdicts = Verdicts::at(&plan, tempo);
-            for &link in plan.description.links.iter() {
-                assert_eq!(verdicts.on(link), verdict(&plan.description, link, tempo), "{link:?} at {tempo}");
+        let file = &plan.description;
+        for (policy, tempo) in Policy::BOTH.iter().flat_map(|&policy| TEMPOS.map(|tempo| (policy, tempo))) {
+            let verdicts = Verdicts::at(policy, &plan, tempo);
+            for &link in file.links.iter() {
+                let defined = verdict(policy, file, link, tempo);
+                assert_eq!(verdicts.on(link), defined, "{policy:?}: {link:?} at {tempo}");
             }
         }
     }
@@ -171,17 +201,19 @@ fn verdicts_are_the_defined_ones() {
 /// Every tempo is tried, so the search and the fact it rests on are tried too.
 #[test]
 fn quotes_are_the_largest_good_tempos() {
+    let doubtful = |verdict| match verdict {
+        Verdict::Free | Verdict::Order { held: true } => false,
+        Verdict::Order { held: false } => true,
+        Verdict::Delay { delay, .. } => delay.is_none(),
+    };
     for plan in small_plans(3, 32, 150) {
-        let doubtful = |verdict| match verdict {
-            Verdict::Free | Verdict::Order { held: true } => false,
-            Verdict::Order { held: false } => true,
-            Verdict::Delay { delay, .. } => delay.is_none(),
-        };
-        let good = |tempo: &u32| {
-            let verdicts = Verdicts::at(&plan, *tempo);
-            !plan.description.links.iter().any(|&link| doubtful(verdicts.on(link)))
-        };
-        assert_eq!(quote(&plan).ok(), (200..=3_000).rev().find(good));
+        for policy in Policy::BOTH {
+            let good = |tempo: &u32| {
+                let verdicts = Verdicts::at(policy, &plan, *tempo);
+                !plan.description.links.iter().any(|&link| doubtful(verdicts.on(link)))
+            };
+            assert_eq!(quote(policy, &plan).ok(), (200..=3_000).rev().find(good), "{policy:?}");
+        }
     }
 }
 
@@ -190,17 +222,20 @@ fn runs_are_the_defined_ones() {
     let mut random = Random::new(4);
     for _ in 0..1_500 {
         let run = generate::run(&mut random);
-        let Ok(Plan { description: file, .. }) = Plan::read(&run.file) else { continue };
-        let mut defined = Machine::start(&file).record();
-        let number = |bytes: &[u8]| u16::from_be_bytes([bytes[0], bytes[1]]);
-        let calls = run.calls.chunks_exact(CALL_BYTES);
-        let expected: Vec<u8> = calls
-            .map(|call| tick(&file, &mut defined, number(call), number(&call[2..]), call[4] != 0))
-            .collect();
-        let mut outcomes = vec![0; expected.len()];
-        let (mut left, mut record) = ([0; RECORD_BYTES], [0; RECORD_BYTES]);
-        assert_eq!((SIDE.run)(&run.file, &run.calls, &mut outcomes, &mut left), 0);
-        defined.write(&mut record);
-        assert_eq!((outcomes, left), (expected, record), "{:02x?}", run.file);
+        for policy in Policy::BOTH {
+            assert_defined(policy, &run);
+        }
     }
+}
+
+fn assert_defined(policy: Policy, run: &Run) {
+    let Ok(Plan { description: file, .. }) = Plan::read(&run.file) else { return };
+    let mut defined = PreemptiveMachine::start(&file).record();
+    let calls = run.calls.chunks_exact(CALL_BYTES);
+    let expected: Vec<u8> = calls.map(|call| tick(policy, &file, &mut defined, read_call(call))).collect();
+    let mut outcomes = vec![0; expected.len()];
+    let (mut left, mut record) = ([0; RECORD_BYTES], [0; RECORD_BYTES]);
+    assert_eq!((SIDE.run)(policy, &run.file, &run.calls, &mut outcomes, &mut left), 0);
+    defined.write(&mut record);
+    assert_eq!((outcomes, left), (expected, record), "{policy:?}: {:02x?}", run.file);
 }

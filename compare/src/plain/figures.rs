@@ -1,7 +1,9 @@
-//! The figures P1 to P10 of document 01, document 000's printed example, and the record's rules.
+//! The figures P1 to P10 of document 01, those of the requests, document 000's printed example, and
+//! the record's rules.
 
+use super::Policy::{self, HoldOn, Preemptive};
 use super::description::Source::{self, Fixed, Paced, Swung};
-use super::machine::{Machine, Record, check_tempo};
+use super::machine::{Machine, PreemptiveMachine, Record, check_tempo};
 use super::refusal::{Refusal, Word};
 use super::verdicts::{Verdict, Verdicts};
 use super::{Plan, quote::quote, report::report};
@@ -20,12 +22,12 @@ fn load(plan: &Plan, i: usize, j: usize) -> u64 {
     plan.loads.level(j - 1)[i - 1]
 }
 
-fn verdict(plan: &Plan, place: usize, tempo: u32) -> Verdict {
-    Verdicts::at(plan, tempo).on(plan.description.links[place - 1])
+fn verdict(policy: Policy, plan: &Plan, place: usize, tempo: u32) -> Verdict {
+    Verdicts::at(policy, plan, tempo).on(plan.description.links[place - 1])
 }
 
-fn delay(plan: &Plan, place: usize, tempo: u32) -> Option<u64> {
-    match verdict(plan, place, tempo) {
+fn delay(policy: Policy, plan: &Plan, place: usize, tempo: u32) -> Option<u64> {
+    match verdict(policy, plan, place, tempo) {
         Verdict::Delay { delay, .. } => delay,
         other => panic!("not a source's verdict: {other:?}"),
     }
@@ -33,8 +35,8 @@ fn delay(plan: &Plan, place: usize, tempo: u32) -> Option<u64> {
 
 #[test]
 fn p1_empty_and_alone() {
-    assert_eq!(report(&[]), b"refused 8 at 0\n");
-    assert_eq!(report(&Draft::new(&[1], &[], &[]).bytes()), b"tempo 300.0\n");
+    assert_eq!(report(Preemptive, &[]), b"refused 8 at 0\n");
+    assert_eq!(report(Preemptive, &Draft::new(&[1], &[], &[]).bytes()), b"tempo 300.0\n");
 }
 
 #[test]
@@ -42,23 +44,26 @@ fn p2_p3_box() {
     let file = boxed().bytes();
     assert_eq!(file.len(), 57);
     let text = "tempo 178.3\nlink 1 2>1 free\nlink 2 2>3 held order\nlink 3 33>2 held 700 of 701\nlink 4 34>3 held 400 of 2000\n";
-    assert_eq!(report(&file), text.as_bytes());
+    assert_eq!(report(Preemptive, &file), text.as_bytes());
     let plan = Plan::read(&file).unwrap();
     assert_eq!((load(&plan, 33, 1), load(&plan, 2, 3)), (900, 200));
-    assert_eq!(verdict(&plan, 3, 1_783), Verdict::Delay { delay: Some(700), spacing: 701 });
-    assert_eq!(verdict(&plan, 3, 1_784), Verdict::Delay { delay: None, spacing: 700 });
+    assert_eq!(verdict(Preemptive, &plan, 3, 1_783), Verdict::Delay { delay: Some(700), spacing: 701 });
+    assert_eq!(verdict(Preemptive, &plan, 3, 1_784), Verdict::Delay { delay: None, spacing: 700 });
 }
 
 #[test]
 fn p4_twin() {
     assert_eq!(load(&twin(9), 33, 1), 8);
-    assert_eq!((delay(&twin(9), 3, 200), delay(&twin(9), 4, 200)), (Some(8), Some(6)));
-    assert_eq!(delay(&twin(8), 3, 200), None);
+    assert_eq!(
+        (delay(Preemptive, &twin(9), 3, 200), delay(Preemptive, &twin(9), 4, 200)),
+        (Some(8), Some(6))
+    );
+    assert_eq!(delay(Preemptive, &twin(8), 3, 200), None);
 }
 
 #[test]
 fn p5_twin_drops() {
-    let mut machine = Machine::start(&twin(7).description);
+    let mut machine = PreemptiveMachine::start(&twin(7).description);
     for tick in 0..22 {
         assert!(!machine.record().dropped[2], "dropped before tick {tick}");
         machine.tick((tick % 7 == 0).into(), 200, false).unwrap();
@@ -71,9 +76,9 @@ fn p6_p7_neighbourhoods() {
     let without = plan(&[1; 3], &[], &[[1, 3, 0], [3, 2, 1]]);
     let with_source = plan(&[1; 3], &[Fixed(9)], &[[1, 3, 0], [3, 2, 1], [33, 3, 0]]);
     let twice = plan(&[1; 4], &[], &[[1, 3, 0], [1, 4, 0], [3, 4, 0], [4, 2, 1]]);
-    assert_eq!(verdict(&without, 2, 200), Verdict::Order { held: true });
-    assert_eq!(verdict(&with_source, 2, 200), Verdict::Order { held: false });
-    assert_eq!(verdict(&twice, 4, 200), Verdict::Order { held: false });
+    assert_eq!(verdict(Preemptive, &without, 2, 200), Verdict::Order { held: true });
+    assert_eq!(verdict(Preemptive, &with_source, 2, 200), Verdict::Order { held: false });
+    assert_eq!(verdict(Preemptive, &twice, 4, 200), Verdict::Order { held: false });
 }
 
 #[test]
@@ -88,12 +93,12 @@ fn swing() {
     assert_eq!((Swung(480, 66).spacing(1_200), Swung(480, 75).spacing(1_200)), (708, 520));
     assert_eq!((Swung(960, 75).spacing(3_000), Swung(1, 51).spacing(200)), (104, 2_940_000));
     for (swing, read) in [(49, false), (50, false), (51, true), (75, true), (76, false)] {
-        let answer = report(&Draft::new(&[1], &[Swung(24, swing)], &[]).bytes());
+        let answer = report(Preemptive, &Draft::new(&[1], &[Swung(24, swing)], &[]).bytes());
         assert_eq!(answer, if read { &b"tempo 300.0\n"[..] } else { b"refused 6 at 7\n" });
     }
-    assert_eq!(report(&[1, 0, 4, 0, 0, 0, 1, 3, 0, 4, 0, 24, 66, 66]), b"refused 3 at 7\n");
-    assert_eq!(report(&[1, 0, 4, 0, 0, 0, 1, 3, 0, 3, 0, 24]), b"refused 1 at 7\n");
-    assert!(report(&swung_box().bytes()).starts_with(b"tempo 121.2\n"));
+    assert_eq!(report(Preemptive, &[1, 0, 4, 0, 0, 0, 1, 3, 0, 4, 0, 24, 66, 66]), b"refused 3 at 7\n");
+    assert_eq!(report(Preemptive, &[1, 0, 4, 0, 0, 0, 1, 3, 0, 3, 0, 24]), b"refused 1 at 7\n");
+    assert!(report(Preemptive, &swung_box().bytes()).starts_with(b"tempo 121.2\n"));
     assert_eq!(std::fs::read("../samples/box-swing.bin").ok(), Some(swung_box().bytes()));
 }
 
@@ -101,7 +106,7 @@ fn swing() {
 fn p9_too_soon() {
     let plan = plan(&[1], &[Fixed(5)], &[[33, 1, 1]]);
     for (second, outcome) in [(4, Err(Refusal::of(Word::TooSoon))), (5, Ok(()))] {
-        let mut machine = Machine::start(&plan.description);
+        let mut machine = PreemptiveMachine::start(&plan.description);
         machine.tick(1, 200, false).unwrap();
         (1..second).for_each(|_| machine.tick(0, 200, false).unwrap());
         let before = machine.record();
@@ -115,9 +120,9 @@ fn p9_too_soon() {
 #[test]
 fn the_fastest_tempo_since_the_last_firing_counts() {
     let plan = plan(&[1], &[Paced(480)], &[[33, 1, 1]]);
-    let mut machine = Machine::start(&plan.description);
+    let mut machine = PreemptiveMachine::start(&plan.description);
     let too_soon = Err(Refusal::of(Word::TooSoon));
-    let kept = |machine: &Machine| (machine.record().ages[0], machine.record().fastest[0]);
+    let kept = |machine: &PreemptiveMachine| (machine.record().ages[0], machine.record().fastest[0]);
     machine.tick(0, 3_000, false).unwrap();
     assert_eq!(kept(&machine), (6_250, 0));
     machine.tick(1, 1_200, false).unwrap();
@@ -143,7 +148,7 @@ fn the_fastest_tempo_since_the_last_firing_counts() {
 #[test]
 fn p10_same_link_twice() {
     let file = Draft::new(&[1], &[Fixed(5)], &[[33, 1, 1], [33, 1, 1]]).bytes();
-    assert_eq!(report(&file), b"refused 4 at 20\n");
+    assert_eq!(report(Preemptive, &file), b"refused 4 at 20\n");
 }
 
 /// Document 000, figure 1: task 7 is source 33 here and task 6 source 34. All of 10 to 14 as the
@@ -154,14 +159,20 @@ fn printed_example() {
     for spacing in 10..=14 {
         let plan = plan(&[2, 1, 2, 1, 2], &[Fixed(20), Fixed(spacing)], &links);
         assert_eq!((load(&plan, 33, 1), load(&plan, 34, 1)), (11, 4));
-        assert_eq!(delay(&plan, 6, 200), Some(19));
+        assert_eq!(delay(Preemptive, &plan, 6, 200), Some(19));
     }
 }
 
 /// The tick call on a lent record.
-fn tick(plan: &Plan, record: &mut Record, arrivals: u16, tempo: u16, finish: bool) -> Result<(), Refusal> {
+fn tick<const HOLD_ON: bool>(
+    plan: &Plan,
+    record: &mut Record,
+    arrivals: u16,
+    tempo: u16,
+    finish: bool,
+) -> Result<(), Refusal> {
     check_tempo(tempo)?;
-    let mut machine = Machine::resume(&plan.description, record)?;
+    let mut machine = Machine::<HOLD_ON>::resume(&plan.description, record)?;
     machine.tick(arrivals, tempo, finish)?;
     *record = machine.record();
     Ok(())
@@ -169,11 +180,16 @@ fn tick(plan: &Plan, record: &mut Record, arrivals: u16, tempo: u16, finish: boo
 
 #[test]
 fn orders_of_refusals_in_calls() {
+    orders_of_refusals::<false>();
+    orders_of_refusals::<true>();
+}
+
+fn orders_of_refusals<const HOLD_ON: bool>() {
     let plan = plan(&[3], &[Fixed(5)], &[[33, 1, 1]]);
-    let start = Machine::start(&plan.description).record();
+    let start = Machine::<HOLD_ON>::start(&plan.description).record();
     let refusal = |record: &Record, arrivals, tempo| {
         let mut left = record.clone();
-        let outcome = tick(&plan, &mut left, arrivals, tempo, false);
+        let outcome = tick::<HOLD_ON>(&plan, &mut left, arrivals, tempo, false);
         assert_eq!(&left == record, outcome.is_err());
         outcome.err().map(|refusal| refusal.word)
     };
@@ -192,12 +208,17 @@ fn orders_of_refusals_in_calls() {
 
 #[test]
 fn rules_of_the_record() {
-    let plan = plan(&[3, 1], &[Fixed(5), Paced(480)], &[[33, 1, 1]]);
-    let start = Machine::start(&plan.description).record();
+    rules::<false>();
+    rules::<true>();
+}
+
+fn rules<const HOLD_ON: bool>() {
+    let plan = plan(&[3, 2], &[Fixed(5), Paced(480)], &[[33, 1, 1]]);
+    let start = Machine::<HOLD_ON>::start(&plan.description).record();
     let foreign = |edit: fn(&mut Record)| {
         let mut record = start.clone();
         edit(&mut record);
-        Machine::resume(&plan.description, &record).is_err()
+        Machine::<HOLD_ON>::resume(&plan.description, &record).is_err()
     };
     assert!(foreign(|record| record.used[0] = 1));
     assert!(foreign(|record| (record.awake[0], record.used[0]) = (true, 3)));
@@ -219,31 +240,94 @@ fn rules_of_the_record() {
     ] {
         let mut record = start.clone();
         (record.ages[1], record.fastest[1]) = (age, fastest);
-        assert_eq!(Machine::resume(&plan.description, &record).is_ok(), allowed, "{age} and {fastest}");
+        let resumed = Machine::<HOLD_ON>::resume(&plan.description, &record);
+        assert_eq!(resumed.is_ok(), allowed, "{age} and {fastest}");
     }
     assert!(foreign(|record| record.ages[0] = 4));
     assert!(foreign(|record| record.ages[2] = 1));
     assert!(foreign(|record| record.fastest[2] = 200));
+    let part_done = |used| {
+        let mut record = start.clone();
+        record.awake[..2].fill(true);
+        record.used[..2].copy_from_slice(used);
+        Machine::<HOLD_ON>::resume(&plan.description, &record).is_ok()
+    };
+    assert!(part_done(&[0, 0]) && part_done(&[2, 0]) && part_done(&[0, 1]));
+    assert_eq!(part_done(&[2, 1]), !HOLD_ON);
 }
 
 /// A machine that goes on from its record at any tick is the machine that went on without a break.
 #[test]
 fn resuming_changes_nothing() {
+    resuming::<false>();
+    resuming::<true>();
+}
+
+fn resuming<const HOLD_ON: bool>() {
     let plan = plan(&[2; 3], &[Paced(960), Fixed(7)], &[[1, 3, 1], [2, 3, 1], [33, 1, 1], [34, 2, 1]]);
-    let mut machine = Machine::start(&plan.description);
+    let mut machine = Machine::<HOLD_ON>::start(&plan.description);
     let mut record = machine.record();
     for now in 0..2_000u32 {
         let arrivals = u16::from(now % 50 == 0) | u16::from(now % 3 == 0) << 1;
         let (tempo, finish) = (150 + (now * 37 % 2_900) as u16, now % 11 == 0);
-        let outcome = tick(&plan, &mut record, arrivals, tempo, finish);
+        let outcome = tick::<HOLD_ON>(&plan, &mut record, arrivals, tempo, finish);
         assert_eq!(machine.tick(arrivals, tempo, finish), outcome);
         assert_eq!(machine.record(), record);
     }
 }
 
+/// C-14, Box: 33>2 has D = 500 + 200 and its run of 300 after it, 34>3 has D = 400 and 200.
+#[test]
+fn box_on_the_hold_on_model() {
+    let file = boxed().bytes();
+    let text = "hold\ntempo 124.8\nlink 1 2>1 free\nlink 2 2>3 held order\nlink 3 33>2 held 1000 of 1001\nlink 4 34>3 held 600 of 2000\n";
+    assert_eq!(report(HoldOn, &file), text.as_bytes());
+    let plan = Plan::read(&file).unwrap();
+    assert_eq!(verdict(HoldOn, &plan, 3, 1_249), Verdict::Delay { delay: None, spacing: 1_000 });
+}
+
+#[test]
+fn twin_on_the_hold_on_model() {
+    let delays = |spacing| [3, 4].map(|place| delay(HoldOn, &twin(spacing), place, 200));
+    assert_eq!(delays(11), [Some(10), Some(6)]);
+    assert_eq!(delays(10), [None, Some(6)]);
+    assert_eq!(quote(HoldOn, &twin(11)), Ok(3_000));
+    assert_eq!(quote(HoldOn, &twin(10)), Err(Refusal::of(Word::NoTempo)));
+}
+
+/// The line `hold` comes first, whatever follows.
+#[test]
+fn hold_precedes_every_report() {
+    let heavy = Draft::new(&[9], &[Fixed(9)], &[[33, 1, 1]]).bytes();
+    assert_eq!(report(HoldOn, &heavy), b"hold\ntempo none\nlink 1 33>1 doubt of 9\n");
+    assert_eq!(report(HoldOn, &[]), b"hold\nrefused 8 at 0\n");
+    assert_eq!(report(HoldOn, &[1, 0]), b"hold\nrefused 1 at 0\n");
+}
+
+/// The tasks that run in each of four ticks: task 1 needs three of them, task 2 one. Source 33 wakes
+/// task 1 in the first, and source 34 task 2 in the given one.
+fn ran<const HOLD_ON: bool>(second: u16) -> [usize; 4] {
+    let plan = plan(&[3, 1], &[Fixed(9), Fixed(9)], &[[33, 1, 1], [34, 2, 1]]);
+    let mut machine = Machine::<HOLD_ON>::start(&plan.description);
+    [0, 1, 2, 3].map(|now| {
+        let arrivals = u16::from(now == 0) | u16::from(now == second) << 1;
+        let was_awake = machine.record().awake[1] || now == second;
+        machine.tick(arrivals, 200, false).unwrap();
+        if was_awake && !machine.record().awake[1] { 2 } else { 1 }
+    })
+}
+
+/// A task that runs is not interrupted; an arrival in the tick of choice is seen before the choice.
+#[test]
+fn the_task_that_runs_holds_on() {
+    assert_eq!((ran::<false>(1), ran::<true>(1)), ([1, 2, 1, 1], [1, 1, 1, 2]));
+    assert_eq!((ran::<false>(0), ran::<true>(0)), ([2, 1, 1, 1], [2, 1, 1, 1]));
+    assert_eq!((ran::<false>(3), ran::<true>(3)), ([1, 1, 1, 2], [1, 1, 1, 2]));
+}
+
 #[test]
 fn hostile_file_is_settled() {
     let plan = Plan::read(&crate::generate::hostile().bytes()).unwrap();
-    assert_eq!(quote(&plan), Err(Refusal::of(Word::NoTempo)));
-    assert_eq!(delay(&plan, 1, 200), None);
+    assert_eq!(quote(Preemptive, &plan), Err(Refusal::of(Word::NoTempo)));
+    assert_eq!(delay(Preemptive, &plan, 1, 200), None);
 }

@@ -9,6 +9,8 @@ use super::refusal::{Refusal, Word};
 
 pub const NODES: usize = TASKS + SOURCES;
 const HEAVIEST: u64 = 1_000_000_000;
+/// load(i, n + 1) for n tasks.
+static NO_LOADS: [u64; NODES] = [0; NODES];
 
 /// Who wakes whom. A set of tasks has bit t for the task of index t; a set of nodes likewise, with
 /// the sources from bit 32.
@@ -36,9 +38,9 @@ impl Loads {
         Ok(Loads { graph, levels })
     }
 
-    /// load(i, j) of every node i, for the task j of this index.
+    /// load(i, j) of every node i, for the task j of this index, or past the last.
     pub fn level(&self, task: usize) -> &[u64; NODES] {
-        &self.levels[task]
+        self.levels.get(task).unwrap_or(&NO_LOADS)
     }
 }
 

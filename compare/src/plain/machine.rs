@@ -1,4 +1,4 @@
-//! The tick machine ("The tick machine" and C-13, refusals 11, 16, 15, 14).
+//! The tick machine on both models ("The tick machine", C-13 and C-14, refusals 11, 16, 15, 14).
 
 use super::description::{Description, LINKS, SOURCES, Source, Spacings, TASKS};
 use super::list::List;
@@ -8,7 +8,7 @@ use super::{FASTEST, SLOWEST};
 use crate::RECORD_BYTES;
 
 /// The record of document 01, as it is lent from call to call.
-#[derive(Clone, Debug, PartialEq, Eq)]
+#[derive(Clone, Debug, PartialEq, Eq, Hash)]
 pub struct Record {
     pub awake: [bool; TASKS],
     pub used: [u32; TASKS],
@@ -62,9 +62,10 @@ struct Pace {
     spacing: u32,
 }
 
-/// A machine for one description, which is judged once for all its ticks.
+/// A machine for one description, which is judged once for all its ticks. Each model has a type of
+/// its own, so that no tick asks which one it is of.
 #[derive(Clone)]
-pub struct Machine {
+pub struct Machine<const HOLD_ON: bool> {
     runs: [u32; TASKS],
     sources: List<Source, SOURCES>,
     /// The spacings at the slowest tempo, which no age exceeds.
@@ -76,6 +77,8 @@ pub struct Machine {
 
     awake: u32,
     used: [u32; TASKS],
+    /// On the hold-on model the task that is running: a set of one or none.
+    running: u32,
     waiting: LinkSet,
     dropped: LinkSet,
     /// Ticks made, and for each source the number of the tick in which it last fired. An age is
@@ -90,9 +93,12 @@ pub struct Machine {
     paces: [Pace; SOURCES],
 }
 
-impl Machine {
+pub type PreemptiveMachine = Machine<false>;
+pub type HoldOnMachine = Machine<true>;
+
+impl<const HOLD_ON: bool> Machine<HOLD_ON> {
     /// The idle start.
-    pub fn start(description: &Description) -> Machine {
+    pub fn start(description: &Description) -> Self {
         let widest = description.spacings(SLOWEST);
         let mut machine = Machine {
             runs: [0; TASKS],
@@ -103,6 +109,7 @@ impl Machine {
             into: [LinkSet::default(); TASKS],
             awake: 0,
             used: [0; TASKS],
+            running: 0,
             waiting: LinkSet::default(),
             dropped: LinkSet::default(),
             now: 0,
@@ -121,13 +128,17 @@ impl Machine {
     }
 
     /// The machine that goes on from a record, or refusal 16.
-    pub fn resume(description: &Description, record: &Record) -> Result<Machine, Refusal> {
-        if !obeys_rules(record, description) {
+    pub fn resume(description: &Description, record: &Record) -> Result<Self, Refusal> {
+        let alone = !HOLD_ON || part_done(record).count_ones() <= 1;
+        if !(alone && obeys_rules(record, description)) {
             return Err(Refusal::of(Word::ForeignState));
         }
-        let mut machine = Machine::start(description);
+        let mut machine = Self::start(description);
         machine.used = record.used;
-        machine.awake = (0..TASKS).fold(0, |set, task| set | u32::from(record.awake[task]) << task);
+        machine.awake = task_set(|task| record.awake[task]);
+        if HOLD_ON {
+            machine.running = part_done(record);
+        }
         for link in 0..description.links.len() {
             if record.waiting[link] {
                 machine.waiting.insert(link);
@@ -152,7 +163,7 @@ impl Machine {
             self.since_arrival = tempo;
         }
         if self.awake != 0 {
-            self.run_highest(finish);
+            self.run_task(finish);
         }
         self.now += 1;
         Ok(())
@@ -211,12 +222,18 @@ impl Machine {
         self.awake |= wakes;
     }
 
-    /// Runs the highest awake task for this tick and, if that ends its run, lets it fire.
+    /// Runs a task for this tick: the highest awake one, or on the hold-on model the one that is
+    /// running, if any is. If that ends its run, it fires.
     #[inline]
-    fn run_highest(&mut self, finish: bool) {
-        let task = self.awake.ilog2() as usize;
+    fn run_task(&mut self, finish: bool) {
+        let choice = if HOLD_ON && self.running != 0 { self.running } else { self.awake };
+        let task = choice.ilog2() as usize;
         self.used[task] += 1;
-        if self.used[task] == self.runs[task] || finish {
+        let ends = self.used[task] == self.runs[task] || finish;
+        if HOLD_ON {
+            self.running = if ends { 0 } else { 1 << task };
+        }
+        if ends {
             self.awake &= !(1 << task);
             self.used[task] = 0;
             self.waiting.map(&self.into[task], |waiting, into| waiting & !into);
@@ -240,6 +257,20 @@ impl Machine {
     fn age(&self, source: usize) -> u32 {
         (self.now - self.fired[source]).min(self.widest[source].into()) as u32
     }
+}
+
+impl HoldOnMachine {
+    /// Whether a higher task waits for the one that is running.
+    pub fn holds_back(&self) -> bool {
+        self.running != 0 && self.awake.ilog2() > self.running.ilog2()
+    }
+}
+
+/// Arrivals, tempo and "finish" of one tick call.
+#[inline]
+pub fn read_call(bytes: &[u8]) -> (u16, u16, bool) {
+    let number = |high: u8, low: u8| u16::from_be_bytes([high, low]);
+    (number(bytes[0], bytes[1]), number(bytes[2], bytes[3]), bytes[4] != 0)
 }
 
 /// Refusal 11, if a tempo is off the knob.
@@ -270,4 +301,13 @@ fn obeys_rules(record: &Record, description: &Description) -> bool {
         }
     });
     tasks && links && sources
+}
+
+/// The tasks whose used is above 0.
+fn part_done(record: &Record) -> u32 {
+    task_set(|task| record.used[task] > 0)
+}
+
+fn task_set(has: impl Fn(usize) -> bool) -> u32 {
+    (0..TASKS).fold(0, |set, task| set | u32::from(has(task)) << task)
 }

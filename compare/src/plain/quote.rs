@@ -2,25 +2,25 @@
 
 use super::refusal::{Refusal, Word};
 use super::verdicts::{self, Level};
-use super::{FASTEST, Plan, SLOWEST};
+use super::{FASTEST, Plan, Policy, SLOWEST};
 
 /// The quoted tempo, or refusal 12.
 ///
 /// A link that is held stays held at slower tempos, where spacings are wider. So each level is
 /// tried at the best tempo that the levels before it left, and searched only if it fails there.
-pub fn quote(plan: &Plan) -> Result<u32, Refusal> {
-    quote_telling(plan, |_| {})
+pub fn quote(policy: Policy, plan: &Plan) -> Result<u32, Refusal> {
+    quote_telling(policy, plan, |_| {})
 }
 
 /// The same, telling each tempo that a search tries.
-pub fn quote_telling(plan: &Plan, mut tried: impl FnMut(u32)) -> Result<u32, Refusal> {
+pub fn quote_telling(policy: Policy, plan: &Plan, mut tried: impl FnMut(u32)) -> Result<u32, Refusal> {
     let no_tempo = Refusal::of(Word::NoTempo);
     if !verdicts::orders_held(plan) {
         return Err(no_tempo);
     }
     let mut best = FASTEST;
     let mut spacings = plan.description.spacings(best);
-    for level in verdicts::levels(plan) {
+    for level in verdicts::levels(policy, plan) {
         if !level.all_held(&spacings) {
             best = fastest_below(best, plan, &level, &mut tried).ok_or(no_tempo)?;
             spacings = plan.description.spacings(best);

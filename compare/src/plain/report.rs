@@ -1,40 +1,49 @@
-//! The report ("The report").
+//! The report on both models ("The report" and C-14).
 
 use super::description::Link;
 use super::quote::quote;
 use super::refusal::Refusal;
 use super::verdicts::{Verdict, Verdicts};
-use super::{Plan, SLOWEST};
+use super::{Plan, Policy, SLOWEST};
 
 /// Enough for most link lines.
 const LINE: usize = 40;
 
 /// The report on a file, refused or not.
-pub fn report(file: &[u8]) -> Vec<u8> {
+pub fn report(policy: Policy, file: &[u8]) -> Vec<u8> {
     match Plan::read(file) {
-        Ok(plan) => report_on(&plan),
-        Err(refusal) => refused(refusal),
+        Ok(plan) => report_on(policy, &plan),
+        Err(refusal) => refused(policy, refusal),
     }
 }
 
-fn report_on(plan: &Plan) -> Vec<u8> {
-    let mut text = Vec::with_capacity(LINE * (1 + plan.description.links.len()));
-    let quoted = quote(plan).ok();
+fn report_on(policy: Policy, plan: &Plan) -> Vec<u8> {
+    let mut text = text_of(policy, 1 + plan.description.links.len());
+    let quoted = quote(policy, plan).ok();
     tempo_line(&mut text, quoted);
-    let verdicts = Verdicts::at(plan, quoted.unwrap_or(SLOWEST));
+    let verdicts = Verdicts::at(policy, plan, quoted.unwrap_or(SLOWEST));
     for (place, &link) in plan.description.links.iter().enumerate() {
         link_line(&mut text, place + 1, link, verdicts.on(link));
     }
     text
 }
 
-fn refused(refusal: Refusal) -> Vec<u8> {
-    let mut text = Vec::with_capacity(LINE);
+fn refused(policy: Policy, refusal: Refusal) -> Vec<u8> {
+    let mut text = text_of(policy, 1);
     text.extend_from_slice(b"refused ");
     decimal(&mut text, refusal.word as u64);
     text.extend_from_slice(b" at ");
     decimal(&mut text, refusal.place as u64);
     text.push(b'\n');
+    text
+}
+
+/// A text with room for so many lines. That of the hold-on model says so before its first.
+fn text_of(policy: Policy, lines: usize) -> Vec<u8> {
+    let mut text = Vec::with_capacity(LINE * lines);
+    if policy == Policy::HoldOn {
+        text.extend_from_slice(b"hold\n");
+    }
     text
 }
 

@@ -1,9 +1,9 @@
-//! Verdicts on critical links ("Verdicts").
+//! Verdicts on critical links ("Verdicts" and C-14).
 
-use super::Plan;
 use super::description::{Link, SOURCES, Spacings, TASKS};
 use super::list::List;
-use super::loads::{Graph, below, lowest, members};
+use super::loads::{Graph, NODES, below, lowest, members};
+use super::{Plan, Policy};
 
 /// A verdict on a link.
 #[derive(Clone, Copy, Debug, PartialEq, Eq)]
@@ -22,10 +22,13 @@ pub struct Level {
     pub task: usize,
     /// The sources of those links.
     critical: u16,
-    /// The first D: the work that a task below may have left.
+    /// The first D: the work that a task below may have left; on the hold-on model the longest that
+    /// a task up to this one may hold the processor, with what it wakes above.
     start: u64,
-    /// The sources with a load here, and their loads.
+    /// The sources with a load here, on the hold-on model above here, and their loads.
     loads: List<(usize, u64), SOURCES>,
+    /// What the delay has beyond D: on the hold-on model the task's own run.
+    tail: u64,
 }
 
 /// The releases of one source within D.
@@ -41,7 +44,7 @@ struct Releases {
 const PATIENCE: u32 = 32;
 
 /// The levels that have a verdict to give, from the lowest task up.
-pub fn levels(plan: &Plan) -> impl Iterator<Item = Level> {
+pub fn levels(policy: Policy, plan: &Plan) -> impl Iterator<Item = Level> {
     let mut critical = [0u16; TASKS];
     for link in plan.description.links.iter().filter(|link| link.critical) {
         if let Some(source) = link.source() {
@@ -49,20 +52,25 @@ pub fn levels(plan: &Plan) -> impl Iterator<Item = Level> {
         }
     }
     let tasks = critical.into_iter().enumerate().filter(|&(_, sources)| sources != 0);
-    tasks.map(|(task, sources)| Level::of(plan, task, sources))
+    tasks.map(move |(task, sources)| Level::of(policy, plan, task, sources))
 }
 
 impl Level {
-    fn of(plan: &Plan, task: usize, critical: u16) -> Level {
-        let (tasks, sources) = plan.loads.level(task).split_at(TASKS);
-        let mut loads = List::filled_with((0, 0));
-        for (source, &load) in sources.iter().enumerate() {
-            if load > 0 {
-                loads.push((source, load));
+    fn of(policy: Policy, plan: &Plan, task: usize, critical: u16) -> Level {
+        match policy {
+            Policy::Preemptive => {
+                let loads = plan.loads.level(task);
+                let start = loads[..task].iter().copied().max().unwrap_or(0);
+                Level { task, critical, start, loads: of_sources(loads), tail: 0 }
+            }
+            Policy::HoldOn => {
+                let runs = &plan.description.runs[..=task];
+                let loads = plan.loads.level(task + 1);
+                let held = runs.iter().zip(loads).map(|(&run, load)| u64::from(run) + load);
+                let start = held.max().unwrap_or(0);
+                Level { task, critical, start, loads: of_sources(loads), tail: runs[task].into() }
             }
         }
-        let start = tasks[..task].iter().copied().max().unwrap_or(0);
-        Level { task, critical, start, loads }
     }
 
     /// Whether all critical links from sources to this level are held.
@@ -81,12 +89,17 @@ impl Level {
         members(self.critical.into()).map(|source| spacings[source])
     }
 
-    /// The D that a round leaves unchanged, if it is below `limit`, which is the spacing of a
-    /// source with a critical link here.
+    /// The delay, if it is below `limit`, which is the spacing of a source with a critical link here.
+    fn delay_below(&self, limit: u64, spacings: &Spacings) -> Option<u64> {
+        let unchanged = self.unchanged_below(limit.checked_sub(self.tail)?, spacings)?;
+        Some(unchanged + self.tail)
+    }
+
+    /// The D that a round leaves unchanged, if it is below `limit`.
     ///
     /// D is below 10⁹ in each round, so 16 sources with loads and releases of at most 10⁹ each
     /// stay within 64 bits.
-    fn delay_below(&self, limit: u64, spacings: &Spacings) -> Option<u64> {
+    fn unchanged_below(&self, limit: u64, spacings: &Spacings) -> Option<u64> {
         let mut releases = self.first_releases(spacings);
         let mut delay = self.start;
         let mut next = self.start + releases.iter().map(|source| source.load).sum::<u64>();
@@ -118,6 +131,17 @@ impl Level {
     }
 }
 
+/// The sources with a load, and their loads.
+fn of_sources(loads: &[u64; NODES]) -> List<(usize, u64), SOURCES> {
+    let mut loaded = List::filled_with((0, 0));
+    for (source, &load) in loads[TASKS..].iter().enumerate() {
+        if load > 0 {
+            loaded.push((source, load));
+        }
+    }
+    loaded
+}
+
 impl Releases {
     /// Counts the releases that `delay` needs beyond those counted, and returns their load.
     #[inline]
@@ -135,7 +159,8 @@ impl Releases {
 /// sources and compared with 1 less one unit for each. So no sum of 1 or more is missed. A sum
 /// that lacks 16 units of 1 is rightly taken too: for D below a spacing of at most 10⁹ the
 /// critical source's release in progress exceeds its share of D by 10⁻⁹ or more, and 16 × 10⁹
-/// units are less.
+/// units are less. On the hold-on model that source may have no load, and the first D of 1 or more
+/// is what exceeds.
 fn overloaded(releases: &[Releases]) -> bool {
     let per_tick = |source: &Releases| (u128::from(source.load) << 64) / u128::from(source.spacing);
     let sum: u128 = releases.iter().map(per_tick).sum();
@@ -179,10 +204,10 @@ pub struct Verdicts<'a> {
 }
 
 impl<'a> Verdicts<'a> {
-    pub fn at(plan: &'a Plan, tempo: u32) -> Verdicts<'a> {
+    pub fn at(policy: Policy, plan: &'a Plan, tempo: u32) -> Verdicts<'a> {
         let spacings = plan.description.spacings(tempo);
         let mut delays = [None; TASKS];
-        for level in levels(plan) {
+        for level in levels(policy, plan) {
             delays[level.task] = level.delay(&spacings);
         }
         Verdicts { plan, spacings, delays }

@@ -9,7 +9,7 @@ use Rattle.model.specs.Machine.{choose}
 use Rattle.model.specs.HoldFigures.{pair, pairCalls, ranIn, threes, oneDone, HoldFigures}
 use Rattle.model.proofs.Figures.{computing}
 
--- the task that goes on is looked at before any list of ticks
+-- asked before any list of ticks, so that a refusal tells the task
 lower : choose HoldOn threes oneDone ≡ 1
 unfolding computing
 lower = refl

@@ -1,4 +1,4 @@
--- "Verdicts", from a source to a task: spacings, rounds and the delay. All of it goes by a system and a spacing for each source.
+-- "Verdicts", from a source to a task, on both models (C-14): spacings, rounds and the delay. All of it goes by a system and a spacing for each source.
 use Prim.Native.Nat.{ℕ, zero, suc, _+_, _-_, _*_, _/_, max}
 use mathlib.Core.Bool.{true, false}
 use lib.Dec.{ltb, eqb}
@@ -29,8 +29,8 @@ spacingOf d t u = spacing (sourceAt d u) t
 unfoldable pub spacings : ℕ → ℕ → ℕ
 spacings d m = max 1 ((d + (m - 1)) / m)
 
--- "start S = the largest load(k, j) over tasks k < j, or 0"; on the hold-on model "D starts as the largest e(k) + load(k, j + 1) over tasks k ≤ j"
--- (C-14)
+-- "start S = the largest load(k, j) over tasks k < j, or 0"; on the hold-on model "D starts as the largest e(k) + load(k, j + 1) over tasks k ≤ j,
+-- load(k, n + 1) being 0 for n tasks", as it is: a sum over no task
 unfoldable pub startOf : Policy → System → ℕ → ℕ
 startOf Preemptive s j = topTo (λ k. load s k j) 1 (j - 1)
 startOf HoldOn s j = topTo (λ k. s .run k + load s k (suc j)) 1 j
@@ -40,7 +40,8 @@ abbrev pub levelOf : Policy → ℕ → ℕ
 levelOf Preemptive j = j
 levelOf HoldOn j = suc j
 
--- "the next D is S plus, over all sources u, load(u, j) × spacings(D, u)"
+-- "the next D is S plus, over all sources u, load(u, j) × spacings(D, u)"; on the hold-on model "a round adds to that start, over all sources u,
+-- load(u, j + 1) × spacings(D, u)"
 unfoldable pub roundOf : Policy → System → (ℕ → ℕ) → ℕ → ℕ → ℕ
 roundOf p s gap j d = startOf p s j + sumN (λ u. load s u (levelOf p j) * spacings d (gap u)) 33 (s .sources)
 

@@ -13,7 +13,7 @@ use Rattle.model.specs.declared.Policy.the-variants.{Preemptive, HoldOn}
 use Rattle.model.specs.declared.Verdict.the-variants.{HeldOrder, Held, Doubt}
 use Rattle.model.specs.declared.Quote.the-variants.{Tempo}
 use Rattle.model.specs.Basics.{tab}
-use Rattle.model.specs.Refusals.{ofOutcome, ofQuote}
+use Rattle.model.specs.Refusals.{ofOutcome}
 use Rattle.model.specs.Graph.{system}
 use Rattle.model.specs.File.{fileOf}
 use Rattle.model.specs.Delays.{spacingOf, startOf, roundOf}
@@ -61,7 +61,8 @@ boxHoldPage =
     108 ∷ 105 ∷ 110 ∷ 107 ∷ 32 ∷ 52 ∷ 32 ∷ 51 ∷ 52 ∷ 62 ∷ 51 ∷ 32 ∷ 104 ∷ 101 ∷ 108 ∷ 100 ∷ 32 ∷ 54 ∷ 48 ∷ 48 ∷ 32 ∷ 111 ∷ 102 ∷ 32 ∷ 50 ∷ 48 ∷ 48 ∷ 48 ∷ 10 ∷ []
 
 pub record HoldFigures : Type 0 where
-  -- Box, 33>2: D starts as the larger of 400 + 0 and 300 + 200; a round adds 200 of source 34; D is 700, and 300 follow
+  -- Box, 33>2: D starts as the larger of 400 + 0 and 300 + 200; a round adds 200 of source 34; D is 700, and 300 follow. The spacing of source 33,
+  -- 1,250,000 / T, is above 1,000 up to 124.8
   pub box-first : startOf HoldOn (system box) 2 ≡ 500
   pub box-next : roundOf HoldOn (system box) (spacingOf box 1248) 2 500 ≡ 700
   pub box-delay : roundOf HoldOn (system box) (spacingOf box 1248) 2 700 ≡ 700
@@ -73,11 +74,11 @@ pub record HoldFigures : Type 0 where
   pub box-second : verdictAt HoldOn box 1248 3 ≡ Held 600 2000
   -- "links between tasks keep their rule"
   pub box-order : verdictAt HoldOn box 1248 1 ≡ HeldOrder
-  -- Twin: 33>1 has D = 4 + 4, and 2 follow; 33>2 has D = 4
+  -- Twin: 33>1 starts with 2 + 2, a round adds 4 of source 33, D is 8, and 2 follow; 33>2 has D = 2 + 2, to which nothing is added, and 2 follow
   pub twin-first : verdictAt HoldOn (twin 11) 200 2 ≡ Held 10 11
   pub twin-second : verdictAt HoldOn (twin 11) 200 3 ≡ Held 6 11
   pub twin-doubtful : verdictAt HoldOn (twin 10) 200 2 ≡ Doubt 10
-  pub twin-quote : ofQuote (quoteOf HoldOn (twin 11)) ≡ record { number = 0; value = 3000 }
+  pub twin-quote : quoteOf HoldOn (twin 11) ≡ Tempo 3000
   -- "a line `hold` before its first, a refused line included"
   pub page-box : policyLine HoldOn ++ reportFor HoldOn box (Tempo 1248) ≡ boxHoldPage
   pub page-box-lines : length (linesOf boxHoldPage) ≡ 6
@@ -88,12 +89,12 @@ pub record HoldFigures : Type 0 where
   pub goes-on : choose HoldOn threes oneDone ≡ 1
   pub interrupted : choose Preemptive threes oneDone ≡ 2
   pub none-runs : choose HoldOn threes noneDone ≡ 2
-  -- the lower task holds the processor while the higher one wakes, which then waits three ticks; preemptive it waits one
+  -- the lower task holds the processor while the higher one wakes, which then waits three ticks; on the preemptive model it waits one
   pub holds : ranIn (history HoldOn pair (pairCalls 1)) ≡ 1 ∷ 1 ∷ 1 ∷ 2 ∷ []
   pub preempts : ranIn (history Preemptive pair (pairCalls 1)) ≡ 1 ∷ 2 ∷ 1 ∷ 1 ∷ []
   pub holds-wait : waitOf (history HoldOn pair (pairCalls 1)) 2 1 ≡ 3
   pub preempts-wait : waitOf (history Preemptive pair (pairCalls 1)) 2 1 ≡ 1
-  -- an arrival at the very tick of choice is seen before the choice
+  -- "an arrival at the very tick of choice is seen before the choice"
   pub seen : ranIn (history HoldOn pair (pairCalls 0)) ≡ 2 ∷ 1 ∷ 1 ∷ 1 ∷ []
   -- "the state rule allows only one such"
   pub not-alone : aloneRule HoldOn bothDone ≡ false

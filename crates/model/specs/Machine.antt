@@ -104,6 +104,7 @@ sourceRule d m u = cond (ltb u (d .«source_count»))
     (leb (ageAt m u) (longestGap d u) && cond (eqb (fastestAt m u) 0) (eqb (ageAt m u) (longestGap d u)) (onKnob (fastestAt m u)))
     (eqb (ageAt m u) 0 && eqb (fastestAt m u) 0)
 
+-- these are the rules of both models
 unfoldable pub rulesKept : Description → Machine → Bool
 rulesKept d m = allN (taskRule d m) 1 32 && (allN (linkRule d m) 0 256 && allN (sourceRule d m) 0 16)
 

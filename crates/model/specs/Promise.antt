@@ -56,7 +56,7 @@ pub record Assured (p : Policy) (d : Description) (q : ℕ) (cs : List Call) (rs
       → waitOf (ticks p d (idle d) cs) (linkAt d l .to) x ≤ delayIn (verdictAt p d q l)
 
 -- The promise: for one accepted file that has a quote (given as a record whose numbers fit their types), the record that the start call answers,
--- and every list of calls on it, however the knob moves up to the quote
+-- and every list of calls on it, however the knob moves up to the quote; of either model, with its own quote and its own machine
 abbrev pub Promise : Type 0
 Promise = (p : Policy) (d : Description) (q : ℕ) (s : Ticked) (cs : List Call) (rs : List Ticked) (m : Machine)
     → Widths d → quoteOf p d ≡ Tempo q → StartMeets d s → Calls p d (s .machine) cs rs m → UpTo q (ticks p d (idle d) cs) → Assured p d q cs rs m
@@ -66,7 +66,8 @@ unfoldable pub atTempo : ℕ → List Call → Bool
 atTempo t [] = true
 atTempo t (c ∷ cs) = eqb (c .tempo) t && atTempo t cs
 
--- Demand 3: the same of calls that all have one tempo up to the quote; 01 has "the same T, from 200 to that quote", and below 200 every call is refused
+-- Demand 3: the same of calls that all have one tempo up to the quote; 01 has "the same T, from 200 to that quote", and below 200 every call is refused.
+-- On the hold-on model it is what "a buyer of this box relies on": "no critical loss, no longer wait, at any one tempo up to its quote" (C-14)
 abbrev pub Demand3 : Type 0
 Demand3 = (p : Policy) (d : Description) (q t : ℕ) (s : Ticked) (cs : List Call) (rs : List Ticked) (m : Machine)
     → Widths d → quoteOf p d ≡ Tempo q → t ≤ q → atTempo t cs ≡ true → StartMeets d s → Calls p d (s .machine) cs rs m → Assured p d q cs rs m

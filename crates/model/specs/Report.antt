@@ -137,6 +137,6 @@ reported p file buffer = fillWith (reportOf p file) buffer
 unfoldable pub pageReported : Policy → List ℕ → List ℕ → List ℕ
 pageReported p file buffer = filledBy (reportOf p file) buffer
 
--- the programs: "reads the first 4,096 bytes of standard input and ignores the rest"
+-- what the program of a model prints: it "reads the first 4,096 bytes of standard input and ignores the rest"
 unfoldable pub printed : Policy → List ℕ → List ℕ
 printed p input = reportOf p (take 4096 input)

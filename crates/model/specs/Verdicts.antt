@@ -23,7 +23,8 @@ use Rattle.model.specs.Delays.{Settled, unchanged, reached, tailOf, dela
 use Rattle.model.specs.Order.{inOrder}
 use Rattle.model.specs.File.{readFile, judge}
 
--- "the link is held if the delay is below i's spacing, doubtful otherwise"
+-- "the link is held if the delay is below i's spacing, doubtful otherwise"; on the hold-on model "held means D + e(j) below i's spacing", and "D + e(j)
+-- is the delay printed". What follows D is the tail
 abbrev pub settledVerdict : Settled → ℕ → ℕ → Verdict
 settledVerdict (unchanged d) tail m = Held (d + tail) m
 settledVerdict reached tail m = Doubt m

@@ -152,7 +152,7 @@ pub enum Quote {
     Unquoted(Refusal, usize),
 }
 
-// Who goes on: the highest awake task at every tick, or the one that runs until its run ends (the hold-on model).
+// Which task runs: in every tick the highest awake one, or (the hold-on model) the one that is part done, and the highest awake if none is.
 pub enum Policy {
     Preemptive,
     HoldOn,

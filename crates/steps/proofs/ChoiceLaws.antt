@@ -15,6 +15,7 @@ use Rattle.model.specs.declared.Policy.the-variants.{Preemptive, HoldOn}
 use Rattle.model.specs.Basics.{tab}
 use Rattle.model.specs.Machine.{usedAt, highestIn, running, choose}
 use Rattle.lemmas.proofs.Tests.{Cmp, less, same, more, cmp, not-both, and-left, or-cases, and-right}
+use Rattle.lemmas.proofs.Bools.{or-off, or-on, and-on, and-off}
 use Rattle.lemmas.proofs.Table.{getD-tab}
 use Rattle.theory.proofs.WellFormed.{WellFormed}
 use Rattle.assurance.proofs.Firing.{getD-task}
@@ -120,16 +121,8 @@ module _ (p : Policy) (running running′ : ℕ) (used : List ℕ) (h : ℕ) (lo
   }
     where
       off : (a b : Bool) (x : ℕ) → (a && ltb 0 x && not b) ≡ (a && ltb 0 (cond b 0 x))
-      off true true x = and-no (ltb 0 x)
-        where
-          and-no : (c : Bool) → (c && false) ≡ false
-          and-no true = refl
-          and-no false = refl
-      off true false x = and-yes (ltb 0 x)
-        where
-          and-yes : (c : Bool) → (c && true) ≡ c
-          and-yes true = refl
-          and-yes false = refl
+      off true true x = and-off (ltb 0 x)
+      off true false x = and-on (ltb 0 x) true refl
       off false b x = refl
 
   pub goes-more : (spent : ℕ) → 1 ≤ spent → ((k : ℕ) → member running′ k ≡ (member running k || (holdsOn p && eqb k h))) → Goes p running′ (set used (h - 1) spent)
@@ -142,14 +135,6 @@ module _ (p : Policy) (running running′ : ℕ) (used : List ℕ) (h : ℕ) (lo
       here k q = let y : k ≡ h = eqb-true k h q in (omega arith, omega arith)
 
       on : (a b : Bool) (x : ℕ) → ((a && ltb 0 x) || (a && b)) ≡ (a && ltb 0 (cond b spent x))
-      on true true x = or-yes (ltb 0 x) ∙ sym (lt-ltb 0 spent s)
-        where
-          or-yes : (c : Bool) → (c || true) ≡ true
-          or-yes true = refl
-          or-yes false = refl
-      on true false x = or-no (ltb 0 x)
-        where
-          or-no : (c : Bool) → (c || false) ≡ c
-          or-no true = refl
-          or-no false = refl
+      on true true x = or-on (ltb 0 x) ∙ sym (lt-ltb 0 spent s)
+      on true false x = or-off (ltb 0 x)
       on false b x = refl

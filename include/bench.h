@@ -17,9 +17,9 @@
  * No call allocates, keeps a pointer, reads or writes anything but its arguments, or fails otherwise than by its number. There is
  * no state outside the arguments, so calls may run at once in several threads and in a handler that interrupts another call.
  *
- * Stack: the most that was seen is 160,512 bytes in bench_report, 144,416 in bench_quote and 27,136 in bench_run, on a thread whose
- * stack was filled with a pattern beforehand: the first two over the samples, where a level that takes more than 256 rounds needs a
- * table of 131,072 bytes. No recursion is deeper than the file has tasks. Allow 256 KB.
+ * Stack: the most that was seen is 160,720 bytes in bench_report, 144,608 in bench_quote and 27,552 in bench_run, the same on both
+ * models, on a thread whose stack was filled with a pattern beforehand: over the samples, where a level that takes more than 256
+ * rounds needs a table of 131,072 bytes. No recursion is deeper than the file has tasks. Allow 256 KB.
  *
  * Time: every call ends, and most files take microseconds; the slowest known file takes about a second (docs/BENCHMARKS.md). */
 #ifndef BENCH_H
@@ -59,8 +59,8 @@ enum bench_refusal {
 #define BENCH_NUMBER(answer) ((answer) < 0 ? (int)(-(answer) / 10000) : 0)
 #define BENCH_PLACE(answer) ((answer) < 0 ? (int)(-(answer) % 10000) : 0)
 
-/* The longest accepted file and the longest report, in bytes (a report without the line `hold` has 5 less); the lowest and the
- * highest tempo, in tenths of a beat per minute. */
+/* The longest accepted file, and what no report exceeds, in bytes (5 less without the line `hold`); the lowest and the highest
+ * tempo, in tenths of a beat per minute. */
 #define BENCH_LONGEST_FILE 1872
 #define BENCH_LONGEST_REPORT 11173
 #define BENCH_LOWEST_TEMPO 200

@@ -171,6 +171,28 @@ at-most-one p a (suc n) h =
         let none : sumN (λ k. given (p k) 1) a n ≡ 0 = sumN-zero (λ k. given (p k) 1) a n (λ k b c. given-off (p k) 1 (false-of (p k) (λ f. omega (arith, h k (a + n) b (omega arith) (omega arith) (omega arith) f e)))) in
         rw (e, sumN) (omega arith)
 
+-- and a test that is counted once at most passes at no two
+pub one-only : (p : ℕ → Bool) (a n : ℕ) → sumN (λ k. given (p k) 1) a n ≤ 1 → (k k′ : ℕ) → a ≤ k → k < a + n → a ≤ k′ → k′ < a + n → p k ≡ true → p k′ ≡ true → k ≡ k′
+unfolding sumN
+one-only p a zero h k k′ b c b′ c′ e e′ = absurd (omega arith)
+one-only p a (suc n) h k k′ b c b′ c′ e e′ = go (cmp k (a + n)) (cmp k′ (a + n)) (λ x y. one-only p a n (omega (arith, h)) k k′ b x b′ y e e′)
+  where
+    one : (i : ℕ) → p i ≡ true → given (p i) 1 ≡ 1
+    one i q = rw q refl
+
+    -- one before the last, and the last
+    two : (i : ℕ) → a ≤ i → i < a + n → p i ≡ true → p (a + n) ≡ true → ⊥
+    two i x y q r = omega (arith, h, le-sumN (λ j. given (p j) 1) a n i x y, one i q, one (a + n) r)
+
+    go : Cmp k (a + n) → Cmp k′ (a + n) → (k < a + n → k′ < a + n → k ≡ k′) → k ≡ k′
+    go (less x) (less y) ih = ih x y
+    go (less x) (same y) ih = absurd (two k b x e (rw y at e′))
+    go (same x) (less y) ih = absurd (two k′ b′ y e′ (rw x at e))
+    go (same x) (same y) ih = omega arith
+    go (more x) y ih = absurd (omega arith)
+    go (less x) (more y) ih = absurd (omega arith)
+    go (same x) (more y) ih = absurd (omega arith)
+
 -- tests over a range
 pub any-at : (p : ℕ → Bool) (a n k : ℕ) → a ≤ k → k < a + n → p k ≡ true → anyN p a n ≡ true
 unfolding anyN

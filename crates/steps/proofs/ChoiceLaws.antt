@@ -1,30 +1,30 @@
 -- The task that a tick runs, on the words and in the record that they hold; and the tasks that go on. Assumes nothing.
 use Prim.Native.Nat.{ℕ, zero, suc, _+_, _-_, _≤_, _<_}
 use mathlib.Core.Path.{_≡_, refl, sym, ap, _∙_}
-use mathlib.Core.Bool.{Bool, true, false, _||_, _&&_, not, cond}
+use mathlib.Core.Bool.{Bool, true, false, _&&_, cond}
 use mathlib.Core.List.{List}
 use mathlib.Core.Logic.{_⊎_, inl, inr}
 use native.Mathlib.Omega.{arith}
 use lib.ListN.{getD, set, length}
 use lib.Dec.{eqb, ltb}
-use borrow.Author.Tests.{lt-ltb, eqb-true, ne-eqb}
+use borrow.Author.Tests.{lt-ltb, eqb-true, eq-eqb, ne-eqb}
 use Rattle.model.specs.declared.Description.{Description}
 use Rattle.model.specs.declared.Machine.{Machine}
 use Rattle.model.specs.declared.Policy.{Policy}
 use Rattle.model.specs.declared.Policy.the-variants.{Preemptive, HoldOn}
 use Rattle.model.specs.Basics.{tab}
 use Rattle.model.specs.Machine.{usedAt, highestIn, running, choose}
-use Rattle.lemmas.proofs.Tests.{Cmp, less, same, more, cmp, not-both, and-left, or-cases, and-right}
-use Rattle.lemmas.proofs.Bools.{or-off, or-on, and-on, and-off}
+use Rattle.lemmas.proofs.Tests.{Cmp, less, same, more, cmp, not-both}
+use Rattle.lemmas.proofs.Bools.{and-off}
 use Rattle.lemmas.proofs.Table.{getD-tab}
 use Rattle.theory.proofs.WellFormed.{WellFormed}
 use Rattle.assurance.proofs.Firing.{getD-task}
 use Rattle.assurance.proofs.Ending.{highest-le, highest-above, highest-awake}
 use Rattle.assurance.proofs.Choosing.{Anew, Kept, chosen, running-le, running-part}
-use Rattle.sets.specs.Sets.{member, LastIn}
+use Rattle.sets.specs.Sets.{member}
 use Rattle.sets.proofs.SetLaws.{member-none}
 use Rattle.steps.specs.declared.words.Words.{Words}
-use Rattle.steps.specs.Words.{Holds, holdsOn, Goes}
+use Rattle.steps.specs.Words.{Holds, holdsOn, Goes, Chosen}
 use Rattle.steps.proofs.MarkLaws.{highest-is, highest-none}
 
 -- the highest of a list's marks, by what it is
@@ -41,11 +41,11 @@ highest-of l n k o p e none = go (cmp (highestIn l n) k)
 
 module _ (p : Policy) (d : Description) (w : Words) (used since : List ℕ) (m : Machine) (g : WellFormed d) (r : Goes p (w .running) used) (H : Holds d w used since m) where
   -- who goes on, by the record
-  goes-in : (k : ℕ) → 1 ≤ k → k ≤ 32 → member (w .running) k ≡ (holdsOn p && ltb 0 (usedAt m k))
+  goes-in : (k : ℕ) → 1 ≤ k → k ≤ 32 → eqb k (w .running) ≡ (holdsOn p && ltb 0 (usedAt m k))
   goes-in k o b = r .here k o b ∙ ap (λ (us : List ℕ). holdsOn p && ltb 0 (getD us (k - 1) 0)) (H .same-used)
 
-  running-none : ((k : ℕ) → member (w .running) k ≡ true → ⊥) → running p d m ≡ 0
-  running-none none = go (cmp 0 (running p d m))
+  running-none : w .running ≡ 0 → running p d m ≡ 0
+  running-none z = go (cmp 0 (running p d m))
     where
       some : (q : Policy) → p ≡ q → 0 < running p d m → ⊥
       some Preemptive e s = omega (arith, ap (λ (q : Policy). running q d m) e)
@@ -53,88 +53,103 @@ module _ (p : Policy) (d : Description) (w : Words) (used since : List ℕ) (m :
           let k : ℕ = running p d m in
           let on : holdsOn p ≡ true = ap holdsOn e in
           let u : ltb 0 (usedAt m k) ≡ true = lt-ltb 0 (usedAt m k) (running-part d (g .fields .few-tasks) m p s) in
-          none k (goes-in k s (omega (arith, running-le p d m, g .fields .few-tasks)) ∙ rw (on, u) refl)
+          omega (arith, eqb-true k (w .running) (goes-in k s (omega (arith, running-le p d m, g .fields .few-tasks)) ∙ rw (on, u) refl))
 
       go : Cmp 0 (running p d m) → running p d m ≡ 0
       go (less s) = absurd (some p refl s)
       go (same s) = sym s
       go (more s) = absurd (omega arith)
 
-  running-is : (h : ℕ) → LastIn (w .running) h → h ≤ d .«task_count» → running p d m ≡ h
-  running-is h l t = by p refl
+  running-is : 0 < w .running → w .running ≤ d .«task_count» → running p d m ≡ w .running
+  running-is o t = by p refl
     where
-      low : (1 ≤ h) × (h ≤ 32)
-      low = r .low h (l .in-set)
+      h : ℕ
+      h = w .running
 
       by : (q : Policy) → p ≡ q → running p d m ≡ h
-      by Preemptive e = absurd (not-both (l .in-set) (r .here h (low .0) (low .1) ∙ ap (λ (b : Bool). b && ltb 0 (getD used (h - 1) 0)) (ap holdsOn e)))
-      by HoldOn e = ap (λ (q : Policy). running q d m) e ∙ highest-of (tab 32 (λ i. ltb 0 (getD (m .used) i 0))) (d .«task_count») h (low .0) t (at h (low .0) (low .1) ∙ l .in-set) (λ j a b. at j (omega (arith, low .0)) (omega (arith, g .fields .few-tasks)) ∙ l .none-after j a)
+      by Preemptive e = absurd (not-both (eq-eqb h h refl) (r .here h o (r .low) ∙ ap (λ (b : Bool). b && ltb 0 (getD used (h - 1) 0)) (ap holdsOn e)))
+      by HoldOn e = ap (λ (q : Policy). running q d m) e ∙ highest-of (tab 32 (λ i. ltb 0 (getD (m .used) i 0))) (d .«task_count») h o t (at h o (r .low) ∙ eq-eqb h h refl) (λ j a b. at j (omega (arith, o)) (omega (arith, g .fields .few-tasks)) ∙ ne-eqb j h (λ z. omega arith))
         where
-          at : (k : ℕ) → 1 ≤ k → k ≤ 32 → getD (tab 32 (λ i. ltb 0 (getD (m .used) i 0))) (k - 1) false ≡ member (w .running) k
+          at : (k : ℕ) → 1 ≤ k → k ≤ 32 → getD (tab 32 (λ i. ltb 0 (getD (m .used) i 0))) (k - 1) false ≡ eqb k h
           at k o b = getD-tab 32 (λ i. ltb 0 (getD (m .used) i 0)) false (k - 1) (omega arith) ∙ sym (goes-in k o b ∙ ap (λ (c : Bool). c && ltb 0 (usedAt m k)) (ap holdsOn e))
 
-  -- the greatest of those that go on, or else of those awake, is the task that runs
-  module _ (going : (k : ℕ) → member (w .running) k ≡ true → member (w .awake) k ≡ true) where
-    pub choose-is : (h : ℕ) → LastIn (cond (eqb (w .running) 0) (w .awake) (w .running)) h → choose p d m ≡ h
-    choose-is h l = go (w .running) refl (chosen p d m)
+  -- the one that goes on, or else the highest awake, is the task that runs
+  module _ (going : 0 < w .running → member (w .awake) (w .running) ≡ true) where
+    pub choose-is : (h : ℕ) → Chosen (w .running) (w .awake) h → choose p d m ≡ h
+    choose-is h l = go (cmp 0 (w .running)) (chosen p d m)
       where
-        go : (x : ℕ) → w .running ≡ x → Anew p d m ⊎ Kept p d m → choose p d m ≡ h
-        go zero e (inl c) = c .is ∙ highest-is d w m h (H .marks) (rw e at l)
-        go zero e (inr c) = absurd (omega (arith, c .some, running-none (λ k f. not-both f (ap (λ s. member s k) e ∙ member-none k))))
-        go (suc x) e c =
-            let f : LastIn (w .running) h = rw (ne-eqb (w .running) 0 (λ z. omega arith)) at l in
-            let q : running p d m ≡ h = running-is h f (H .marks .present h (going h (f .in-set))) in
-            last c q (r .low h (f .in-set) .0)
-          where
-            last : Anew p d m ⊎ Kept p d m → running p d m ≡ h → 1 ≤ h → choose p d m ≡ h
-            last (inl c) q o = absurd (omega (arith, c .none))
-            last (inr c) q o = c .is ∙ q
+        go : Cmp 0 (w .running) → Anew p d m ⊎ Kept p d m → choose p d m ≡ h
+        go (less o) (inl c) = absurd (omega (arith, c .none, running-is o (H .marks .present (w .running) (going o))))
+        go (less o) (inr c) = c .is ∙ running-is o (H .marks .present (w .running) (going o)) ∙ sym (l .goes o)
+        go (same e) (inl c) = c .is ∙ highest-is d w m h (H .marks) (l .highest (sym e))
+        go (same e) (inr c) = absurd (omega (arith, c .some, running-none (sym e)))
+        go (more e) c = absurd (omega arith)
 
     pub choose-none : w .awake ≡ 0 → choose p d m ≡ 0
     choose-none e = go (chosen p d m)
       where
-        z : running p d m ≡ 0
-        z = running-none (λ k f. not-both (going k f) (ap (λ s. member s k) e ∙ member-none k))
+        idle : Cmp 0 (w .running) → w .running ≡ 0
+        idle (less o) = absurd (not-both (going o) (ap (λ s. member s (w .running)) e ∙ member-none (w .running)))
+        idle (same z) = sym z
+        idle (more z) = absurd (omega arith)
 
         go : Anew p d m ⊎ Kept p d m → choose p d m ≡ 0
         go (inl c) = c .is ∙ highest-none d w m (H .marks) e
-        go (inr c) = absurd (omega (arith, c .some, z))
+        go (inr c) = absurd (omega (arith, c .some, running-none (idle (cmp 0 (w .running)))))
 
--- a task to choose from is awake, and there is one where some task is
-pub eligible-awake : (running awake h : ℕ) → ((k : ℕ) → member running k ≡ true → member awake k ≡ true) → member (cond (eqb running 0) awake running) h ≡ true → member awake h ≡ true
-eligible-awake running awake h going = go (eqb running 0)
+-- the task that runs is awake
+pub chosen-awake : (running awake h : ℕ) → (0 < running → member awake running ≡ true) → Chosen running awake h → member awake h ≡ true
+chosen-awake running awake h going l = go (cmp 0 running)
   where
-    go : (b : Bool) → member (cond b awake running) h ≡ true → member awake h ≡ true
-    go true e = e
-    go false e = going h e
+    go : Cmp 0 running → member awake h ≡ true
+    go (less o) = rw (l .goes o) (going o)
+    go (same e) = l .highest (sym e) .in-set
+    go (more e) = absurd (omega arith)
 
-pub eligible-some : (running awake : ℕ) → (awake ≡ 0 → ⊥) → 0 < cond (eqb running 0) awake running
-eligible-some zero awake ne = omega (arith, ne)
-eligible-some (suc running) awake ne = rw (ne-eqb (suc running) 0 (λ z. omega arith)) (omega arith)
+-- who goes on once the run of h has ended, and once it has gone on for a tick: no other task was part done
+module _ (p : Policy) (running : ℕ) (used : List ℕ) (h : ℕ) (low : 1 ≤ h) (high : h ≤ 32) (many : length used ≡ 32) (own : 0 < running → h ≡ running) (r : Goes p running used) where
+  other : (k : ℕ) → 1 ≤ k → k ≤ 32 → (k ≡ h → ⊥) → (holdsOn p && ltb 0 (getD used (k - 1) 0)) ≡ false
+  other k o b ne = sym (r .here k o b) ∙ ne-eqb k running (λ z. ne (omega (arith, own (omega arith))))
 
--- who goes on once the run of h has ended, and once it has gone on for a tick
-module _ (p : Policy) (running running′ : ℕ) (used : List ℕ) (h : ℕ) (low : 1 ≤ h) (high : h ≤ 32) (many : length used ≡ 32) (r : Goes p running used) where
-  pub goes-over : ((k : ℕ) → member running′ k ≡ (member running k && not (eqb k h))) → Goes p running′ (set used (h - 1) 0)
-  goes-over e = record {
-    low = λ k f. r .low k (and-left (member running k) _ (sym (e k) ∙ f));
-    here = λ k o b. e k ∙ rw (r .here k o b, getD-task used h 0 0 k o low (omega arith)) (off (holdsOn p) (eqb k h) (getD used (k - 1) 0));
-  }
+  after : (spent k : ℕ) → 1 ≤ k → k ≤ 32 → getD (set used (h - 1) spent) (k - 1) 0 ≡ cond (eqb k h) spent (getD used (k - 1) 0)
+  after spent k o b = getD-task used h spent 0 k o low (omega arith)
+
+  pub goes-over : (running′ : ℕ) → running′ ≡ 0 → Goes p running′ (set used (h - 1) 0)
+  goes-over running′ e = record { low = omega arith; here = λ k o b. at k o b (cmp k h) }
     where
-      off : (a b : Bool) (x : ℕ) → (a && ltb 0 x && not b) ≡ (a && ltb 0 (cond b 0 x))
-      off true true x = and-off (ltb 0 x)
-      off true false x = and-on (ltb 0 x) true refl
-      off false b x = refl
+      none : (k : ℕ) → 1 ≤ k → eqb k running′ ≡ false
+      none k o = ne-eqb k running′ (λ z. omega arith)
 
-  pub goes-more : (spent : ℕ) → 1 ≤ spent → ((k : ℕ) → member running′ k ≡ (member running k || (holdsOn p && eqb k h))) → Goes p running′ (set used (h - 1) spent)
-  goes-more spent s e = record {
-    low = λ k f. or-cases (member running k) (holdsOn p && eqb k h) (sym (e k) ∙ f) (r .low k) (λ q. here k (and-right (holdsOn p) _ q));
-    here = λ k o b. e k ∙ rw (r .here k o b, getD-task used h spent 0 k o low (omega arith)) (on (holdsOn p) (eqb k h) (getD used (k - 1) 0));
-  }
+      rest : (k : ℕ) → 1 ≤ k → k ≤ 32 → (k ≡ h → ⊥) → eqb k running′ ≡ (holdsOn p && ltb 0 (getD (set used (h - 1) 0) (k - 1) 0))
+      rest k o b ne = none k o ∙ sym (rw (after 0 k o b, ne-eqb k h ne) (other k o b ne))
+
+      at : (k : ℕ) → 1 ≤ k → k ≤ 32 → Cmp k h → eqb k running′ ≡ (holdsOn p && ltb 0 (getD (set used (h - 1) 0) (k - 1) 0))
+      at k o b (less q) = rest k o b (λ z. omega arith)
+      at k o b (same q) = none k o ∙ sym (rw (after 0 k o b, eq-eqb k h q) (and-off (holdsOn p)))
+      at k o b (more q) = rest k o b (λ z. omega arith)
+
+  pub goes-more : (running′ spent : ℕ) → 1 ≤ spent → running′ ≡ cond (holdsOn p) h 0 → Goes p running′ (set used (h - 1) spent)
+  goes-more running′ spent s e = record { low = small (holdsOn p) e; here = λ k o b. at k o b (cmp k h) }
     where
-      here : (k : ℕ) → eqb k h ≡ true → (1 ≤ k) × (k ≤ 32)
-      here k q = let y : k ≡ h = eqb-true k h q in (omega arith, omega arith)
+      small : (c : Bool) → running′ ≡ cond c h 0 → running′ ≤ 32
+      small true q = omega arith
+      small false q = omega arith
 
-      on : (a b : Bool) (x : ℕ) → ((a && ltb 0 x) || (a && b)) ≡ (a && ltb 0 (cond b spent x))
-      on true true x = or-on (ltb 0 x) ∙ sym (lt-ltb 0 spent s)
-      on true false x = or-off (ltb 0 x)
-      on false b x = refl
+      rest : (k : ℕ) → 1 ≤ k → k ≤ 32 → (k ≡ h → ⊥) → eqb k running′ ≡ (holdsOn p && ltb 0 (getD (set used (h - 1) spent) (k - 1) 0))
+      rest k o b ne = go (holdsOn p) e ∙ sym (rw (after spent k o b, ne-eqb k h ne) (other k o b ne))
+        where
+          go : (c : Bool) → running′ ≡ cond c h 0 → eqb k running′ ≡ false
+          go true q = ne-eqb k running′ (λ z. ne (omega arith))
+          go false q = ne-eqb k running′ (λ z. omega arith)
+
+      own-one : (k : ℕ) → 1 ≤ k → k ≤ 32 → k ≡ h → eqb k running′ ≡ (holdsOn p && ltb 0 (getD (set used (h - 1) spent) (k - 1) 0))
+      own-one k o b q = rw (after spent k o b, eq-eqb k h q, lt-ltb 0 spent s) (go (holdsOn p) e)
+        where
+          go : (c : Bool) → running′ ≡ cond c h 0 → eqb k running′ ≡ (c && true)
+          go true z = eq-eqb k running′ (omega arith)
+          go false z = ne-eqb k running′ (λ y. omega arith)
+
+      at : (k : ℕ) → 1 ≤ k → k ≤ 32 → Cmp k h → eqb k running′ ≡ (holdsOn p && ltb 0 (getD (set used (h - 1) spent) (k - 1) 0))
+      at k o b (less q) = rest k o b (λ z. omega arith)
+      at k o b (same q) = own-one k o b q
+      at k o b (more q) = rest k o b (λ z. omega arith)

@@ -9,16 +9,17 @@ use native.Mathlib.Decide.{decLt}
 use lib.ListN.{getD, length, replicate, List·getD-eq-default}
 use lib.Seq.{ext-getD}
 use lib.Dec.{eqb, ltb, leb}
-use borrow.Author.Tests.{eqb-true, eq-eqb, ne-eqb, leb-true, lt-ltb, le-ltb, lt-leb, ltb-true, not-true}
+use borrow.Author.Tests.{eqb-true, eq-eqb, ne-eqb, leb-true, lt-ltb, le-ltb, lt-leb, ltb-true, ltb-false, not-true}
 use Rattle.model.specs.declared.Description.{Description}
 use Rattle.model.specs.declared.Policy.{Policy}
+use Rattle.model.specs.declared.Policy.the-variants.{Preemptive, HoldOn}
 use Rattle.model.specs.declared.Machine.{Machine}
 use Rattle.model.specs.Basics.{allN}
 use Rattle.model.specs.Verdicts.{onKnob}
-use Rattle.model.specs.Machine.{awakeAt, usedAt, ageAt, fastestAt, longestGap, idle, taskRule, linkRule, sourceRule, rulesKept}
-use Rattle.lemmas.proofs.Tests.{not-both, false-of, and-left, and-right}
+use Rattle.model.specs.Machine.{awakeAt, usedAt, ageAt, fastestAt, longestGap, idle, taskRule, linkRule, sourceRule, rulesKept, partsDone, aloneRule}
+use Rattle.lemmas.proofs.Tests.{Cmp, less, same, more, cmp, not-both, false-of, and-left, and-right}
 use Rattle.lemmas.proofs.Table.{getD-tab, length-tab, getD-same}
-use Rattle.lemmas.proofs.Range.{all-at}
+use Rattle.lemmas.proofs.Range.{all-at, one-only}
 use Rattle.theory.proofs.WellFormed.{WellFormed}
 use Rattle.theory.proofs.Spacing.{gap-most}
 use Rattle.assurance.proofs.Firing.{Sized}
@@ -29,7 +30,7 @@ use Rattle.sets.proofs.SetLaws.{member-none}
 use Rattle.steps.specs.declared.words.Words.{Words}
 use Rattle.spacings.specs.Gaps.{GapsOf}
 use Rattle.steps.specs.Words.{Holds, holdsOn, Goes, Keeps, raisedTo}
-use Rattle.steps.specs.Record.{AwakeOf, AwakeIn, LinksOf, AgesOf, SinceOf, Begins}
+use Rattle.steps.specs.Record.{OnePart, AwakeOf, AwakeIn, LinksOf, AgesOf, SinceOf, Begins}
 use Rattle.lemmas.proofs.Bools.{and-off, and-swap, less-more}
 
 -- a number that is marked
@@ -86,25 +87,65 @@ part-more f set k set′ h e =
         go true f = eq-eqb (suc j) (k + 1) (omega (arith, eqb-true j k f)) ∙ sym f
         go false f = false-of (eqb (suc j) (k + 1)) (λ y. not-both (eq-eqb j k (omega (arith, eqb-true (suc j) (k + 1) y))) f) ∙ sym f
 
--- those that go on: none of them, or those that are part done
+-- who goes on: nobody, or the task that is part done
 pub part-none : (p : Policy) (used : List ℕ) → holdsOn p ≡ false → Goes p 0 used
 part-none p used e = record {
-  low = λ k f. absurd (not-both f (member-none k));
-  here = λ k o h. member-none k ∙ sym (ap (λ (b : Bool). b && ltb 0 (getD used (k - 1) 0)) e);
+  low = omega arith;
+  here = λ k o h. ne-eqb k 0 (λ z. omega arith) ∙ sym (ap (λ (b : Bool). b && ltb 0 (getD used (k - 1) 0)) e);
 }
 
-pub part-done : (p : Policy) (used : List ℕ) (set : ℕ) → holdsOn p ≡ true → member set 0 ≡ false → ((j : ℕ) → member set (suc j) ≡ (ltb j 32 && ltb 0 (getD used j 0))) → Goes p set used
-part-done p used set e z h = record { low = low; here = here }
-  where
-    low : (k : ℕ) → member set k ≡ true → (1 ≤ k) × (k ≤ 32)
-    low zero f = absurd (not-both f z)
-    low (suc j) f = let q : j < 32 = ltb-true j 32 (and-left (ltb j 32) _ (sym (h j) ∙ f)) in (omega arith, omega arith)
+-- the last of the first k tasks that is part done, 0 for none
+pub record LastPart (used : List ℕ) (k found : ℕ) : Type 0 where
+  pub within : found ≤ k
+  pub none : found ≡ 0 → (j : ℕ) → j < k → getD used j 0 ≡ 0
+  pub some : 0 < found → 0 < getD used (found - 1) 0
 
-    here : (k : ℕ) → 1 ≤ k → k ≤ 32 → member set k ≡ (holdsOn p && ltb 0 (getD used (k - 1) 0))
-    here zero o b = absurd (omega arith)
-    here (suc j) o b =
-        let n : suc j - 1 ≡ j = omega arith in
-        h j ∙ rw (lt-ltb j 32 (omega arith), e, n) refl
+pub last-more : (used : List ℕ) (k found found′ : ℕ) → found′ ≡ cond (ltb 0 (getD used k 0)) (k + 1) found → LastPart used k found → LastPart used (k + 1) found′
+last-more used k found found′ e r = go (ltb 0 (getD used k 0)) refl e
+  where
+    go : (b : Bool) → ltb 0 (getD used k 0) ≡ b → found′ ≡ cond b (k + 1) found → LastPart used (k + 1) found′
+    go true q z = record {
+      within = omega arith;
+      none = λ y j h. absurd (omega arith);
+      some = λ y. let n : found′ - 1 ≡ k = omega arith in rw n (ltb-true 0 (getD used k 0) q);
+    }
+    go false q z = record {
+      within = omega (arith, r .within);
+      none = λ y j h. at j h (cmp j k) y;
+      some = λ y. rw z (r .some (omega arith));
+    }
+      where
+        at : (j : ℕ) → j < k + 1 → Cmp j k → found′ ≡ 0 → getD used j 0 ≡ 0
+        at j h (less x) y = r .none (omega arith) j x
+        at j h (same x) y = rw x (omega (arith, ltb-false 0 (getD used k 0) q))
+        at j h (more x) y = absurd (omega arith)
+
+pub part-done : (p : Policy) (used : List ℕ) (found : ℕ) → holdsOn p ≡ true → LastPart used 32 found → OnePart used → Goes p found used
+part-done p used found e r one = record { low = r .within; here = λ k o h. rw e (at k o h (cmp 0 (getD used (k - 1) 0)) (cmp 0 found)) }
+  where
+    at : (k : ℕ) → 1 ≤ k → k ≤ 32 → Cmp 0 (getD used (k - 1) 0) → Cmp 0 found → eqb k found ≡ ltb 0 (getD used (k - 1) 0)
+    at k o h (less u) (less f) =
+        let q : k - 1 ≡ found - 1 = one (k - 1) (found - 1) (omega arith) (omega (arith, r .within)) u (r .some f) in
+        eq-eqb k found (omega arith) ∙ sym (lt-ltb 0 (getD used (k - 1) 0) u)
+    at k o h (less u) (same f) = absurd (omega (arith, r .none (sym f) (k - 1) (omega arith)))
+    at k o h (same u) f = ne-eqb k found (λ z. no z (cmp 0 found)) ∙ sym (le-ltb 0 (getD used (k - 1) 0) (omega arith))
+      where
+        no : k ≡ found → Cmp 0 found → ⊥
+        no z (less y) = omega (arith, r .some y, ap (λ i. getD used (i - 1) 0) z)
+        no z (same y) = omega arith
+        no z (more y) = omega arith
+    at k o h (less u) (more f) = absurd (omega arith)
+    at k o h (more u) f = absurd (omega arith)
+
+-- the rule of one part done, task by task
+pub one-part : (p : Policy) (m : Machine) → aloneRule p m ≡ true → holdsOn p ≡ true → OnePart (m .used)
+unfolding partsDone
+one-part Preemptive m e h = absurd (not-both h refl)
+one-part HoldOn m e h = λ j k p q u v.
+    let a : 1 + j - 1 ≡ j = omega arith in
+    let b : 1 + k - 1 ≡ k = omega arith in
+    let z : 1 + j ≡ 1 + k = one-only (λ i. ltb 0 (usedAt m i)) 1 32 (leb-true _ 1 e) (1 + j) (1 + k) (omega arith) (omega arith) (omega arith) (omega arith) (rw a (lt-ltb 0 (getD (m .used) j 0) u)) (rw b (lt-ltb 0 (getD (m .used) k 0) v)) in
+    omega arith
 
 -- the awake tasks of a word
 pub awake-done : (awake : List Bool) (set : ℕ) → length awake ≡ 32 → (member set 0 ≡ false) × ((j : ℕ) → member set (suc j) ≡ (ltb j 32 && getD awake j false)) → AwakeIn awake set
@@ -165,12 +206,9 @@ begun d w gaps since g b s r = record {
 -- nobody goes on
 pub none-going : (p : Policy) (w : Words) → Begins w → Goes p (w .running) (replicate 32 0)
 none-going p w b = record {
-  low = λ k f. absurd (not-both f (none k));
-  here = λ k o h. none k ∙ sym (ap (λ x. holdsOn p && ltb 0 x) (getD-same {A = ℕ} 32 (k - 1) 0) ∙ and-off (holdsOn p));
+  low = omega (arith, b .idle);
+  here = λ k o h. ne-eqb k (w .running) (λ z. omega (arith, b .idle)) ∙ sym (ap (λ x. holdsOn p && ltb 0 x) (getD-same {A = ℕ} 32 (k - 1) 0) ∙ and-off (holdsOn p));
 }
-  where
-    none : (k : ℕ) → member (w .running) k ≡ false
-    none k = ap (λ s. member s k) (b .idle) ∙ member-none k
 
 -- it keeps no tempo
 pub idle-fastest : (d : Description) → replicate 16 0 ≡ idle d .fastest

@@ -1,10 +1,12 @@
 -- One step of a tick on the words and on the record that they hold. Assumes nothing.
-use Prim.Native.Nat.{ℕ, zero, suc, _+_, _-_, _≤_, _<_, min, max}
+use Prim.Native.Nat.{ℕ, zero, suc, _+_, _-_, _%_, _≤_, _<_, min, max}
 use mathlib.Core.Path.{_≡_, refl, sym, ap, subst, _∙_}
 use mathlib.Core.Bool.{Bool, true, false, _||_, not, cond}
 use mathlib.Core.List.{List}
 use mathlib.Core.Logic.{_⊎_, inl, inr}
 use native.Mathlib.Omega.{arith}
+use native.Mathlib.Nat.{mod-eq-of-lt}
+use lib.Bits.{bitAnd, and-mask}
 use lib.ListN.{getD, set, length-set}
 use lib.Seq.{getD-set-same}
 use lib.Dec.{eqb}
@@ -22,7 +24,7 @@ use Rattle.sets.specs.Sets.{member, LastIn}
 use Rattle.sets.specs.Wide.{inside}
 use Rattle.steps.specs.declared.words.Words.{Words}
 use Rattle.model.specs.Run.{heard, marksIn}
-use Rattle.steps.specs.Words.{Marks, Ages, Holds, Goes, worked, Above, raisedTo, atTempos}
+use Rattle.steps.specs.Words.{Marks, Ages, Holds, Goes, Chosen, worked, Above, raisedTo, atTempos}
 use Rattle.steps.proofs.MaskLaws.{mark-in}
 use Rattle.steps.proofs.MarkLaws.{marks-same, marks-used}
 use Rattle.steps.proofs.ChoiceLaws.{choose-is, choose-none}
@@ -78,13 +80,18 @@ end-on : (d : Description) (h : ℕ) (finish : Bool) (m : Machine) → 1 ≤ h �
 unfolding endRun
 end-on d h finish m p e = rw (e, ne-eqb h 0 (λ z. omega arith)) refl
 
-pub work-none : (p : Policy) (d : Description) (w : Words) (used since : List ℕ) (finish : Bool) (m : Machine) → WellFormed d → ((k : ℕ) → member (w .running) k ≡ true → member (w .awake) k ≡ true) → w .awake ≡ 0 → Goes p (w .running) used → Holds d w used since m → Holds d w used since (worked p d finish m)
+-- all bits of a task's number, or none
+pub kept-number : (b : Bool) (h : ℕ) → h < 64 → bitAnd h (cond b 63 0) ≡ cond b h 0
+kept-number true h p = and-mask h 6 ∙ mod-eq-of-lt p
+kept-number false h p = and-mask h 0 ∙ (let z : h % 1 ≡ 0 = omega arith in z)
+
+pub work-none : (p : Policy) (d : Description) (w : Words) (used since : List ℕ) (finish : Bool) (m : Machine) → WellFormed d → (0 < w .running → member (w .awake) (w .running) ≡ true) → w .awake ≡ 0 → Goes p (w .running) used → Holds d w used since m → Holds d w used since (worked p d finish m)
 work-none p d w used since finish m g going e r h =
     let q : worked p d finish m ≡ m = ap (λ k. endRun d k finish (runTask k m)) (choose-none p d w used since m g r h going e) ∙ ap (endRun d 0 finish) (run-none m) ∙ end-none d finish m in
     subst (λ (k : Machine). Holds d w used since k) (sym q) h
 
 -- h is the task that runs, which has used so much more
-module _ (pol : Policy) (d : Description) (w : Words) (used since runs : List ℕ) (finish : Bool) (m : Machine) (g : WellFormed d) (s : runs ≡ d .runs) (going : (k : ℕ) → member (w .running) k ≡ true → member (w .awake) k ≡ true) (r : Goes pol (w .running) used) (H : Holds d w used since m) (h more : ℕ) (l : LastIn (cond (eqb (w .running) 0) (w .awake) (w .running)) h) (p : 1 ≤ h) (q : h ≤ 32) (e : more ≡ getD used (h - 1) 0 + 1) where
+module _ (pol : Policy) (d : Description) (w : Words) (used since runs : List ℕ) (finish : Bool) (m : Machine) (g : WellFormed d) (s : runs ≡ d .runs) (going : 0 < w .running → member (w .awake) (w .running) ≡ true) (r : Goes pol (w .running) used) (H : Holds d w used since m) (h more : ℕ) (l : Chosen (w .running) (w .awake) h) (p : 1 ≤ h) (q : h ≤ 32) (e : more ≡ getD used (h - 1) 0 + 1) where
   ran-is : runTask h m ≡ setUsed h more m
   ran-is = run-on h m p ∙ ap (λ x. setUsed h x m) (sym (e ∙ ap (λ (us : List ℕ). getD us (h - 1) 0 + 1) (H .same-used)))
 

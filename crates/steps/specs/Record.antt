@@ -7,7 +7,7 @@ use lib.ListN.{getD, length}
 use Rattle.model.specs.declared.Description.{Description}
 use Rattle.model.specs.declared.Policy.{Policy}
 use Rattle.model.specs.declared.Machine.{Machine}
-use Rattle.model.specs.Machine.{rulesKept}
+use Rattle.model.specs.Machine.{aloneRule, rulesKept}
 use Rattle.theory.proofs.WellFormed.{WellFormed}
 use Rattle.sets.specs.declared.wide.Wide.{Wide}
 use Rattle.sets.specs.Sets.{member}
@@ -51,9 +51,13 @@ abbrev pub Unpacks : List ℕ → ℕ → Words → List ℕ → List ℕ → Li
 Unpacks gaps sources w used since fastest r =
     (d : Description) (m : Machine) → d .«source_count» ≡ sources → GapsOf d 200 gaps → Holds d w used since m → fastest ≡ m .fastest → r ≡ m
 
+-- what tasks have used, if one of them at most is part done
+abbrev pub OnePart : List ℕ → Type 0
+OnePart used = (j k : ℕ) → j < 32 → k < 32 → 0 < getD used j 0 → 0 < getD used k 0 → j ≡ k
+
 -- words that hold a record which keeps the rules
 pub record Packs (p : Policy) (m : Machine) (w : Words) (since : List ℕ) : Type 0 where
   pub holds : (d : Description) → WellFormed d → rulesKept d m ≡ true → Holds d w (m .used) since m
-  pub goes : Goes p (w .running) (m .used)
+  pub goes : aloneRule p m ≡ true → Goes p (w .running) (m .used)
   pub first : w .tick ≡ 4294967296
   pub knob : (w .low ≡ 0) × (w .peak ≡ 200)

@@ -1,7 +1,7 @@
 -- How words of bits hold the machine's record, and what each step on them ensures: of every record that the words hold, they hold
 -- what the plain machine's step makes of it.
 use Prim.Native.Nat.{ℕ, _+_, _-_, _^_, _≤_, _<_, min, max}
-use mathlib.Core.Bool.{Bool, true, false, _||_, _&&_, not, cond}
+use mathlib.Core.Bool.{Bool, true, false, _||_, _&&_, cond}
 use mathlib.Core.List.{List}
 use mathlib.Core.Path.{_≡_}
 use mathlib.Core.Logic.{_⊎_}
@@ -15,7 +15,7 @@ use Rattle.model.specs.Machine.{awakeAt, waitingAt, droppedAt, ageAt, fastestAt
 use Rattle.theory.proofs.WellFormed.{WellFormed}
 use Rattle.assurance.proofs.Firing.{Sized}
 use Rattle.sets.specs.declared.wide.Wide.{Wide}
-use Rattle.sets.specs.Sets.{member}
+use Rattle.sets.specs.Sets.{member, LastIn}
 use Rattle.sets.specs.Wide.{inside}
 use Rattle.wiring.specs.Rows.{RowsOf}
 use Rattle.steps.specs.declared.words.Words.{Words}
@@ -53,10 +53,10 @@ abbrev pub holdsOn : Policy → Bool
 holdsOn Preemptive = false
 holdsOn HoldOn = true
 
--- a set of the tasks that go on, by what tasks have used
+-- the task that goes on, 0 for none, by what tasks have used: on the hold-on model the one that is part done
 pub record Goes (p : Policy) (running : ℕ) (used : List ℕ) : Type 0 where
-  pub low : (k : ℕ) → member running k ≡ true → (1 ≤ k) × (k ≤ 32)
-  pub here : (k : ℕ) → 1 ≤ k → k ≤ 32 → member running k ≡ (holdsOn p && ltb 0 (getD used (k - 1) 0))
+  pub low : running ≤ 32
+  pub here : (k : ℕ) → 1 ≤ k → k ≤ 32 → eqb k running ≡ (holdsOn p && ltb 0 (getD used (k - 1) 0))
 
 -- a kept tempo raised by a faster one
 abbrev pub raisedTo : ℕ → ℕ → ℕ
@@ -116,19 +116,24 @@ pub record Arrives (rows : List ℕ) (t peak mask : ℕ) (w : Words) (since fast
   pub knob : (w′ .low ≡ t) × (w′ .peak ≡ t)
   pub runs : w′ .running ≡ w .running
 
--- task h sleeps and runs no more, and the marks on links into it are clear
+-- task h sleeps and nobody goes on, and the marks on links into it are clear
 pub record Sleeps (rows : List ℕ) (h : ℕ) (w w′ : Words) : Type 0 where
   pub slept : (d : Description) (m : Machine) → WellFormed d → RowsOf d (d .«link_count») rows → 1 ≤ h → h ≤ 32 → Marks d w m → Marks d w′ (clearInto d h (setAwake h false m))
   pub then : w′ .tick ≡ w .tick
   pub knob : (w′ .low ≡ w .low) × (w′ .peak ≡ w .peak)
-  pub runs : (k : ℕ) → member (w′ .running) k ≡ (member (w .running) k && not (eqb k h))
+  pub runs : w′ .running ≡ 0
+
+-- the task that a tick runs: the one that goes on, or else the highest awake
+pub record Chosen (running awake h : ℕ) : Type 0 where
+  pub goes : 0 < running → h ≡ running
+  pub highest : running ≡ 0 → LastIn awake h
 
 -- the run of task h is not over: what goes on
 pub record GoesOn (p : Policy) (h : ℕ) (w w′ : Words) : Type 0 where
   pub marks : (w′ .awake ≡ w .awake) × (w′ .waiting ≡ w .waiting) × (w′ .dropped ≡ w .dropped)
   pub then : w′ .tick ≡ w .tick
   pub knob : (w′ .low ≡ w .low) × (w′ .peak ≡ w .peak)
-  pub runs : (k : ℕ) → member (w′ .running) k ≡ (member (w .running) k || (holdsOn p && eqb k h))
+  pub runs : w′ .running ≡ cond (holdsOn p) h 0
 
 -- the task that a tick runs has run in a record, and its run has ended if this tick ends it
 abbrev pub worked : Policy → Description → Bool → Machine → Machine
@@ -141,10 +146,10 @@ pub record Works (p : Policy) (rows runs : List ℕ) (finish : Bool) (w : Words)
   pub then : w′ .tick ≡ w .tick
   pub knob : (w′ .low ≡ w .low) × (w′ .peak ≡ w .peak)
 
--- awake tasks have places in the tables, those that go on are awake, and a tick more fits what each has used
+-- awake tasks have places in the tables, the one that goes on is awake, and a tick more fits what each has used
 pub record Workable (w : Words) (used : List ℕ) : Type 0 where
   pub low : (k : ℕ) → member (w .awake) k ≡ true → (1 ≤ k) × (k ≤ 32)
-  pub going : (k : ℕ) → member (w .running) k ≡ true → member (w .awake) k ≡ true
+  pub going : 0 < w .running → member (w .awake) (w .running) ≡ true
   pub countable : (k : ℕ) → k < 32 → getD used k 0 + 1 < 2 ^ 32
 
 -- one tick more has passed

@@ -7,14 +7,14 @@ use model::Policy;
 use sets::wide;
 use sets::wide::Wide;
 ghost use mathlib.Core.Path.{_≡_};
-ghost use mathlib.Core.Bool.{false, _||_, _&&_};
+ghost use mathlib.Core.Bool.{true, false, cond, _||_, _&&_};
 ghost use Prim.Native.Nat.{ℕ, _+_, _-_, _≤_, _<_, min};
 ghost use lib.ListN.{getD, length};
 ghost use lib.Dec.{eqb, ltb};
 ghost use Rattle.sets.specs.Sets.{member};
 ghost use Rattle.sets.specs.Wide.{inside};
-ghost use Rattle.steps.specs.Words.{Goes};
-ghost use Rattle.steps.specs.Record.{AwakeOf, LinksOf, AgesOf, SinceOf, Unpacks, Packs, Begins, AwakeIn};
+ghost use Rattle.steps.specs.Words.{holdsOn, Goes};
+ghost use Rattle.steps.specs.Record.{OnePart, AwakeOf, LinksOf, AgesOf, SinceOf, Unpacks, Packs, Begins, AwakeIn};
 
 // The words at the start: all tasks sleep and marks are clear.
 pub fn begin() -> Words
@@ -186,21 +186,32 @@ pub fn unpack<'a>(
     }
 }
 
-// The tasks that go on: on the hold-on model those that are part done.
-fn running_in(p: Policy, used: &[u32; 32]) -> u64
+// The last of some tasks that is part done, one more being looked at.
+fn part_at(found: usize, k: usize, used: u32) -> usize
+    requires { ⌜ k < 32 ⌝ }
+    ensures { λ r. ⌜ r ≡ cond (ltb 0 used) (k + 1) found ⌝ }
+{
+    if 0 < used {
+        return k + 1;
+    }
+    found
+}
+
+// The task that goes on: on the hold-on model the one that is part done.
+fn running_in(p: Policy, used: &[u32; 32]) -> usize
     requires { ⌜ length (now used) ≡ 32 ⌝ }
-    ensures { λ r. ⌜ Goes p r (now (used .entry)) ⌝ }
+    ensures { λ r. ⌜ ((holdsOn p ≡ true → OnePart (now (used .entry))) → Goes p r (now (used .entry))) ⌝ }
 {
     let Policy::HoldOn = p else {
         return 0;
     };
-    let mut set: u64 = 0;
+    let mut found: usize = 0;
     let mut k: usize = 0;
     while k < 32 {
-        set = with_if(set, k + 1, 0 < used[k]);
+        found = part_at(found, k, used[k]);
         k += 1;
     }
-    set
+    found
 }
 
 // The words of a record and the ticks at which ages were 0; what tasks have used and the tempos that are kept stay as they are.

@@ -10,7 +10,7 @@ ghost use Prim.Native.Nat.{ℕ, _+_, _<_, _^_, max};
 ghost use lib.ListN.{length, getD};
 ghost use lib.Dec.{eqb};
 ghost use Rattle.steps.specs.Parts.{Sourced};
-ghost use Rattle.steps.specs.Words.{wideAt, Sent, Fires, atTempos, Arrives, Sleeps, GoesOn, Works, Workable, raisedTo, Folds, Passes};
+ghost use Rattle.steps.specs.Words.{wideAt, Sent, Fires, atTempos, Arrives, Sleeps, holdsOn, Chosen, GoesOn, Works, Workable, raisedTo, Folds, Passes};
 
 // The four words from place i on.
 fn row(rows: &[u64; 576], i: usize) -> Wide
@@ -142,18 +142,17 @@ pub fn at_tempos(low: u32, peak: u32, w: Words) -> Words
     }
 }
 
-// Task h sleeps and runs no more, and the waiting marks on links into it clear.
+// Task h sleeps and nobody goes on, and the waiting marks on links into it clear.
 fn sleep(rows: &[u64; 576], h: usize, w: Words) -> Words
     requires { ⌜ h < 64 ⌝ }
     ensures { λ r. ⌜ Sleeps (now (rows .entry)) h w r ⌝ }
 {
     let into = row(rows, 9 * h + 4);
-    let alone = sets::one(h);
     let waiting = w.waiting;
     let dropped = w.dropped;
     Words {
-        awake: sets::without(w.awake, alone),
-        running: sets::without(w.running, alone),
+        awake: sets::without(w.awake, sets::one(h)),
+        running: 0,
         waiting: wide::without(waiting, into),
         dropped,
         tick: w.tick,
@@ -172,14 +171,25 @@ fn ends(used: u32, run: u32, finish: bool) -> bool
     finish
 }
 
-// The tasks to choose from: those that go on, or else all that are awake.
-fn eligible(running: u64, awake: u64) -> u64
-    ensures { λ r. ⌜ r ≡ cond (eqb running 0) awake running ⌝ }
+// The task that runs: the one that goes on, or else the highest awake.
+fn chosen(running: usize, awake: u64) -> usize
+    requires { ⌜ 0 < awake ⌝ }
+    ensures { λ r. ⌜ Chosen running awake r ⌝ }
 {
     if running == 0 {
-        return awake;
+        return sets::last(awake);
     }
     running
+}
+
+// What is kept of the number of a task whose run is not over: all of its bits on the hold-on model, else none.
+fn kept_bits(p: Policy) -> usize
+    ensures { λ r. ⌜ r ≡ cond (holdsOn p) 63 0 ⌝ }
+{
+    match p {
+        Policy::Preemptive => 0,
+        Policy::HoldOn => 63,
+    }
 }
 
 // The run of task h is not over: on the hold-on model it goes on.
@@ -187,14 +197,11 @@ fn go_on(p: Policy, h: usize, w: Words) -> Words
     requires { ⌜ h < 64 ⌝ }
     ensures { λ r. ⌜ GoesOn p h w r ⌝ }
 {
-    let Policy::HoldOn = p else {
-        return w;
-    };
     let waiting = w.waiting;
     let dropped = w.dropped;
     Words {
         awake: w.awake,
-        running: sets::with(w.running, h),
+        running: h & kept_bits(p),
         waiting,
         dropped,
         tick: w.tick,
@@ -218,7 +225,7 @@ pub fn work<'a>(
     if w.awake == 0 {
         return w;
     }
-    let h = sets::last(eligible(w.running, w.awake));
+    let h = chosen(w.running, w.awake);
     let more = used[h - 1] + 1;
     if ends(more, runs[h - 1], finish) {
         used[h - 1] = 0;

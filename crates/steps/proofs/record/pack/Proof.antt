@@ -2,7 +2,7 @@
 use mathlib.Core.Path.{_≡_, refl}
 use lib.ListN.{length}
 use Rattle.assurance.proofs.Firing.{Sized}
-use Rattle.steps.proofs.RecordLaws.{packed}
+use Rattle.steps.proofs.RecordLaws.{packed, one-part}
 use borrow.Author.Needs.{needs}
 use Rattle.steps.proofs.record.pack.Statement.{statement}
 use Rattle.steps.proofs.record.pack.Tie as tie
@@ -34,7 +34,7 @@ returns c =
     let z : Sized m = record { awakes = awakes; useds = useds; waitings = waitings; droppeds = droppeds; ages = old; fastests = kept } in
     record {
       holds = λ d g l. packed d m g l z (c .before .before .before .before .before .before .since-of .result) _ (c .before .before .before .awake-in .ensures) (c .before .before .before .before .before .before .before .before .before .before .before .links-in .ensures) (c .before .before .before .before .before .before .before .before .links-in2 .ensures) (c .before .before .before .before .before .before .since-of .ensures) refl;
-      goes = c .running-in .ensures;
+      goes = λ a. c .running-in .ensures (one-part ((c .before .before .before .before .before .before .before .before .before .before .before .before .before .before .before) .args .p) m a);
       first = refl;
       knob = (refl, refl);
     }

@@ -1,49 +1,27 @@
--- `go_on` meets its contract: on the hold-on model task h is one of those that go on. Assumes nothing.
-use Prim.Native.Nat.{ℕ}
-use mathlib.Core.Path.{_≡_, refl, sym, ap, _∙_}
-use mathlib.Core.Bool.{Bool, _||_, _&&_}
-use lib.Dec.{eqb}
-use Rattle.model.specs.declared.Policy.{Policy}
-use Rattle.sets.specs.Sets.{member}
-use Rattle.lemmas.proofs.Bools.{or-off}
+-- `go_on` meets its contract: of the number of task h all is kept on the hold-on model, and nothing on the other. Assumes nothing.
+use Prim.Native.Nat.{ℕ, _<_}
+use mathlib.Core.Path.{_≡_, refl, ap, _∙_}
+use mathlib.Core.Bool.{cond}
+use lib.Bits.{bitAnd}
 use Rattle.steps.specs.Words.{holdsOn}
+use Rattle.steps.proofs.StepLaws.{kept-number}
 use borrow.Author.Needs.{needs}
 use Rattle.steps.proofs.step.go_on.Statement.{statement}
 use Rattle.steps.proofs.step.go_on.Tie as tie
 
--- whether task k goes on, by the policy
-abbrev goes : ℕ → ℕ → ℕ → Policy → Bool
-goes running h k p = member running k || (holdsOn p && eqb k h)
-
-enum-told : tie.Need-enum-told
-enum-told c = search needs
-
-enum-told-2 : tie.Need-enum-told-2
-enum-told-2 c = search needs
+kept-bits-requires : tie.Need-kept-bits-requires
+kept-bits-requires c κs = search needs
 
 returns : tie.Need-returns
 returns c =
-    let A = (c .before .before) .args in
+    let S = c .before .before .before in
+    let bits : c .kept-bits .result ≡ cond (holdsOn (S .args .p)) 63 0 = c .kept-bits .ensures in
     record {
       marks = (refl, refl, refl);
       then = refl;
       knob = (refl, refl);
-      runs = λ k. sym (ap (goes (A .w .running) (A .h) k) (c .enum-told2 .given .1) ∙ or-off (member (A .w .running) k));
-    }
-
-with-requires : tie.Need-with-requires
-with-requires c κs = search needs
-
-returns-2 : tie.Need-returns-2
-returns-2 c =
-    let A = (c .before .before .before .before .before) .args in
-    let more : (k : ℕ) → member (c .with .result) k ≡ (member (A .w .running) k || eqb k (A .h)) = c .with .ensures in
-    record {
-      marks = (refl, refl, refl);
-      then = refl;
-      knob = (refl, refl);
-      runs = λ k. more k ∙ sym (ap (goes (A .w .running) (A .h) k) (c .before .before .before .enum-told .given .1));
+      runs = ap (bitAnd (S .args .h)) bits ∙ kept-number (holdsOn (S .args .p)) (S .args .h) (S .pre);
     }
 
 pub go-on-spec : {M : Type 1} → statement M
-go-on-spec = tie.close (tie.spec enum-told enum-told-2 returns with-requires returns-2)
+go-on-spec = tie.close (tie.spec kept-bits-requires returns)

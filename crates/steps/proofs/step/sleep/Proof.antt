@@ -1,8 +1,5 @@
 -- `sleep` meets its contract, bit by bit. Assumes nothing.
-use Prim.Native.Nat.{ℕ}
-use mathlib.Core.Path.{_≡_, refl, ap, _∙_}
-use mathlib.Core.Bool.{Bool, _&&_, not}
-use Rattle.sets.specs.Sets.{member}
+use mathlib.Core.Path.{refl}
 use Rattle.steps.proofs.MarkLaws.{marks-slept}
 use borrow.Author.Needs.{needs}
 use Rattle.steps.proofs.step.sleep.Statement.{statement}
@@ -26,19 +23,15 @@ without-requires c κs = search needs
 without-requires-2 : tie.Need-without-requires-2
 without-requires-2 c κs = search needs
 
-without-requires-3 : tie.Need-without-requires-3
-without-requires-3 c κs = search needs
-
 returns : tie.Need-returns
 returns c =
-    let A = (c .before .before .before .before .before .before .before) .args in
-    let one = c .before .before .before .before .before .one in
-    let rest : (k : ℕ) → member (c .before .without2 .result) k ≡ (member (A .w .running) k && not (member (one .result) k)) = c .before .without2 .ensures in
+    let S = c .before .before .before .before .before .before in
+    let A = S .args in
     record {
-      slept = λ d m g r p q h. marks-slept d (A .rows .now) (A .h) (A .w) _ (one .result) (c .before .before .before .before .before .before .row .result) (c .before .before .before .before .before .before .row .ensures) (one .ensures) (c .before .before .without .ensures) (c .without3 .ensures) refl m g r p q h;
+      slept = λ d m g r p q h. marks-slept d (A .rows .now) (A .h) (A .w) _ (c .before .before .one .result) (c .before .before .before .before .before .row .result) (c .before .before .before .before .before .row .ensures) (c .before .before .one .ensures) (c .before .without .ensures) (c .without2 .ensures) refl m g r p q h;
       then = refl;
       knob = (refl, refl);
-      runs = λ k. rest k ∙ ap (λ (b : Bool). member (A .w .running) k && not b) (one .ensures k);
+      runs = refl;
     }
 
 pub sleep-spec : {M : Type 1} → statement M
@@ -51,5 +44,4 @@ sleep-spec =
     one-requires
     without-requires
     without-requires-2
-    without-requires-3
     returns)

@@ -10,7 +10,7 @@ use native.Mathlib.Numerals.{add-one}
 use lib.ListN.{getD, length}
 use lib.Seq.{ext-getD}
 use lib.Dec.{ltb, leb, eqb}
-use borrow.Author.Tests.{ltb-true, lt-ltb, le-ltb, eqb-true, eqb-false, ne-eqb, leb-true, le-leb}
+use borrow.Author.Tests.{ltb-true, lt-ltb, le-ltb, eqb-true, eqb-false, eq-eqb, ne-eqb, leb-true, le-leb}
 use Rattle.model.specs.declared.Description.{Description}
 use Rattle.model.specs.declared.Policy.{Policy}
 use Rattle.model.specs.declared.Machine.{Machine}
@@ -25,7 +25,7 @@ use Rattle.model.specs.Graph.{runOf}
 use Rattle.model.specs.Delays.{spacingOf}
 use Rattle.model.specs.File.{judge}
 use Rattle.model.specs.Verdicts.{onKnob, judgeAt}
-use Rattle.model.specs.Machine.{awakeAt, usedAt, ageAt, fastestAt, longestGap, taskRule, linkRule, sourceRule, rulesKept, lawful, arrive, choose, ageAll, keptAfter, keep, stepped, strangers, tooSoon, judgeTick, plainTick}
+use Rattle.model.specs.Machine.{awakeAt, usedAt, ageAt, fastestAt, longestGap, taskRule, linkRule, sourceRule, rulesKept, aloneRule, lawful, arrive, choose, ageAll, keptAfter, keep, stepped, strangers, tooSoon, judgeTick, plainTick}
 use Rattle.model.specs.Run.{heard, marksIn}
 use Rattle.lemmas.proofs.Tests.{not-both, true-of, false-of, both, or-left, or-else, and-left, and-right, and-false-left, and-false-right, within}
 use Rattle.lemmas.proofs.Range.{all-at, any-at, any-none, none-any}
@@ -206,7 +206,11 @@ pub lawful-rules : (pol : Policy) (d : Description) (m : Machine) → lawful pol
 unfolding lawful
 lawful-rules pol d m e = and-left (rulesKept d m) _ e
 
--- a task that is part done is awake, and so are those that go on
+pub lawful-alone : (pol : Policy) (d : Description) (m : Machine) → lawful pol d m ≡ true → aloneRule pol m ≡ true
+unfolding lawful
+lawful-alone pol d m e = and-right (rulesKept d m) _ e
+
+-- a task that is part done is awake, and so is the one that goes on
 part-awake : (d : Description) (m : Machine) (k : ℕ) → taskRule d m k ≡ true → ltb 0 (usedAt m k) ≡ true → awakeAt m k ≡ true
 part-awake d m k e u = go (leb k (d .«task_count»)) refl
   where
@@ -221,23 +225,21 @@ part-awake d m k e u = go (leb k (d .«task_count»)) refl
         let h : (not (awakeAt m k) && eqb (usedAt m k) 0) ≡ true = rw f at e in
         absurd (not-both (and-right (not (awakeAt m k)) (eqb (usedAt m k) 0) h) used)
 
-goes-awake : (pol : Policy) (d : Description) (w : Words) (used since : List ℕ) (m : Machine) → rulesKept d m ≡ true → Goes pol (w .running) used → Holds d w used since m → (k : ℕ) → member (w .running) k ≡ true → (1 ≤ k) × (awakeAt m k ≡ true)
+goes-awake : (pol : Policy) (d : Description) (w : Words) (used since : List ℕ) (m : Machine) → rulesKept d m ≡ true → Goes pol (w .running) used → Holds d w used since m → 0 < w .running → awakeAt m (w .running) ≡ true
 unfolding rulesKept
-goes-awake pol d w used since m l r h k e =
-    let b = r .low k e in
-    let u : ltb 0 (getD used (k - 1) 0) ≡ true = and-right (holdsOn pol) _ (sym (r .here k (b .0) (b .1)) ∙ e) in
-    (b .0, part-awake d m k (all-at (taskRule d m) 1 32 (and-left (allN (taskRule d m) 1 32) _ l) k (b .0) (omega (arith, b .1))) (ap (λ (us : List ℕ). ltb 0 (getD us (k - 1) 0)) (sym (h .same-used)) ∙ u))
+goes-awake pol d w used since m l r h o =
+    let k : ℕ = w .running in
+    let u : ltb 0 (getD used (k - 1) 0) ≡ true = and-right (holdsOn pol) _ (sym (r .here k o (r .low)) ∙ eq-eqb k k refl) in
+    part-awake d m k (all-at (taskRule d m) 1 32 (and-left (allN (taskRule d m) 1 32) _ l) k o (omega (arith, r .low))) (ap (λ (us : List ℕ). ltb 0 (getD us (k - 1) 0)) (sym (h .same-used)) ∙ u)
 
-pub going-awake : (pol : Policy) (d : Description) (w : Words) (used since : List ℕ) (m : Machine) → rulesKept d m ≡ true → Goes pol (w .running) used → Holds d w used since m → (k : ℕ) → member (w .running) k ≡ true → member (w .awake) k ≡ true
-going-awake pol d w used since m l r h k e =
-    let b = goes-awake pol d w used since m l r h k e in
-    h .marks .awake k (b .0) ∙ b .1
+pub going-awake : (pol : Policy) (d : Description) (w : Words) (used since : List ℕ) (m : Machine) → rulesKept d m ≡ true → Goes pol (w .running) used → Holds d w used since m → 0 < w .running → member (w .awake) (w .running) ≡ true
+going-awake pol d w used since m l r h o = h .marks .awake (w .running) o ∙ goes-awake pol d w used since m l r h o
 
 -- so that the task that runs may be worked on, other words holding some record with what tasks have used in this one, in which no fewer are awake
 pub workable : (pol : Policy) (d : Description) (w w′ : Words) (used since since′ : List ℕ) (m m′ : Machine) → WellFormed d → rulesKept d m ≡ true → Goes pol (w .running) used → w′ .running ≡ w .running → ((k : ℕ) → 1 ≤ k → awakeAt m k ≡ true → awakeAt m′ k ≡ true) → Holds d w used since m → Holds d w′ used since′ m′ → Workable w′ used
 workable pol d w w′ used since since′ m m′ g l r e still h h′ = record {
   low = λ k f. (some k f, omega (arith, h′ .marks .present k f, g .fields .few-tasks));
-  going = λ k f. let b = goes-awake pol d w used since m l r h k (sym (ap (λ s. member s k) e) ∙ f) in h′ .marks .awake k (b .0) ∙ still k (b .0) (b .1);
+  going = λ o. rw e (let q : 0 < w .running = rw e at o in h′ .marks .awake (w .running) q ∙ still (w .running) q (goes-awake pol d w used since m l r h q));
   countable = λ k p. let q : getD used k 0 ≡ getD (m .used) k 0 = ap (λ (us : List ℕ). getD us k 0) (h .same-used) in omega (arith, lawful-low d m g l k p);
 }
   where

@@ -13,7 +13,7 @@ use Rattle.model.specs.declared.Policy.{Policy}
 use Rattle.model.specs.declared.Machine.{Machine}
 use Rattle.model.specs.declared.Ticked.{Ticked}
 use Rattle.model.specs.declared.Outcome.{Outcome}
-use Rattle.model.specs.Machine.{fastestAt, rulesKept}
+use Rattle.model.specs.Machine.{fastestAt, rulesKept, aloneRule}
 use Rattle.lemmas.proofs.Tests.{and-left}
 use Rattle.lemmas.proofs.Table.{is-tab}
 use Rattle.theory.proofs.WellFormed.{WellFormed}
@@ -43,10 +43,10 @@ tables-of d w s longest r h g = record {
 }
 
 -- the words of a record that keeps the rules, beside its kept tempos
-pub packed-tracks : (pol : Policy) (d : Description) (m : Machine) (w : Words) (since : List ℕ) → WellFormed d → rulesKept d m ≡ true → Packs pol m w since → Tracks pol d w (m .used) since (m .fastest) m
-packed-tracks pol d m w since g l p = record {
+pub packed-tracks : (pol : Policy) (d : Description) (m : Machine) (w : Words) (since : List ℕ) → WellFormed d → rulesKept d m ≡ true → aloneRule pol m ≡ true → Packs pol m w since → Tracks pol d w (m .used) since (m .fastest) m
+packed-tracks pol d m w since g l a p = record {
   holds = p .holds d g l;
-  goes = p .goes;
+  goes = p .goes a;
   keeps = record {
     many = p .holds d g l .marks .sized .fastests;
     here = λ u h. at (fastestAt m u) (kept-rule d m g l u h);

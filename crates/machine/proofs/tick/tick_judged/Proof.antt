@@ -9,7 +9,7 @@ use Rattle.model.specs.Run.{callOf}
 use Rattle.theory.proofs.FileLaws.{knob-known}
 use Rattle.spacings.proofs.GapLaws.{asked-none}
 use Rattle.rules.proofs.RuleLaws.{entered}
-use Rattle.machine.proofs.CallLaws.{tick-foreign, lawful-rules, raised-same}
+use Rattle.machine.proofs.CallLaws.{tick-foreign, lawful-rules, lawful-alone, raised-same}
 use Rattle.machine.proofs.TickLaws.{tables-of, packed-tracks, ticked}
 use borrow.Author.Needs.{needs}
 use Rattle.machine.proofs.tick.tick_judged.Statement.{statement}
@@ -40,7 +40,7 @@ advance-requires c κs =
       description = d;
       machine = S .args .m;
       tables = tables-of d (S .args .t2) (S .args .t3) (S .args .t4) r (S .pre .same-sources) (S .pre .spaced);
-      tracks = packed-tracks (S .args .p) d (S .args .m) (c .before .before .before .before .before .before .before .before .before .before .before .before .before .before .before .before .pack .result .words) (c .before .before .before .before .before .before .before .before .before .before .before .before .before .before .before .before .pack .result .since) (r .formed) (lawful-rules (S .args .p) d (S .args .m) l) (c .before .before .before .before .before .before .before .before .before .before .before .before .before .before .before .before .pack .ensures);
+      tracks = packed-tracks (S .args .p) d (S .args .m) (c .before .before .before .before .before .before .before .before .before .before .before .before .before .before .before .before .pack .result .words) (c .before .before .before .before .before .before .before .before .before .before .before .before .before .before .before .before .pack .result .since) (r .formed) (lawful-rules (S .args .p) d (S .args .m) l) (lawful-alone (S .args .p) d (S .args .m) l) (c .before .before .before .before .before .before .before .before .before .before .before .before .before .before .before .before .pack .ensures);
       keeps = l;
       sourced = c .before .before .before .before .before .before .before .before .before .before .before .before .before .before .before .before .before .mask-of .ensures .0;
       fits = c .before .before .before .before .before .before .before .before .before .before .before .before .before .before .before .before .before .mask-of .ok;
@@ -54,7 +54,7 @@ raise-requires c κs =
     let d = S .pre .description in
     let r = S .pre .wired in
     let l = (sym (c .before .before .before .before .before .before .before .before .before .before .before .before .before .before .before .before .before .before .before .before .before .before .lawful .ensures d r (S .pre .spaced)) ∙ not-false (c .before .before .before .before .before .before .before .before .before .before .before .before .before .before .before .before .before .before .before .before .before .before .lawful .result) (c .before .before .before .before .before .before .before .before .before .before .before .before .before .before .before .before .before .before .before .before .before .if1 .left)) in
-    c .before .before .advance .ensures .leaves d (S .args .m) (tables-of d (S .args .t2) (S .args .t3) (S .args .t4) r (S .pre .same-sources) (S .pre .spaced)) (S .pre .judged) l (packed-tracks (S .args .p) d (S .args .m) (c .before .before .before .before .before .before .before .before .before .before .before .before .before .before .before .before .before .before .before .pack .result .words) (c .before .before .before .before .before .before .before .before .before .before .before .before .before .before .before .before .before .before .before .pack .result .since) (r .formed) (lawful-rules (S .args .p) d (S .args .m) l) (c .before .before .before .before .before .before .before .before .before .before .before .before .before .before .before .before .before .before .before .pack .ensures)) .keeps .many
+    c .before .before .advance .ensures .leaves d (S .args .m) (tables-of d (S .args .t2) (S .args .t3) (S .args .t4) r (S .pre .same-sources) (S .pre .spaced)) (S .pre .judged) l (packed-tracks (S .args .p) d (S .args .m) (c .before .before .before .before .before .before .before .before .before .before .before .before .before .before .before .before .before .before .before .pack .result .words) (c .before .before .before .before .before .before .before .before .before .before .before .before .before .before .before .before .before .before .before .pack .result .since) (r .formed) (lawful-rules (S .args .p) d (S .args .m) l) (lawful-alone (S .args .p) d (S .args .m) l) (c .before .before .before .before .before .before .before .before .before .before .before .before .before .before .before .before .before .before .before .pack .ensures)) .keeps .many
 
 unpack-requires : tie.Need-unpack-requires
 unpack-requires c κs = omega (arith, c .before .before .before .before .before .before .before .before .before .before .before .before .before .before .before .before .before .before .before .before .before .before .before .before .before .before .pre .wired .as-wide, c .before .before .before .before .before .before .before .before .before .before .before .before .before .before .before .before .before .before .before .before .before .before .before .before .before .before .pre .wired .formed .fields .few-sources)
@@ -65,7 +65,7 @@ returns-2 c = λ d r s g e.
     let l = (sym (c .before .before .before .before .before .before .before .before .before .before .before .before .before .before .before .before .before .before .before .before .before .before .before .before .before .before .lawful .ensures d r g) ∙ not-false (c .before .before .before .before .before .before .before .before .before .before .before .before .before .before .before .before .before .before .before .before .before .before .before .before .before .before .lawful .result) (c .before .before .before .before .before .before .before .before .before .before .before .before .before .before .before .before .before .before .before .before .before .before .before .before .before .if1 .left)) in
     let j = knob-known d (S .args .t) e .0 in
     let T = tables-of d (S .args .t2) (S .args .t3) (S .args .t4) r s g in
-    let R = packed-tracks (S .args .p) d (S .args .m) (c .before .before .before .before .before .before .before .before .before .before .before .before .before .before .before .before .before .before .before .before .before .before .before .pack .result .words) (c .before .before .before .before .before .before .before .before .before .before .before .before .before .before .before .before .before .before .before .before .before .before .before .pack .result .since) (r .formed) (lawful-rules (S .args .p) d (S .args .m) l) (c .before .before .before .before .before .before .before .before .before .before .before .before .before .before .before .before .before .before .before .before .before .before .before .pack .ensures) in
+    let R = packed-tracks (S .args .p) d (S .args .m) (c .before .before .before .before .before .before .before .before .before .before .before .before .before .before .before .before .before .before .before .before .before .before .before .pack .result .words) (c .before .before .before .before .before .before .before .before .before .before .before .before .before .before .before .before .before .before .before .before .before .before .before .pack .result .since) (r .formed) (lawful-rules (S .args .p) d (S .args .m) l) (lawful-alone (S .args .p) d (S .args .m) l) (c .before .before .before .before .before .before .before .before .before .before .before .before .before .before .before .before .before .before .before .before .before .before .before .pack .ensures) in
     let v = c .before .before .before .before .before .before .advance in
     let p = plainCall (S .args .p) d (S .args .m) (callOf (c .before .before .before .before .before .before .before .before .before .before .before .before .before .before .before .before .before .before .before .before .before .before .before .before .mask-of .result) (S .args .t) (S .args .finish)) in
     let L = v .ensures .leaves d (S .args .m) T j l R in

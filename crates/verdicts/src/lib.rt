@@ -24,8 +24,12 @@ pub mod level;
 pub mod slots;
 
 ghost use mathlib.Core.Path.{_≡_};
+ghost use Prim.Native.Nat.{ℕ, _≤_, _<_};
+ghost use lib.ListN.{getD};
+ghost use Rattle.model.specs.declared.Description.{Description};
 ghost use Rattle.model.specs.Verdicts.{verdicts};
 ghost use Rattle.theory.proofs.WellFormed.{WellFormed};
+ghost use Rattle.works.specs.Works.{Scaled};
 ghost use Rattle.loads.specs.Tables.{LoadsOf};
 ghost use Rattle.verdicts.specs.Tables.{belowOf, StartsOf, TailsOf, TablesOf};
 ghost use Rattle.verdicts.specs.Slots.{refusedVerdicts};
@@ -54,32 +58,31 @@ fn below_of(p: Policy) -> usize
     }
 }
 
-// Where the rounds of each task start.
+// Where the rounds of each of n tasks start, by their runs and by the sets and works that their loads are sums of.
 fn starts_by<'a>(
     p: Policy,
-    d: Description,
+    runs: &[u32; 32],
     brings: &'a [u64; 48],
     works: &'a [u64; 32],
+    n: usize,
 ) -> [u64; 32]
-    requires { ⌜ WellFormed d × LoadsOf d (now brings) (now works) ⌝ }
-    ensures { λ r. ⌜ StartsOf p d r ⌝ }
+    requires { ⌜ (n ≤ 32) × Scaled (now works) × ((k : ℕ) → k < n → getD (now runs) k 0 ≤ 10000000) ⌝ }
+    ensures { λ r. ⌜ ((d : Description) → LoadsOf d (now (brings .entry)) (now (works .entry)) → now (runs .entry) ≡ d .runs → n ≡ d .«task_count» → StartsOf p d r) ⌝ }
 {
-    let n = d.task_count;
     let Policy::HoldOn = p else {
         return starts_of(brings, works, n);
     };
-    hold_starts_of(brings, works, &d.runs, n)
+    hold_starts_of(brings, works, runs, n)
 }
 
 // What the delay of each task has beyond its rounds: on the hold-on model its own run.
-fn tails_of(p: Policy, d: Description) -> [u32; 32]
-    requires { ⌜ WellFormed d ⌝ }
-    ensures { λ r. ⌜ TailsOf p d r ⌝ }
+fn tails_of(p: Policy, runs: [u32; 32]) -> [u32; 32]
+    ensures { λ r. ⌜ ((d : Description) → d .«task_count» ≤ 32 → runs ≡ d .runs → TailsOf p d r) ⌝ }
 {
     let Policy::HoldOn = p else {
         return [0u32; 32];
     };
-    d.runs
+    runs
 }
 
 // The tables of a judged description, from the sets and works that its loads are sums of.
@@ -95,8 +98,9 @@ pub fn tables_of<'a>(
     let n = d.task_count;
     let m = d.source_count;
     let levels = levels_of(brings, works, n, m, below_of(p));
-    let starts = starts_by(p, d, brings, works);
-    let tails = tails_of(p, d);
+    let runs = d.runs;
+    let starts = starts_by(p, &runs, brings, works, n);
+    let tails = tails_of(p, runs);
     let critical = critical_of(d);
     let orders = orders_of(d);
     let ordered = orders_held(d, &orders);

@@ -1,8 +1,6 @@
 -- `starts_by` meets its contract. Assumes nothing.
-use Prim.Native.Nat.{ℕ, suc, _-_, _≤_, _<_}
-use mathlib.Core.Path.{_≡_, sym, ap, subst}
+use mathlib.Core.Path.{_≡_, sym, subst}
 use native.Mathlib.Omega.{arith}
-use lib.ListN.{getD}
 use borrow.Author.Needs.{needs}
 use Rattle.model.specs.declared.Policy.{Policy}
 use Rattle.verdicts.specs.Tables.{StartsOf}
@@ -22,20 +20,15 @@ starts-of-requires c κs = search needs
 returns : tie.Need-returns
 returns c =
     let S = c .before .before .before in
-    let d = S .args .t2 in
-    subst (λ (p : Policy). StartsOf p d (c .starts-of .result)) (sym (c .before .enum-told2 .given .1)) (starts-of d (S .args .brings .now) (S .args .works .now) (S .pre .1) (c .starts-of .result) (S .pre .0 .fields .few-tasks) (c .starts-of .ensures))
+    λ d h e n. subst (λ (p : Policy). StartsOf p d (c .starts-of .result)) (sym (c .before .enum-told2 .given .1)) (starts-of d (S .args .brings .now) (S .args .works .now) h (c .starts-of .result) (omega (arith, S .pre .0)) (rw n at (c .starts-of .ensures)))
 
 hold-starts-of-requires : tie.Need-hold-starts-of-requires
-hold-starts-of-requires c κs =
-    let S = c .before .before .before .before in
-    let d = S .args .t2 in
-    (S .pre .0 .fields .few-tasks, S .pre .1 .scaled, λ k p. let e : suc k - 1 ≡ k = omega arith in omega (arith, S .pre .0 .fields .run-most (suc k) (omega arith) (omega arith), ap (λ i. getD (d .runs) i 0) e))
+hold-starts-of-requires c κs = let S = c .before .before in (S .pre .0, S .pre .1, S .pre .2)
 
 returns-2 : tie.Need-returns-2
 returns-2 c =
-    let S = c .before .before .before .before .before in
-    let d = S .args .t2 in
-    subst (λ (p : Policy). StartsOf p d (c .hold-starts-of .result)) (sym (c .before .before .before .enum-told .given .1)) (hold-starts-of d (S .args .brings .now) (S .args .works .now) (S .pre .1) (c .hold-starts-of .result) (S .pre .0 .fields .few-tasks) (c .hold-starts-of .ensures))
+    let S = c .before .before .before in
+    λ d h e n. subst (λ (p : Policy). StartsOf p d (c .hold-starts-of .result)) (sym (c .before .enum-told .given .1)) (hold-starts-of d (S .args .brings .now) (S .args .works .now) h (c .hold-starts-of .result) (omega (arith, S .pre .0)) (rw (e, n) at (c .hold-starts-of .ensures)))
 
 pub starts-by-spec : {M : Type 1} → statement M
 starts-by-spec =

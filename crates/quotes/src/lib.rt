@@ -98,7 +98,8 @@ fn slower<'a>(
     low
 }
 
-// The quote of a judged description, from its tables. The best tempo so far falls only at a level that is in doubt there.
+// The quote of a judged description, from its tables. The best tempo so far falls only at a level that is in doubt there; a task without a
+// critical link from a source has none to ask.
 pub fn quote_by<'a>(
     levels: &'a [u64; 528],
     starts: &'a [u64; 32],
@@ -119,10 +120,14 @@ pub fn quote_by<'a>(
     let mut gaps = gaps_by(&sources.ticks, &sources.pulses, m, 3000);
     let mut j: usize = 0;
     while j < tasks {
+        let set = critical[j];
+        if set == 0 {
+            j += 1;
+            continue;
+        }
         let start = starts[j];
         let loads = level_loads(levels, m, j);
         let tail = wide(tails[j]);
-        let set = critical[j];
         if level_held(start, &loads, tail, set, &gaps, m) {
             j += 1;
         } else {

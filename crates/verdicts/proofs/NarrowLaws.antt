@@ -1,5 +1,5 @@
 -- A level is held exactly if its delay is below the narrowest spacing of the sources with a critical link to it. Assumes nothing.
-use Prim.Native.Nat.{ℕ, _+_, _-_, _≤_, _<_}
+use Prim.Native.Nat.{ℕ, suc, _+_, _-_, _≤_, _<_}
 use mathlib.Core.Path.{_≡_, refl, sym, ap, _∙_}
 use mathlib.Core.Bool.{Bool, true, false, cond, not, _&&_}
 use mathlib.Core.List.{List}
@@ -14,18 +14,23 @@ use Rattle.model.specs.declared.Policy.{Policy}
 use Rattle.model.specs.declared.Verdict.{Verdict}
 use Rattle.model.specs.declared.Verdict.the-variants.{Held, Doubt}
 use Rattle.model.specs.Graph.{System, system, linkAt}
-use Rattle.model.specs.Delays.{tailOf}
+use Rattle.model.specs.Basics.{tab}
+use Rattle.model.specs.Loads.{load}
+use Rattle.model.specs.Delays.{startOf, levelOf, tailOf}
 use Rattle.model.specs.Verdicts.{sourceVerdict, doubtful}
 use Rattle.lemmas.proofs.Tests.{both, and-left, and-right, not-both, same-test}
 use Rattle.lemmas.proofs.Range.{Found, any-at, any-found}
 use Rattle.theory.proofs.WellFormed.{WellFormed, IsTask, IsSource}
 use Rattle.theory.proofs.Rounds.{Spaced}
 use Rattle.theory.proofs.Levels.{levelReach, level-verdict}
+use Rattle.lemmas.proofs.Table.{getD-tab}
 use Rattle.sets.specs.Sets.{member}
+use Rattle.sets.proofs.SetLaws.{member-none}
+use Rattle.spacings.specs.declared.Sources.{Sources}
 use Rattle.spacings.specs.Gaps.{GapsIn}
 use Rattle.rounds.specs.Level.{reachIn}
 use Rattle.verdicts.specs.Held.{fromSource, heldAt, levelHeld, criticalLink, criticalTo}
-use Rattle.verdicts.specs.Tables.{Level, LevelOf, NarrowestIn}
+use Rattle.verdicts.specs.Tables.{Level, LevelTables, levelWith, LevelOf, NarrowestIn}
 use Rattle.verdicts.proofs.LevelLaws.{from-is, is-from, source-is, level-of, level-at}
 use Rattle.verdicts.proofs.LevelRounds.{spaced-in, reach-is}
 
@@ -153,3 +158,22 @@ module _ (pol : Policy) (d : Description) (good : WellFormed d) (j : ℕ) (task 
               ∙ ap (λ x. not (doubtful (sourceVerdict pol (system d) gap x (linkAt d (link .at) .to)))) (ends .1)
               ∙ ap (λ x. not (doubtful (sourceVerdict pol (system d) gap (33 + u) x))) (ends .2))
               ∙ level-at pol d gap j (link .at) e there source
+
+-- a task that the tables have no critical link from a source to
+pub level-unmarked : (pol : Policy) (d : Description) (levels starts tails critical : List ℕ) (sources : Sources) (tasks j : ℕ) (gap : ℕ → ℕ) → LevelTables pol d levels starts tails critical sources tasks → j < tasks → getD critical j 0 ≡ 0 → levelHeld pol d gap (suc j) ≡ true
+level-unmarked pol d levels starts tails critical sources tasks j gap t p e =
+    sym (level-empty pol d (t .good) (suc j) (omega arith) v own gap (λ u q. ap (λ s. member s u) e ∙ member-none u))
+  where
+    at : ℕ → ℕ
+    at u = load (system d) (33 + u) (levelOf pol (suc j))
+
+    v : Level
+    v = levelWith (startOf pol (system d) (suc j)) (tab (d .«source_count») at) (tailOf pol (system d) (suc j)) (getD critical j 0)
+
+    own : LevelOf pol d (suc j) v
+    own = record {
+      start-is = refl;
+      load-is = λ u q. getD-tab (d .«source_count») at 0 u q;
+      tail-is = refl;
+      critical-is = λ u. t .by-critical j u (omega (arith, t .counted, t .good .fields .few-tasks));
+    }

@@ -43,7 +43,7 @@ twin-cut = refl
 abbrev asked-quick : List Tick → ℕ × ℕ × ℕ
 asked-quick h = (waitOf h 1 2, waitOf h 1 4, waitOf h 1 8)
 
-quick-served : asked-quick (history Preemptive quick (callsWhere 9 (λ x. eqb (x % 2) 0))) ≡ (2, 4, 1)
+quick-served : asked-quick (history Preemptive quick (callsWhere 9 (λ x. eqb (x % 2) 0))) ≡ (6, 4, 1)
 unfolding computing
 quick-served = refl
 

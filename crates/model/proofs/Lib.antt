@@ -4,4 +4,5 @@ pub mod SwingFigures
 pub mod SpacingFigures
 pub mod KnobFigures
 pub mod HoldFigures
+pub mod LatchFigures
 pub mod Steps

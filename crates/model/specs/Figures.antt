@@ -172,8 +172,8 @@ pub record Figures : Type 0 where
   -- a list that ends before the event is served: "or else to the last of the list"
   pub waits-to-last : waitOf (history Preemptive (twin 9) (callsWhere 4 (λ x. eqb x 0))) 1 0 ≡ 4
   pub not-served-in-list : servedBefore (history Preemptive (twin 9) (callsWhere 4 (λ x. eqb x 0))) 1 0 4 ≡ false
-  -- an event of tick 2 finds its task part done, and the run of ticks 0 to 3 takes it; one of tick 4 is taken by the run begun then
-  pub waits-part-done : waitOf (history Preemptive quick (callsWhere 9 (λ x. eqb (x % 2) 0))) 1 2 ≡ 2
+  -- an event of tick 2 finds its task part done, in the run of ticks 0 to 3, and waits for the run of ticks 4 to 7, which takes one of tick 4 too
+  pub waits-part-done : waitOf (history Preemptive quick (callsWhere 9 (λ x. eqb (x % 2) 0))) 1 2 ≡ 6
   pub waits-next-run : waitOf (history Preemptive quick (callsWhere 9 (λ x. eqb (x % 2) 0))) 1 4 ≡ 4
   -- an event of the last tick waits one
   pub waits-last-tick : waitOf (history Preemptive quick (callsWhere 9 (λ x. eqb (x % 2) 0))) 1 8 ≡ 1

@@ -33,15 +33,14 @@ unfoldable pub left : Policy → Description → Machine → List Call → Machi
 left p d m [] = m
 left p d m (c ∷ cs) = left p d (plainCall p d m c .machine) cs
 
--- what one tick shows: its tempo, the sources that arrived, the task that ran (0 for none), whether its run began and whether it ended in
--- this tick, and the ticks that each task had used before it
+-- what one tick shows: its tempo, the sources that arrived, the task that ran (0 for none), and whether its run began and whether it ended in
+-- this tick
 pub record Tick : Type 0 where
   pub tempo : ℕ
   pub arrived : List Bool
   pub ran : ℕ
   pub began : Bool
   pub ended : Bool
-  pub used : List ℕ
 
 unfoldable pub observe : Policy → Description → Machine → Call → Tick
 observe p d m c =
@@ -52,7 +51,6 @@ observe p d m c =
       ran = h;
       began = eqb (usedAt m h) 0;
       ended = not (eqb h 0) && (eqb (usedAt m h + 1) (runOf d h) || c .finish);
-      used = m .used;
     }
 
 -- "a refused call is no tick"
@@ -76,14 +74,9 @@ begins k j = eqb (k .ran) j && k .began
 abbrev pub ends : Tick → ℕ → Bool
 ends k j = eqb (k .ran) j && k .ended
 
--- "an event that comes while its task is part done is taken by that run, any other by the run begun next":
--- whether the run that takes an event of tick k for task j has begun before k
-abbrev pub partDone : Tick → ℕ → Bool
-partDone k j = ltb 0 (getD (k .used) (j - 1) 0)
-
 -- the ticks of a list by number, from 0
 abbrev pub noTick : Tick
-noTick = record { tempo = 0; arrived = []; ran = 0; began = false; ended = false; used = [] }
+noTick = record { tempo = 0; arrived = []; ran = 0; began = false; ended = false }
 
 abbrev pub tickAt : List Tick → ℕ → Tick
 tickAt h x = getD h x noTick
@@ -102,9 +95,10 @@ ticksUntil h j begun x (suc n) =
     let now = begun || begins (tickAt h x) j in
     elim (now && ends (tickAt h x) j) [ true ↦ 1 | false ↦ suc (ticksUntil h j now (suc x) n) ]
 
--- "the event is served in the tick in which the run that takes it ends": the event of tick x for task j is served before tick y
+-- "an event that comes later in that run must wait for another run" (C-15): each is taken by the run begun next, be it in the event's own tick. "The
+-- event is served in the tick in which the run that takes it ends": the event of tick x for task j is served before tick y
 unfoldable pub servedBefore : List Tick → ℕ → ℕ → ℕ → Bool
-servedBefore h j x y = endsWithin h j (partDone (tickAt h x) j) x (y - x)
+servedBefore h j x y = endsWithin h j false x (y - x)
 
 -- "a link has been dropped if its from fired in some tick and its event before that one was not served in an earlier tick"
 pub record Dropped (h : List Tick) (i j : ℕ) : Type 0 where
@@ -119,4 +113,4 @@ pub record Dropped (h : List Tick) (i j : ℕ) : Type 0 where
 
 -- "a wait counts the ticks from the event's own, as the first, to the one that serves it, or else to the last of the list"
 unfoldable pub waitOf : List Tick → ℕ → ℕ → ℕ
-waitOf h j x = ticksUntil h j (partDone (tickAt h x) j) x (length h - x)
+waitOf h j x = ticksUntil h j false x (length h - x)

@@ -19,3 +19,4 @@ pub mod SwingFigures
 pub mod SpacingFigures
 pub mod KnobFigures
 pub mod HoldFigures
+pub mod LatchFigures

@@ -1,5 +1,5 @@
--- "The tick machine" as C-13 has it, with a tempo in each tick, and on both models (C-14): the record, its rules, its start, the steps of a tick, and
--- the refusals of a call. It is the plain machine.
+-- "The tick machine" as C-13 has it, with a tempo in each tick, on both models (C-14), whose tasks read their inputs when they begin (C-15): the
+-- record, its rules, its start, the steps of a tick, and the refusals of a call. It is the plain machine.
 use Prim.Native.Nat.{ℕ, zero, suc, _+_, _-_, min, max}
 use mathlib.Core.Bool.{Bool, true, false, _||_, _&&_, not, cond}
 use mathlib.Core.List.{List}
@@ -42,32 +42,45 @@ ageAt m u = getD (m .ages) u 0
 abbrev pub fastestAt : Machine → ℕ → ℕ
 fastestAt m u = getD (m .fastest) u 0
 
+-- "the record gains, for each task, a mark 'again', and for each link a mark 'late'"
+abbrev pub againAt : Machine → ℕ → Bool
+againAt m k = getD (m .again) (k - 1) false
+
+abbrev pub lateAt : Machine → ℕ → Bool
+lateAt m l = getD (m .late) l false
+
 -- "the spacing for 20.0", the longest that a source has
 abbrev pub longestGap : Description → ℕ → ℕ
 longestGap d u = spacingOf d 200 (33 + u)
 
 -- one part of the record replaced
 abbrev pub setAwake : ℕ → Bool → Machine → Machine
-setAwake k b m = record { awake = set (m .awake) (k - 1) b; used = m .used; waiting = m .waiting; dropped = m .dropped; ages = m .ages; fastest = m .fastest }
+setAwake k b m = record { awake = set (m .awake) (k - 1) b; used = m .used; waiting = m .waiting; dropped = m .dropped; ages = m .ages; fastest = m .fastest; again = m .again; late = m .late }
 
 abbrev pub setUsed : ℕ → ℕ → Machine → Machine
-setUsed k x m = record { awake = m .awake; used = set (m .used) (k - 1) x; waiting = m .waiting; dropped = m .dropped; ages = m .ages; fastest = m .fastest }
+setUsed k x m = record { awake = m .awake; used = set (m .used) (k - 1) x; waiting = m .waiting; dropped = m .dropped; ages = m .ages; fastest = m .fastest; again = m .again; late = m .late }
 
 abbrev pub setWaiting : ℕ → Bool → Machine → Machine
-setWaiting l b m = record { awake = m .awake; used = m .used; waiting = set (m .waiting) l b; dropped = m .dropped; ages = m .ages; fastest = m .fastest }
+setWaiting l b m = record { awake = m .awake; used = m .used; waiting = set (m .waiting) l b; dropped = m .dropped; ages = m .ages; fastest = m .fastest; again = m .again; late = m .late }
 
 abbrev pub setDropped : ℕ → Bool → Machine → Machine
-setDropped l b m = record { awake = m .awake; used = m .used; waiting = m .waiting; dropped = set (m .dropped) l b; ages = m .ages; fastest = m .fastest }
+setDropped l b m = record { awake = m .awake; used = m .used; waiting = m .waiting; dropped = set (m .dropped) l b; ages = m .ages; fastest = m .fastest; again = m .again; late = m .late }
 
 abbrev pub setAge : ℕ → ℕ → Machine → Machine
-setAge u x m = record { awake = m .awake; used = m .used; waiting = m .waiting; dropped = m .dropped; ages = set (m .ages) u x; fastest = m .fastest }
+setAge u x m = record { awake = m .awake; used = m .used; waiting = m .waiting; dropped = m .dropped; ages = set (m .ages) u x; fastest = m .fastest; again = m .again; late = m .late }
 
 abbrev pub setFastest : ℕ → ℕ → Machine → Machine
-setFastest u x m = record { awake = m .awake; used = m .used; waiting = m .waiting; dropped = m .dropped; ages = m .ages; fastest = set (m .fastest) u x }
+setFastest u x m = record { awake = m .awake; used = m .used; waiting = m .waiting; dropped = m .dropped; ages = m .ages; fastest = set (m .fastest) u x; again = m .again; late = m .late }
+
+abbrev pub setAgain : ℕ → Bool → Machine → Machine
+setAgain k b m = record { awake = m .awake; used = m .used; waiting = m .waiting; dropped = m .dropped; ages = m .ages; fastest = m .fastest; again = set (m .again) (k - 1) b; late = m .late }
+
+abbrev pub setLate : ℕ → Bool → Machine → Machine
+setLate l b m = record { awake = m .awake; used = m .used; waiting = m .waiting; dropped = m .dropped; ages = m .ages; fastest = m .fastest; again = m .again; late = set (m .late) l b }
 
 -- a record of zeros, which stands beside a refusal
 abbrev pub blankMachine : Machine
-blankMachine = record { awake = replicate 32 false; used = replicate 32 0; waiting = replicate 256 false; dropped = replicate 256 false; ages = replicate 16 0; fastest = replicate 16 0 }
+blankMachine = record { awake = replicate 32 false; used = replicate 32 0; waiting = replicate 256 false; dropped = replicate 256 false; ages = replicate 16 0; fastest = replicate 16 0; again = replicate 32 false; late = replicate 256 false }
 
 -- "at the start all tasks sleep, used is 0, marks are clear"; "ages start at the spacing for 20.0", and no tempo is kept
 unfoldable pub idle : Description → Machine
@@ -78,6 +91,8 @@ idle d = record {
   dropped = replicate 256 false;
   ages = tab 16 (λ u. cond (ltb u (d .«source_count»)) (longestGap d u) 0);
   fastest = replicate 16 0;
+  again = replicate 32 false;
+  late = replicate 256 false;
 }
 
 -- the start call: 1 to 10, with zeros beside a refusal
@@ -104,9 +119,16 @@ sourceRule d m u = cond (ltb u (d .«source_count»))
     (leb (ageAt m u) (longestGap d u) && cond (eqb (fastestAt m u) 0) (eqb (ageAt m u) (longestGap d u)) (onKnob (fastestAt m u)))
     (eqb (ageAt m u) 0 && eqb (fastestAt m u) 0)
 
+-- "'again' only on a task part done, and 'late' only on a waiting link into a task marked 'again'"
+abbrev pub againRule : Machine → ℕ → Bool
+againRule m k = not (againAt m k) || ltb 0 (usedAt m k)
+
+abbrev pub lateRule : Description → Machine → ℕ → Bool
+lateRule d m l = not (lateAt m l) || (ltb l (d .«link_count») && (waitingAt m l && againAt m (linkAt d l .to)))
+
 -- these are the rules of both models
 unfoldable pub rulesKept : Description → Machine → Bool
-rulesKept d m = allN (taskRule d m) 1 32 && (allN (linkRule d m) 0 256 && allN (sourceRule d m) 0 16)
+rulesKept d m = allN (taskRule d m) 1 32 && (allN (linkRule d m) 0 256 && (allN (sourceRule d m) 0 16 && (allN (againRule m) 1 32 && allN (lateRule d m) 0 256)))
 
 -- how many tasks are part done; on the hold-on model "the task that runs is the one whose used is above 0, and the state rule allows only one such"
 unfoldable pub partsDone : Machine → ℕ
@@ -123,8 +145,12 @@ lawful p d m = rulesKept d m && aloneRule p m
 abbrev pub markDropped : ℕ → Machine → Machine
 markDropped l m = cond (waitingAt m l) (setDropped l true m) m
 
+-- "An event for a task whose used is above 0 sets waiting and late, and 'again' on its task"
+abbrev pub markLate : Description → ℕ → Machine → Machine
+markLate d l m = cond (ltb 0 (usedAt m (linkAt d l .to))) (setAgain (linkAt d l .to) true (setLate l true m)) m
+
 unfoldable pub fireLink : Description → ℕ → ℕ → Machine → Machine
-fireLink d x l m = cond (eqb (linkAt d l .from) x) (setAwake (linkAt d l .to) true (setWaiting l true (markDropped l m))) m
+fireLink d x l m = cond (eqb (linkAt d l .from) x) (setAwake (linkAt d l .to) true (setWaiting l true (markDropped l (markLate d l m)))) m
 
 unfoldable pub fire : Description → ℕ → Machine → Machine
 fire d x m = upTo (d .«link_count») (fireLink d x) m
@@ -155,17 +181,21 @@ choose p d m = cond (eqb (running p d m) 0) (highest d m) (running p d m)
 unfoldable pub runTask : ℕ → Machine → Machine
 runTask h m = cond (eqb h 0) m (setUsed h (usedAt m h + 1) m)
 
--- 3. "if used equals e, or the caller says finish, it sleeps, used becomes 0, waiting marks on links into it clear, and then it fires"
+-- 3. "if used equals e, or the caller says finish, it sleeps, used becomes 0, waiting marks on links into it clear, and then it fires", but "late links stay
+-- waiting and lose 'late'", and "a task marked 'again' is awake with used 0 and loses the mark"
 unfoldable pub clearLink : Description → ℕ → ℕ → Machine → Machine
-clearLink d h l m = cond (eqb (linkAt d l .to) h) (setWaiting l false m) m
+clearLink d h l m = cond (eqb (linkAt d l .to) h) (setLate l false (setWaiting l (lateAt m l) m)) m
 
 unfoldable pub clearInto : Description → ℕ → Machine → Machine
 clearInto d h m = upTo (d .«link_count») (clearLink d h) m
 
+abbrev pub complete : ℕ → Machine → Machine
+complete h m = setAgain h false (setUsed h 0 (setAwake h (againAt m h) m))
+
 unfoldable pub endRun : Description → ℕ → Bool → Machine → Machine
 endRun d h finish m =
     cond (not (eqb h 0) && (eqb (usedAt m h) (runOf d h) || finish))
-    (fire d h (clearInto d h (setUsed h 0 (setAwake h false m))))
+    (fire d h (clearInto d h (complete h m)))
     m
 
 -- 4. "ages rise by one, up to the spacing", which is that for 20.0
@@ -188,6 +218,8 @@ keep t marks m = record {
   dropped = m .dropped;
   ages = m .ages;
   fastest = tab 16 (λ u. keptAfter t (getD marks u false) (fastestAt m u));
+  again = m .again;
+  late = m .late;
 }
 
 -- one tick at tempo t: these steps, the task that runs being chosen once the sources have fired

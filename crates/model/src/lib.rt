@@ -158,7 +158,8 @@ pub enum Policy {
     HoldOn,
 }
 
-// The tick machine's record. Of each source it keeps the age and the fastest tempo given since its last firing, 0 before the first.
+// The tick machine's record. Of each source it keeps the age and the fastest tempo given since its last firing, 0 before the first. A task reads its
+// inputs when its run begins: links that fire later in that run are late, and their task runs again.
 pub struct Machine {
     pub awake: [bool; 32],
     pub used: [u32; 32],
@@ -166,6 +167,8 @@ pub struct Machine {
     pub dropped: [bool; 256],
     pub ages: [u32; 16],
     pub fastest: [u32; 16],
+    pub again: [bool; 32],
+    pub late: [bool; 256],
 }
 
 // The sources that arrive in one tick: a mark for each number from 33 to 48.

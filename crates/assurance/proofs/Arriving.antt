@@ -11,11 +11,11 @@ use Rattle.model.specs.declared.Description.{Description}
 use Rattle.model.specs.declared.Machine.{Machine}
 use Rattle.model.specs.Basics.{anyN, upTo}
 use Rattle.model.specs.Graph.{linkAt, linked}
-use Rattle.model.specs.Machine.{awakeAt, waitingAt, droppedAt, ageAt, setAge, fire, arriveOne, arrive}
+use Rattle.model.specs.Machine.{awakeAt, usedAt, waitingAt, droppedAt, ageAt, againAt, lateAt, setAge, fire, arriveOne, arrive}
 use Rattle.lemmas.proofs.Tests.{Cmp, less, same, more, cmp, same-test, and-left, and-right, and-false-left, and-false-right, both, or-left, or-right, or-cases}
 use Rattle.lemmas.proofs.Bools.{or-idle, or-idle-right, or-assoc, and-on, any-suc, less-more}
 use Rattle.theory.proofs.WellFormed.{WellFormed}
-use Rattle.assurance.proofs.Firing.{Sized, Fired, fired, fired-past, drop-more}
+use Rattle.assurance.proofs.Firing.{Sized, Fired, fired, fired-past, drop-more, or-under}
 use Rattle.lemmas.proofs.Table.{getD-set}
 
 -- node x is one of the first n sources and its mark is set
@@ -66,7 +66,9 @@ pub record Arrived (d : Description) (marks : List Bool) (n : ℕ) (m m′ : Mac
   pub awake : (k : ℕ) → 1 ≤ k → awakeAt m′ k ≡ (awakeAt m k || anyN (λ u. getD marks (u - 33) false && linked d u k) 33 n)
   pub waiting : (l : ℕ) → l < d .«link_count» → waitingAt m′ l ≡ (waitingAt m l || comes marks n (linkAt d l .from))
   pub dropped : (l : ℕ) → l < d .«link_count» → droppedAt m′ l ≡ (droppedAt m l || (waitingAt m l && comes marks n (linkAt d l .from)))
-  pub past : (l : ℕ) → d .«link_count» ≤ l → (waitingAt m′ l ≡ waitingAt m l) × (droppedAt m′ l ≡ droppedAt m l)
+  pub again : (k : ℕ) → 1 ≤ k → againAt m′ k ≡ (againAt m k || (anyN (λ u. getD marks (u - 33) false && linked d u k) 33 n && ltb 0 (usedAt m k)))
+  pub late : (l : ℕ) → l < d .«link_count» → lateAt m′ l ≡ (lateAt m l || (comes marks n (linkAt d l .from) && ltb 0 (usedAt m (linkAt d l .to))))
+  pub past : (l : ℕ) → d .«link_count» ≤ l → (waitingAt m′ l ≡ waitingAt m l) × (droppedAt m′ l ≡ droppedAt m l) × (lateAt m′ l ≡ lateAt m l)
   pub age : (v : ℕ) → ageAt m′ v ≡ cond (ltb v n && getD marks v false) 0 (ageAt m v)
   pub fastest : m′ .fastest ≡ m .fastest
 
@@ -77,7 +79,9 @@ record OneArrived (d : Description) (marks : List Bool) (u : ℕ) (m m′ : Mach
   awake : (k : ℕ) → 1 ≤ k → awakeAt m′ k ≡ (awakeAt m k || (getD marks u false && linked d (33 + u) k))
   waiting : (l : ℕ) → l < d .«link_count» → waitingAt m′ l ≡ (waitingAt m l || (getD marks u false && eqb (linkAt d l .from) (33 + u)))
   dropped : (l : ℕ) → l < d .«link_count» → droppedAt m′ l ≡ (droppedAt m l || (waitingAt m l && (getD marks u false && eqb (linkAt d l .from) (33 + u))))
-  past : (l : ℕ) → d .«link_count» ≤ l → (waitingAt m′ l ≡ waitingAt m l) × (droppedAt m′ l ≡ droppedAt m l)
+  again : (k : ℕ) → 1 ≤ k → againAt m′ k ≡ (againAt m k || ((getD marks u false && linked d (33 + u) k) && ltb 0 (usedAt m k)))
+  late : (l : ℕ) → l < d .«link_count» → lateAt m′ l ≡ (lateAt m l || ((getD marks u false && eqb (linkAt d l .from) (33 + u)) && ltb 0 (usedAt m (linkAt d l .to))))
+  past : (l : ℕ) → d .«link_count» ≤ l → (waitingAt m′ l ≡ waitingAt m l) × (droppedAt m′ l ≡ droppedAt m l) × (lateAt m′ l ≡ lateAt m l)
   age : (v : ℕ) → ageAt m′ v ≡ cond (eqb v u && getD marks u false) 0 (ageAt m v)
   fastest : m′ .fastest ≡ m .fastest
 
@@ -102,7 +106,9 @@ module _ (d : Description) (wf : WellFormed d) (marks : List Bool) where
     awake = λ k o. or-idle (awakeAt m k) (getD marks u false) _ e;
     waiting = λ l p. or-idle (waitingAt m l) (getD marks u false) _ e;
     dropped = λ l p. or-idle-right (droppedAt m l) (waitingAt m l) _ (and-false-left (getD marks u false) _ e);
-    past = λ l p. (refl, refl);
+    again = λ k o. or-idle (againAt m k) _ _ (and-false-left (getD marks u false) _ e);
+    late = λ l p. or-idle (lateAt m l) _ _ (and-false-left (getD marks u false) _ e);
+    past = λ l p. (refl, refl, refl);
     age = λ v. rw (and-false-right (eqb v u) (getD marks u false) e) refl;
     fastest = refl;
   }
@@ -119,11 +125,15 @@ module _ (d : Description) (wf : WellFormed d) (marks : List Bool) where
           droppeds = f .sized .droppeds;
           ages = length-set (fire d (33 + u) m .ages) u 0 ∙ f .sized .ages;
           fastests = f .sized .fastests;
+          agains = f .sized .agains;
+          lates = f .sized .lates;
         };
         used = f .used;
         awake = λ k o. rw e (f .awake k o);
         waiting = λ l q. rw e (rw (lt-ltb l (d .«link_count») q) at (f .waiting l));
         dropped = λ l q. rw e (rw (lt-ltb l (d .«link_count») q) at (f .dropped l));
+        again = λ k o. rw e (f .again k o);
+        late = λ l q. rw e (rw (lt-ltb l (d .«link_count») q) at (f .late l));
         past = λ l q. fired-past d (33 + u) m (fire d (33 + u) m) f l q;
         age = λ v. getD-set (fire d (33 + u) m .ages) u 0 0 v (omega (arith, f .sized .ages, wf .fields .few-sources)) ∙ rw (e, f .ages, and-on (eqb v u) true refl) refl;
         fastest = f .fastest;
@@ -144,7 +154,9 @@ module _ (d : Description) (wf : WellFormed d) (marks : List Bool) where
     awake = λ k o. or-idle (awakeAt m k) false false refl;
     waiting = λ l p. rw (le-ltb (linkAt d l .from - 33) 0 (omega arith), and-false-right (ltb 32 (linkAt d l .from)) false refl) (or-idle (waitingAt m l) false false refl);
     dropped = λ l p. rw (le-ltb (linkAt d l .from - 33) 0 (omega arith), and-false-right (ltb 32 (linkAt d l .from)) false refl) (or-idle-right (droppedAt m l) (waitingAt m l) false refl);
-    past = λ l p. (refl, refl);
+    again = λ k o. or-idle (againAt m k) false false refl;
+    late = λ l p. rw (le-ltb (linkAt d l .from - 33) 0 (omega arith), and-false-right (ltb 32 (linkAt d l .from)) false refl) (or-idle (lateAt m l) false false refl);
+    past = λ l p. (refl, refl, refl);
     age = λ v. rw (le-ltb v 0 (omega arith)) refl;
     fastest = refl;
   }
@@ -158,7 +170,9 @@ module _ (d : Description) (wf : WellFormed d) (marks : List Bool) where
         awake = λ k o. rw (g .awake k o, f .awake k o, any-suc (λ u. getD marks (u - 33) false && linked d u k) 33 n, back) (or-assoc (awakeAt m k) _ _);
         waiting = λ l p. rw (g .waiting l p, f .waiting l p, comes-more marks n (linkAt d l .from)) (or-assoc (waitingAt m l) _ _);
         dropped = λ l p. rw (g .dropped l p, f .waiting l p, f .dropped l p, comes-more marks n (linkAt d l .from)) (drop-more (droppedAt m l) (waitingAt m l) _ _ (comes-apart marks n (linkAt d l .from)));
-        past = λ l p. (g .past l p .0 ∙ f .past l p .0, g .past l p .1 ∙ f .past l p .1);
+        again = λ k o. rw (g .again k o, f .again k o, f .used, any-suc (λ u. getD marks (u - 33) false && linked d u k) 33 n, back) (or-under (againAt m k) (anyN (λ u. getD marks (u - 33) false && linked d u k) 33 n) (getD marks n false && linked d (33 + n) k) (ltb 0 (usedAt m k)));
+        late = λ l p. rw (g .late l p, f .late l p, f .used, comes-more marks n (linkAt d l .from)) (or-under (lateAt m l) (comes marks n (linkAt d l .from)) (getD marks n false && eqb (linkAt d l .from) (33 + n)) (ltb 0 (usedAt m (linkAt d l .to))));
+        past = λ l p. (g .past l p .0 ∙ f .past l p .0, g .past l p .1 ∙ f .past l p .1, g .past l p .2 ∙ f .past l p .2);
         age = λ v. rw (g .age v, f .age v, less-more (λ u. getD marks u false) v n) (cond-or (ltb v n && getD marks v false) _ (ageAt m v));
         fastest = g .fastest ∙ f .fastest;
       }

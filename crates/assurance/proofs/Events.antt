@@ -22,12 +22,9 @@ pub held-live : (us : ℕ → ℕ) (ps : ℕ → Bool) (j : ℕ) (b : Bool) → 
 held-live us ps j true h = live-used us ps j (h .runs refl)
 held-live us ps j false h = live-pending us ps j (h .waits refl)
 
--- a live task holds an event that is taken by the run in progress, if there is one
-pub live-held : (us : ℕ → ℕ) (ps : ℕ → Bool) (j : ℕ) → live us ps j ≡ true → Held us ps j (ltb 0 (us j))
-live-held us ps j e = record {
-  runs = λ p. ltb-true 0 (us j) p;
-  waits = λ p. or-new (ltb 0 (us j)) (ps j) p e;
-}
+-- an event that its run has not begun to take
+pub held-pending : (us : ℕ → ℕ) (ps : ℕ → Bool) (j : ℕ) → ps j ≡ true → Held us ps j false
+held-pending us ps j e = record { runs = λ p. absurd (not-both p refl); waits = λ p. e }
 
 module _ {s : System} {gap : ℕ → ℕ} (S : Schedule s gap) (j : ℕ) where
   -- ev says in which ticks the link gets an event, and taken whether the run that takes it has begun by then. The event of tick x is
@@ -135,54 +132,22 @@ module _ {s : System} (G : Shaped s) {gap : ℕ → ℕ} (S : Schedule s gap) (T
   task-live y x w =
       held-live (S .used y) (S .pendingMid y) j (w .begun) (held-mid S j isTask y (w .begun) (waits-held S j isTask (λ z e f. T .from-task i j z linked e) y x w))
 
--- The base machine: an event is taken by the run that it finds in progress, or else by the one begun next.
+-- A machine whose tasks read their inputs when they begin: an event leaves its task pending, and the run begun next takes it.
 module _ {s : System} {gap : ℕ → ℕ} (S : Schedule s gap) where
-  abbrev pub inProgress : ℕ → ℕ → Bool
-  inProgress j x = ltb 0 (S .used x j)
+  pub record Latches : Type 0 where
+    pub from-source : (i j x : ℕ) → 33 ≤ i → i < 33 + s .sources → s .link i j ≡ true → S .arr x i ≡ true → S .pendingMid x j ≡ true
+    pub from-task : (i j x : ℕ) → s .link i j ≡ true → endsAt S i x ≡ true → S .pending (suc x) j ≡ true
 
-  -- so the first run to end from the event's tick on serves it
-  module _ (j : ℕ) (isTask : 1 ≤ j) {ev : ℕ → Bool} where
-    unbegun : {x y : ℕ} {b : Bool} → Unserved S j ev (inProgress j) x y b → b ≡ false → S .used y j ≡ 0
-    unbegun {x} (new e) p = let z : S .used x j ≤ 0 = ltb-false 0 (S .used x j) p in omega arith
-    unbegun (later {y = y} {b = b} u f) p =
-        let z : S .used y j ≡ 0 = unbegun u (or-false-left b _ p) in
-        used-other S y j isTask (λ q. not-both (both (eqb (S .ran y) j) _ (eq-eqb (S .ran y) j (sym q)) (eq-eqb (S .used y j) 0 z)) (or-false-right b _ p)) ∙ z
+  -- no run of j begins in a tick in which another task's run ends
+  pub other-begins : Loaded s → (i j x : ℕ) → s .link i j ≡ true → endsAt S i x ≡ true → beginsAt S j x ≡ false
+  other-begins L i j x linked e = false-of (beginsAt S j x) (λ b.
+      let q : j ≡ i = sym (eqb-true (S .ran x) j (and-left (eqb (S .ran x) j) _ b)) ∙ ends-ran S i x e in
+      let h : s .link i i ≡ true = rw q at linked in
+      omega (arith, L .falls i i h))
 
-    begun-now : {x y : ℕ} {b : Bool} → Unserved S j ev (inProgress j) x y b → endsAt S j y ≡ true → (b || beginsAt S j y) ≡ true
-    begun-now {y = y} {b = true} u e = refl
-    begun-now {y = y} {b = false} u e =
-        both (eqb (S .ran y) j) _ (and-left (eqb (S .ran y) j) _ e) (eq-eqb (S .used y j) 0 (unbegun u refl))
-
-    pub no-end : {x y : ℕ} {b : Bool} → Unserved S j ev (inProgress j) x y b → (z : ℕ) → x ≤ z → z < y → endsAt S j z ≡ false
-    no-end (new e) z p q = absurd (omega arith)
-    no-end (later {y = y} {b = b} u f) z p q = go (cmp z y) (λ r. no-end u z p r)
-      where
-        go : Cmp z y → (z < y → endsAt S j z ≡ false) → endsAt S j z ≡ false
-        go (less r) ih = ih r
-        go (same r) ih =
-            rw r (false-of (endsAt S j y) (λ o. not-both (both (b || beginsAt S j y) (endsAt S j y) (begun-now u o) o) f))
-        go (more r) ih = absurd (omega arith)
-
-  -- from a task, which is another one and so leaves what j has used as it is
-  pub joins-task : Loaded s → Shaped s → (i j x : ℕ) → s .link i j ≡ true → endsAt S i x ≡ true → Held (S .used (suc x)) (S .pending (suc x)) j (inProgress j x || beginsAt S j x)
-  joins-task L G i j x linked e = go (beginsAt S j x) refl
-    where
-      ran : S .ran x ≡ i
-      ran = ends-ran S i x e
-
-      other : j ≡ S .ran x → ⊥
-      other q = let h : s .link i i ≡ true = rw (q ∙ ran) at linked in omega (arith, L .falls i i h)
-
-      next : Held (S .used (suc x)) (S .pending (suc x)) j (ltb 0 (S .used (suc x) j))
-      next = live-held (S .used (suc x)) (S .pending (suc x)) j (S .next-live x j (ends-over S i x e) (rw ran linked))
-
-      go : (b : Bool) → beginsAt S j x ≡ b → Held (S .used (suc x)) (S .pending (suc x)) j (inProgress j x || beginsAt S j x)
-      go true q = absurd (other (sym (eqb-true (S .ran x) j (and-left (eqb (S .ran x) j) _ q))))
-      go false q = rw (q, or-off (inProgress j x), ← used-other S x j (G .to-task i j linked .0) other) next
-
-  unfoldable pub joins : Loaded s → Shaped s → Takes S
-  joins L G = record {
-    taken = inProgress;
-    from-source = λ i j x p q l e. live-held (S .used x) (S .pendingMid x) j (S .mid-live x i j p q e l);
-    from-task = joins-task L G;
+  unfoldable pub latches : Loaded s → Latches → Takes S
+  latches L W = record {
+    taken = λ j x. false;
+    from-source = λ i j x p q l e. held-pending (S .used x) (S .pendingMid x) j (W .from-source i j x p q l e);
+    from-task = λ i j x l e. rw (other-begins L i j x l e) (held-pending (S .used (suc x)) (S .pending (suc x)) j (W .from-task i j x l e));
   }

@@ -7,7 +7,7 @@ use mathlib.Core.Logic.{_⊎_, inl, inr}
 use native.Mathlib.Omega.{arith}
 use lib.ListN.{length, getD, length-replicate, List·getD-eq-default}
 use lib.Dec.{ltb, eqb, leb}
-use borrow.Author.Tests.{eqb-true, eqb-false, eq-eqb, ne-eqb, lt-ltb, ltb-false, le-leb, not-true}
+use borrow.Author.Tests.{eqb-true, eqb-false, eq-eqb, ne-eqb, lt-ltb, ltb-true, ltb-false, le-leb, not-true}
 use Rattle.model.specs.declared.Description.{Description}
 use Rattle.model.specs.declared.Policy.{Policy}
 use Rattle.model.specs.declared.Policy.the-variants.{Preemptive, HoldOn}
@@ -15,9 +15,9 @@ use Rattle.model.specs.declared.Machine.{Machine}
 use Rattle.model.specs.Basics.{anyN}
 use Rattle.model.specs.Graph.{system, runOf, linkAt, linked}
 use Rattle.model.specs.Delays.{spacingOf}
-use Rattle.model.specs.Machine.{awakeAt, usedAt, ageAt, fastestAt, idle, arrive, running, choose, tooSoon}
+use Rattle.model.specs.Machine.{awakeAt, usedAt, ageAt, fastestAt, againAt, idle, arrive, running, choose, tooSoon}
 use Rattle.model.specs.History.{Call}
-use Rattle.lemmas.proofs.Tests.{Cmp, less, same, more, cmp, not-both, false-of, true-of, and-left, and-right, and-false-left, or-left, or-right, or-false-left, or-cases, both}
+use Rattle.lemmas.proofs.Tests.{Cmp, less, same, more, cmp, not-both, false-of, true-of, and-left, and-right, and-false-left, or-left, or-right, or-false, or-false-left, or-cases, both}
 use Rattle.lemmas.proofs.Range.{Found, any-at, any-found, none-any}
 use Rattle.lemmas.proofs.Table.{length-tab, getD-same}
 use Rattle.theory.proofs.WellFormed.{WellFormed, Shaped}
@@ -26,21 +26,43 @@ use Rattle.assurance.proofs.Firing.{Sized}
 use Rattle.assurance.proofs.Arriving.{arrived}
 use Rattle.assurance.proofs.Ending.{highest-above, highest-awake}
 use Rattle.assurance.proofs.Choosing.{Anew, Kept, chosen, chosen-le, running-le, running-part, part-running, running-used}
-use Rattle.assurance.proofs.Stepping.{after-stays, after-wakes, after-fires, after-on, overAt, Stepped, step}
-use Rattle.assurance.proofs.Potential.{live}
+use Rattle.assurance.proofs.Stepping.{after-stays, after-late, after-wakes, after-fires, after-on, late-stays, late-from, late-fires, overAt, Stepped, step}
+use Rattle.assurance.proofs.Potential.{live, live-used, live-pending}
 use Rattle.assurance.proofs.Schedule.{Left, Schedule, beginsAt, endsAt, Preempts, HoldsOn, Obeys, below}
+use Rattle.assurance.proofs.Events.{Latches}
 use Rattle.assurance.proofs.Replay.{quietCall, callAt, stateAt, Passed}
 
--- a run pends where its task is awake and has used nothing; an awake task is live
-abbrev pub pend : (ℕ → Bool) → (ℕ → ℕ) → ℕ → Bool
-pend aw us k = aw k && eqb (us k) 0
+-- a run pends where its task is awake and has used nothing, or is to run again; an awake task is live
+abbrev pub pend : (ℕ → Bool) → (ℕ → ℕ) → (ℕ → Bool) → ℕ → Bool
+pend aw us ag k = (aw k && eqb (us k) 0) || ag k
 
-live-on : (aw : ℕ → Bool) (us : ℕ → ℕ) (k : ℕ) → aw k ≡ true → live us (pend aw us) k ≡ true
-live-on aw us k e = go (us k) refl
-  where
-    go : (u : ℕ) → us k ≡ u → (ltb 0 (us k) || (aw k && eqb (us k) 0)) ≡ true
-    go zero q = rw (q, e) refl
-    go (suc u) q = or-left (ltb 0 (us k)) _ (lt-ltb 0 (us k) (omega arith))
+module _ (aw : ℕ → Bool) (us : ℕ → ℕ) (ag : ℕ → Bool) (k : ℕ) where
+  pend-first : aw k ≡ true → us k ≡ 0 → pend aw us ag k ≡ true
+  pend-first e q = or-left (aw k && eqb (us k) 0) (ag k) (both (aw k) _ e (eq-eqb (us k) 0 q))
+
+  pend-again : ag k ≡ true → pend aw us ag k ≡ true
+  pend-again e = or-right (aw k && eqb (us k) 0) (ag k) e
+
+  -- so it does where an event wakes a task, and marks it again if it is part done
+  pend-woken : aw k ≡ true → (0 < us k → ag k ≡ true) → pend aw us ag k ≡ true
+  pend-woken e f = go (cmp 0 (us k))
+    where
+      go : Cmp 0 (us k) → pend aw us ag k ≡ true
+      go (less r) = pend-again (f r)
+      go (same r) = pend-first e (omega arith)
+      go (more r) = absurd (omega arith)
+
+  pend-cases : {C : Type 0} → pend aw us ag k ≡ true → (aw k ≡ true → us k ≡ 0 → C) → (ag k ≡ true → C) → C
+  pend-cases e f g =
+      or-cases (aw k && eqb (us k) 0) (ag k) e (λ p. f (and-left (aw k) _ p) (eqb-true (us k) 0 (and-right (aw k) _ p))) g
+
+  live-on : aw k ≡ true → live us (pend aw us ag) k ≡ true
+  live-on e = go (cmp 0 (us k))
+    where
+      go : Cmp 0 (us k) → live us (pend aw us ag) k ≡ true
+      go (less r) = live-used us (pend aw us ag) k r
+      go (same r) = live-pending us (pend aw us ag) k (pend-first e (omega arith))
+      go (more r) = absurd (omega arith)
 
 idle-sized : (d : Description) → Sized (idle d)
 unfolding idle
@@ -51,6 +73,8 @@ idle-sized d = record {
   droppeds = length-replicate 256 false;
   ages = length-tab 16 _;
   fastests = length-replicate {A = ℕ} 16 0;
+  agains = length-replicate 32 false;
+  lates = length-replicate 256 false;
 }
 
 -- at every tempo of the knob up to q the spacings are at least those of `gap`, which are at least 1
@@ -92,7 +116,11 @@ module _ (pol : Policy) (d : Description) (wf : WellFormed d) (ks : List Call) w
   abbrev pub midAt : ℕ → Machine
   midAt x = arrive d (marksAt x) (at x)
 
-  mid-is : (x k : ℕ) → 1 ≤ k → awakeAt (midAt x) k ≡ (awakeAt (at x) k || anyN (λ u. getD (marksAt x) (u - 33) false && linked d u k) 33 (d .«source_count»))
+  -- a source that arrives has a link to k
+  abbrev calledAt : ℕ → ℕ → Bool
+  calledAt x k = anyN (λ u. getD (marksAt x) (u - 33) false && linked d u k) 33 (d .«source_count»)
+
+  mid-is : (x k : ℕ) → 1 ≤ k → awakeAt (midAt x) k ≡ (awakeAt (at x) k || calledAt x k)
   mid-is x k o = arrived d wf (marksAt x) (at x) (at-sized x) .awake k o
 
   mid-keeps : (x k : ℕ) → 1 ≤ k → awakeAt (at x) k ≡ true → awakeAt (midAt x) k ≡ true
@@ -100,6 +128,13 @@ module _ (pol : Policy) (d : Description) (wf : WellFormed d) (ks : List Call) w
 
   mid-off : (x k : ℕ) → 1 ≤ k → awakeAt (midAt x) k ≡ false → awakeAt (at x) k ≡ false
   mid-off x k o e = or-false-left (awakeAt (at x) k) _ (sym (mid-is x k o) ∙ e)
+
+  -- who is marked again, and that a mark stays
+  again-is : (x k : ℕ) → 1 ≤ k → againAt (midAt x) k ≡ (againAt (at x) k || (calledAt x k && ltb 0 (usedAt (at x) k)))
+  again-is x k o = arrived d wf (marksAt x) (at x) (at-sized x) .again k o
+
+  pub again-keeps : (x k : ℕ) → 1 ≤ k → againAt (at x) k ≡ true → againAt (midAt x) k ≡ true
+  again-keeps x k o e = again-is x k o ∙ or-left (againAt (at x) k) _ e
 
   -- arrivals leave what is used as it was
   mid-used : (x k : ℕ) → usedAt (midAt x) k ≡ usedAt (at x) k
@@ -128,7 +163,7 @@ module _ (pol : Policy) (d : Description) (wf : WellFormed d) (ks : List Call) w
 
   stays-awake : (x k : ℕ) → 1 ≤ k → (k ≡ highAt x → ⊥) → awakeAt (midAt x) k ≡ true → awakeAt (at (suc x)) k ≡ true
   stays-awake x k o ne e =
-      at-step x .awake k o ∙ after-stays (awakeAt (midAt x) k) (endAt x) (eqb k (highAt x)) (linked d (highAt x) k) e (λ p q. ne (eqb-true k (highAt x) q))
+      at-step x .awake k o ∙ after-stays (awakeAt (midAt x) k) (againAt (midAt x) k) (endAt x) (eqb k (highAt x)) (linked d (highAt x) k) e (λ p q. ne (eqb-true k (highAt x) q))
 
   -- who sleeps has used nothing
   pub at-rests : (x k : ℕ) → 1 ≤ k → awakeAt (at x) k ≡ false → usedAt (at x) k ≡ 0
@@ -141,7 +176,7 @@ module _ (pol : Policy) (d : Description) (wf : WellFormed d) (ks : List Call) w
       go true p false q ih =
           let y : k ≡ highAt x = eqb-true k (highAt x) p in
           let m : awakeAt (midAt x) k ≡ true = rw y (high-awake x ih (omega arith)) in
-          absurd (not-both (at-step x .awake k o ∙ (after-on (awakeAt (midAt x) k) (endAt x) (eqb k (highAt x)) (linked d (highAt x) k) q ∙ m)) e)
+          absurd (not-both (at-step x .awake k o ∙ (after-on (awakeAt (midAt x) k) (againAt (midAt x) k) (endAt x) (eqb k (highAt x)) (linked d (highAt x) k) q ∙ m)) e)
       go false p c q ih =
           let ne : k ≡ highAt x → ⊥ = eqb-false k (highAt x) p in
           let off : awakeAt (at x) k ≡ false = false-of (awakeAt (at x) k) (λ y. not-both (stays-awake x k o ne (mid-keeps x k o y)) e) in
@@ -150,14 +185,46 @@ module _ (pol : Policy) (d : Description) (wf : WellFormed d) (ks : List Call) w
   mid-rests : (x k : ℕ) → 1 ≤ k → awakeAt (midAt x) k ≡ false → usedAt (at x) k ≡ 0
   mid-rests x k o e = at-rests x k o (mid-off x k o e)
 
+  -- who is marked again is part done
+  part-mid : (x k : ℕ) → 1 ≤ k → (againAt (at x) k ≡ true → 0 < usedAt (at x) k) → againAt (midAt x) k ≡ true → 0 < usedAt (at x) k
+  part-mid x k o f g =
+      or-cases (againAt (at x) k) _ (sym (again-is x k o) ∙ g) f (λ p. ltb-true 0 (usedAt (at x) k) (and-right (calledAt x k) _ p))
+
+  pub at-again : (x k : ℕ) → 1 ≤ k → againAt (at x) k ≡ true → 0 < usedAt (at x) k
+  unfolding stateAt idle
+  at-again zero k o e = absurd (not-both e (getD-same 32 (k - 1) false))
+  at-again (suc x) k o e =
+      go (late-from (againAt (midAt x) k) (endAt x) (eqb k (highAt x)) (linked d (highAt x) k) (ltb 0 (usedAt (at (suc x)) k)) (sym (at-step x .again k o) ∙ e)) (part-mid x k o (at-again x k o))
+    where
+      on : (b : Bool) → eqb k (highAt x) ≡ b → (c : Bool) → endAt x ≡ c → (c ≡ true → b ≡ false) → 0 < usedAt (at x) k → 0 < usedAt (at (suc x)) k
+      on true p true q f h = absurd (not-both refl (f refl))
+      on true p false q f h = rw (at-step x .used k o, p, q) (omega arith)
+      on false p c q f h = rw (at-step x .used k o, p) h
+
+      go : ((againAt (midAt x) k ≡ true) × (endAt x ≡ true → eqb k (highAt x) ≡ false)) ⊎ ((endAt x ≡ true) × (linked d (highAt x) k ≡ true) × (ltb 0 (usedAt (at (suc x)) k) ≡ true)) → (againAt (midAt x) k ≡ true → 0 < usedAt (at x) k) → 0 < usedAt (at (suc x)) k
+      go (inl w) ih = on (eqb k (highAt x)) refl (endAt x) refl (w .1) (ih (w .0))
+      go (inr w) ih = ltb-true 0 (usedAt (at (suc x)) k) (w .2)
+
+  mid-again : (x k : ℕ) → 1 ≤ k → againAt (midAt x) k ≡ true → 0 < usedAt (at x) k
+  mid-again x k o = part-mid x k o (at-again x k o)
+
+  -- what is pending
+  abbrev pub pendAt : ℕ → ℕ → Bool
+  pendAt x = pend (awakeAt (at x)) (usedAt (at x)) (againAt (at x))
+
+  abbrev pub pendMid : ℕ → ℕ → Bool
+  pendMid x = pend (awakeAt (midAt x)) (usedAt (at x)) (againAt (midAt x))
+
   -- where none goes on, all above the task that runs sleep
-  high-above : (x k : ℕ) → running pol d (midAt x) ≡ 0 → highAt x < k → k ≤ d .«task_count» → live (usedAt (at x)) (pend (awakeAt (midAt x)) (usedAt (at x))) k ≡ false
+  high-above : (x k : ℕ) → running pol d (midAt x) ≡ 0 → highAt x < k → k ≤ d .«task_count» → live (usedAt (at x)) (pendMid x) k ≡ false
   high-above x k z p q = go (chosen pol d (midAt x))
     where
-      go : Anew pol d (midAt x) ⊎ Kept pol d (midAt x) → live (usedAt (at x)) (pend (awakeAt (midAt x)) (usedAt (at x))) k ≡ false
+      go : Anew pol d (midAt x) ⊎ Kept pol d (midAt x) → live (usedAt (at x)) (pendMid x) k ≡ false
       go (inl c) =
           let e : awakeAt (midAt x) k ≡ false = highest-above (midAt x .awake) (d .«task_count») k (rw (c .is) at p) q in
-          rw (mid-rests x k (omega arith) e, e) refl
+          let z : usedAt (at x) k ≡ 0 = mid-rests x k (omega arith) e in
+          let g : againAt (midAt x) k ≡ false = false-of (againAt (midAt x) k) (λ y. omega (arith, mid-again x k (omega arith) y)) in
+          rw (z, e, g) refl
       go (inr c) = absurd (omega (arith, c .some))
 
   -- so it is where its run begins in this tick, or none runs
@@ -176,42 +243,85 @@ module _ (pol : Policy) (d : Description) (wf : WellFormed d) (ks : List Call) w
       go (inr c) = absurd (omega (arith, c .some, rw (c .is) at z))
 
   -- what is pending, from tick to tick
-  abbrev pendAt : ℕ → ℕ → Bool
-  pendAt x = pend (awakeAt (at x)) (usedAt (at x))
-
-  abbrev pendMid : ℕ → ℕ → Bool
-  pendMid x = pend (awakeAt (midAt x)) (usedAt (at x))
-
   pend-mid : (x k : ℕ) → 1 ≤ k → pendMid x k ≡ true → (pendAt x k ≡ true) ⊎ Found (λ u. getD (marksAt x) (u - 33) false && linked d u k) 33 (d .«source_count»)
-  pend-mid x k o e =
-      let z : eqb (usedAt (at x) k) 0 ≡ true = and-right (awakeAt (midAt x) k) _ e in
-      or-cases (awakeAt (at x) k) _ (sym (mid-is x k o) ∙ and-left (awakeAt (midAt x) k) _ e) (λ p. inl (both (awakeAt (at x) k) _ p z)) (λ p. inr (any-found _ 33 (d .«source_count») p))
+  pend-mid x k o e = pend-cases (awakeAt (midAt x)) (usedAt (at x)) (againAt (midAt x)) k e
+      (λ w z. or-cases (awakeAt (at x) k) _ (sym (mid-is x k o) ∙ w) (λ p. inl (pend-first (awakeAt (at x)) (usedAt (at x)) (againAt (at x)) k p z)) (λ p. inr (any-found _ 33 (d .«source_count») p)))
+      (λ g. or-cases (againAt (at x) k) _ (sym (again-is x k o) ∙ g) (λ p. inl (pend-again (awakeAt (at x)) (usedAt (at x)) (againAt (at x)) k p)) (λ p. inr (any-found _ 33 (d .«source_count») (and-left (calledAt x k) _ p))))
+
+  pend-keeps : (x k : ℕ) → 1 ≤ k → pendAt x k ≡ true → pendMid x k ≡ true
+  pend-keeps x k o e = pend-cases (awakeAt (at x)) (usedAt (at x)) (againAt (at x)) k e
+      (λ w z. pend-first (awakeAt (midAt x)) (usedAt (at x)) (againAt (midAt x)) k (mid-keeps x k o w) z)
+      (λ g. pend-again (awakeAt (midAt x)) (usedAt (at x)) (againAt (midAt x)) k (again-keeps x k o g))
+
+  -- the mark again stays until the run ends, and then its task is awake
+  again-stays : (x k : ℕ) → 1 ≤ k → (endAt x ≡ true → eqb k (highAt x) ≡ true → ⊥) → againAt (midAt x) k ≡ true → againAt (at (suc x)) k ≡ true
+  again-stays x k o ne g =
+      at-step x .again k o ∙ late-stays (againAt (midAt x) k) (endAt x) (eqb k (highAt x)) (linked d (highAt x) k) (ltb 0 (usedAt (at (suc x)) k)) g ne
+
+  again-wakes : (x k : ℕ) → 1 ≤ k → endAt x ≡ true → eqb k (highAt x) ≡ true → againAt (midAt x) k ≡ true → awakeAt (at (suc x)) k ≡ true
+  again-wakes x k o p q g =
+      at-step x .awake k o ∙ after-late (awakeAt (midAt x) k) (againAt (midAt x) k) (endAt x) (eqb k (highAt x)) (linked d (highAt x) k) g p q
 
   pend-kept : (x k : ℕ) → 1 ≤ k → Left (usedAt (at x)) (pendMid x) (highAt x) k → pendAt (suc x) k ≡ true
-  pend-kept x k o w =
-      let z : usedAt (at x) k ≡ 0 = eqb-true (usedAt (at x) k) 0 (and-right (awakeAt (midAt x) k) _ (w .0)) in
-      let ne : k ≡ highAt x → ⊥ = λ q. omega (arith, w .1 q) in
-      both (awakeAt (at (suc x)) k) _ (stays-awake x k o ne (and-left (awakeAt (midAt x) k) _ (w .0))) (eq-eqb (usedAt (at (suc x)) k) 0 (used-else x k o ne ∙ z))
+  pend-kept x k o w = pend-cases (awakeAt (midAt x)) (usedAt (at x)) (againAt (midAt x)) k (w .0) first (again (eqb k (highAt x)) refl (endAt x) refl)
+    where
+      first : awakeAt (midAt x) k ≡ true → usedAt (at x) k ≡ 0 → pendAt (suc x) k ≡ true
+      first e z =
+          let ne : k ≡ highAt x → ⊥ = λ q. omega (arith, w .1 q) in
+          pend-first (awakeAt (at (suc x))) (usedAt (at (suc x))) (againAt (at (suc x))) k (stays-awake x k o ne e) (used-else x k o ne ∙ z)
+
+      again : (b : Bool) → eqb k (highAt x) ≡ b → (c : Bool) → endAt x ≡ c → againAt (midAt x) k ≡ true → pendAt (suc x) k ≡ true
+      again true p true q g =
+          pend-first (awakeAt (at (suc x))) (usedAt (at (suc x))) (againAt (at (suc x))) k (again-wakes x k o q p g) (at-step x .used k o ∙ rw (p, q) refl)
+      again true p false q g =
+          pend-again (awakeAt (at (suc x))) (usedAt (at (suc x))) (againAt (at (suc x))) k (again-stays x k o (λ y z. not-both y q) g)
+      again false p c q g =
+          pend-again (awakeAt (at (suc x))) (usedAt (at (suc x))) (againAt (at (suc x))) k (again-stays x k o (λ y z. not-both z p) g)
 
   pend-from : (x k : ℕ) → 1 ≤ k → pendAt (suc x) k ≡ true → Left (usedAt (at x)) (pendMid x) (highAt x) k ⊎ ((endAt x ≡ true) × (linked d (highAt x) k ≡ true))
-  pend-from x k o e =
-      go (after-wakes (awakeAt (midAt x) k) (endAt x) (eqb k (highAt x)) (linked d (highAt x) k) (sym (at-step x .awake k o) ∙ and-left (awakeAt (at (suc x)) k) _ e))
+  pend-from x k o e = pend-cases (awakeAt (at (suc x))) (usedAt (at (suc x))) (againAt (at (suc x))) k e first again
     where
-      none : usedAt (at (suc x)) k ≡ 0
-      none = eqb-true (usedAt (at (suc x)) k) 0 (and-right (awakeAt (at (suc x)) k) _ e)
+      marked : againAt (midAt x) k ≡ true → Left (usedAt (at x)) (pendMid x) (highAt x) k
+      marked g = (pend-again (awakeAt (midAt x)) (usedAt (at x)) (againAt (midAt x)) k g, λ q. mid-again x k o g)
 
-      other : (endAt x ≡ true → eqb k (highAt x) ≡ false) → (c : Bool) → endAt x ≡ c → k ≡ highAt x → ⊥
-      other f true q y = not-both (eq-eqb k (highAt x) y) (f q)
-      other f false q y =
-          let h : usedAt (at (suc x)) k ≡ suc (usedAt (at x) k) = at-step x .used k o ∙ rw (eq-eqb k (highAt x) y, q) refl in
-          omega (arith, none)
+      first : awakeAt (at (suc x)) k ≡ true → usedAt (at (suc x)) k ≡ 0 → Left (usedAt (at x)) (pendMid x) (highAt x) k ⊎ ((endAt x ≡ true) × (linked d (highAt x) k ≡ true))
+      first w none =
+          go (after-wakes (awakeAt (midAt x) k) (againAt (midAt x) k) (endAt x) (eqb k (highAt x)) (linked d (highAt x) k) (sym (at-step x .awake k o) ∙ w))
+        where
+          other : (endAt x ≡ true → eqb k (highAt x) ≡ false) → (c : Bool) → endAt x ≡ c → k ≡ highAt x → ⊥
+          other f true q y = not-both (eq-eqb k (highAt x) y) (f q)
+          other f false q y =
+              let h : usedAt (at (suc x)) k ≡ suc (usedAt (at x) k) = at-step x .used k o ∙ rw (eq-eqb k (highAt x) y, q) refl in
+              omega (arith, none)
 
-      go : ((awakeAt (midAt x) k ≡ true) × (endAt x ≡ true → eqb k (highAt x) ≡ false)) ⊎ ((endAt x ≡ true) × (linked d (highAt x) k ≡ true)) → Left (usedAt (at x)) (pendMid x) (highAt x) k ⊎ ((endAt x ≡ true) × (linked d (highAt x) k ≡ true))
-      go (inr w) = inr w
-      go (inl w) =
-          let ne : k ≡ highAt x → ⊥ = other (w .1) (endAt x) refl in
-          let z : usedAt (at x) k ≡ 0 = sym (used-else x k o ne) ∙ none in
-          inl (both (awakeAt (midAt x) k) _ (w .0) (eq-eqb (usedAt (at x) k) 0 z), λ q. absurd (ne q))
+          go : ((awakeAt (midAt x) k ≡ true) × (endAt x ≡ true → eqb k (highAt x) ≡ false)) ⊎ (((againAt (midAt x) k ≡ true) × (endAt x ≡ true) × (eqb k (highAt x) ≡ true)) ⊎ ((endAt x ≡ true) × (linked d (highAt x) k ≡ true))) → Left (usedAt (at x)) (pendMid x) (highAt x) k ⊎ ((endAt x ≡ true) × (linked d (highAt x) k ≡ true))
+          go (inr (inr v)) = inr v
+          go (inr (inl v)) = inl (marked (v .0))
+          go (inl v) =
+              let ne : k ≡ highAt x → ⊥ = other (v .1) (endAt x) refl in
+              let z : usedAt (at x) k ≡ 0 = sym (used-else x k o ne) ∙ none in
+              inl (pend-first (awakeAt (midAt x)) (usedAt (at x)) (againAt (midAt x)) k (v .0) z, λ q. absurd (ne q))
+
+      again : againAt (at (suc x)) k ≡ true → Left (usedAt (at x)) (pendMid x) (highAt x) k ⊎ ((endAt x ≡ true) × (linked d (highAt x) k ≡ true))
+      again g =
+          go (late-from (againAt (midAt x) k) (endAt x) (eqb k (highAt x)) (linked d (highAt x) k) (ltb 0 (usedAt (at (suc x)) k)) (sym (at-step x .again k o) ∙ g))
+        where
+          go : ((againAt (midAt x) k ≡ true) × (endAt x ≡ true → eqb k (highAt x) ≡ false)) ⊎ ((endAt x ≡ true) × (linked d (highAt x) k ≡ true) × (ltb 0 (usedAt (at (suc x)) k) ≡ true)) → Left (usedAt (at x)) (pendMid x) (highAt x) k ⊎ ((endAt x ≡ true) × (linked d (highAt x) k ≡ true))
+          go (inl v) = inl (marked (v .0))
+          go (inr v) = inr (v .0, v .1)
+
+  -- an event leaves its task awake, and again if it is part done: so it is pending, once the sources have fired, and after the tick
+  pub pend-arrived : (x u k : ℕ) → 1 ≤ k → 33 ≤ u → u < 33 + d .«source_count» → getD (marksAt x) (u - 33) false ≡ true → linked d u k ≡ true → pendMid x k ≡ true
+  pend-arrived x u k o p q e l =
+      let w : calledAt x k ≡ true = any-at _ 33 (d .«source_count») u p q (both (getD (marksAt x) (u - 33) false) _ e l) in
+      pend-woken (awakeAt (midAt x)) (usedAt (at x)) (againAt (midAt x)) k (mid-is x k o ∙ or-right (awakeAt (at x) k) _ w)
+      (λ h. again-is x k o ∙ or-right (againAt (at x) k) _ (both (calledAt x k) _ w (lt-ltb 0 (usedAt (at x) k) h)))
+
+  pub pend-fired : (x k : ℕ) → 1 ≤ k → endAt x ≡ true → linked d (highAt x) k ≡ true → pendAt (suc x) k ≡ true
+  pend-fired x k o e l =
+      pend-woken (awakeAt (at (suc x))) (usedAt (at (suc x))) (againAt (at (suc x))) k
+      (at-step x .awake k o ∙ after-fires (awakeAt (midAt x) k) (againAt (midAt x) k) (endAt x) (eqb k (highAt x)) (linked d (highAt x) k) e l)
+      (λ h. at-step x .again k o ∙ late-fires (againAt (midAt x) k) (endAt x) (eqb k (highAt x)) (linked d (highAt x) k) (ltb 0 (usedAt (at (suc x)) k)) e l (lt-ltb 0 (usedAt (at (suc x)) k) h))
 
   -- on the hold-on model a task that is part done is the one that runs, for there is but one
   abbrev pub Alone : ℕ → Type 0
@@ -328,12 +438,12 @@ module _ (pol : Policy) (d : Description) (wf : WellFormed d) (ks : List Call) w
       ran = highAt;
       over = endAt;
       unused-first = λ k o. unfold stateAt idle in getD-same 32 (k - 1) 0;
-      pending-first = λ k o. and-false-left (awakeAt (at 0) k) _ (unfold stateAt idle in getD-same 32 (k - 1) false);
-      mid-kept = λ x k o e. both (awakeAt (midAt x) k) _ (mid-keeps x k o (and-left (awakeAt (at x) k) _ e)) (and-right (awakeAt (at x) k) _ e);
+      pending-first = λ k o. or-false (awakeAt (at 0) k && eqb (usedAt (at 0) k) 0) _ (and-false-left (awakeAt (at 0) k) _ (unfold stateAt idle in getD-same 32 (k - 1) false)) (unfold stateAt idle in getD-same 32 (k - 1) false);
+      mid-kept = pend-keeps;
       mid-from = pend-mid;
-      mid-live = λ x u k p q e l. live-on (awakeAt (midAt x)) (usedAt (at x)) k (mid-is x k (link-some u k l) ∙ or-right (awakeAt (at x) k) _ (any-at _ 33 (d .«source_count») u p q (both (getD (marksAt x) (u - 33) false) _ e l)));
+      mid-live = λ x u k p q e l. live-pending (usedAt (at x)) (pendMid x) k (pend-arrived x u k (link-some u k l) p q e l);
       ran-task = high-low;
-      ran-live = λ x p. live-on (awakeAt (midAt x)) (usedAt (at x)) (highAt x) (high-awake x (at-rests x) p);
+      ran-live = λ x p. live-on (awakeAt (midAt x)) (usedAt (at x)) (againAt (midAt x)) (highAt x) (high-awake x (at-rests x) p);
       ran-begins = λ x z k p q. high-above x k (high-begins x z) p q;
       ran-none = λ x z k p q. high-above x k (high-none x z) (omega arith) q;
       over-ran = end-runs;
@@ -341,7 +451,7 @@ module _ (pol : Policy) (d : Description) (wf : WellFormed d) (ks : List Call) w
       used-next = λ x k o. at-step x .used k o;
       next-kept = pend-kept;
       next-from = pend-from;
-      next-live = λ x k e l. live-on (awakeAt (at (suc x))) (usedAt (at (suc x))) k (at-step x .awake k (link-some (highAt x) k l) ∙ after-fires (awakeAt (midAt x) k) (endAt x) (eqb k (highAt x)) (linked d (highAt x) k) e l);
+      next-live = λ x k e l. live-pending (usedAt (at (suc x))) (pendAt (suc x)) k (pend-fired x k (link-some (highAt x) k l) e l);
       age-ready = ready;
       age-fired = λ x u p q e. rw (age-next x u p q, e) (omega arith);
       age-older = λ x u p q. rw (age-next x u p q) (older (getD (marksAt x) (u - 33) false) (spacingOf d 200 u) (ageAt (at x) (u - 33)));
@@ -351,6 +461,16 @@ module _ (pol : Policy) (d : Description) (wf : WellFormed d) (ks : List Call) w
         older : (b : Bool) (m a : ℕ) → min m (cond b 0 a + 1) ≤ suc a
         older true m a = omega arith
         older false m a = omega arith
+
+    -- an event is taken by the run begun next
+    pub latched : Latches schedule
+    unfolding schedule system
+    latched = record {
+      from-source = λ i j x p q l e. pend-arrived x i j (link-some i j l) p q e l;
+      from-task = λ i j x l e.
+          let h : highAt x ≡ i = eqb-true (highAt x) i (and-left (eqb (highAt x) i) _ e) in
+          pend-fired x j (link-some i j l) (and-right (eqb (highAt x) i) _ e) (rw h l);
+    }
 
     pub preempts : pol ≡ Preemptive → Preempts schedule
     unfolding schedule system

@@ -19,11 +19,11 @@ use Rattle.model.specs.declared.Outcome.the-variants.{Done}
 use Rattle.model.specs.declared.Refusal.the-variants.{ShortPage}
 use Rattle.model.specs.Basics.{upTo, tab, allN, anyN}
 use Rattle.model.specs.Delays.{spacingOf}
-use Rattle.model.specs.Graph.{runOf}
+use Rattle.model.specs.Graph.{linkAt, runOf}
 use Rattle.model.specs.Refusals.{onDone}
 use Rattle.model.specs.File.{SameTo, Widths, filledBy, judge}
 use Rattle.model.specs.Verdicts.{onKnob, judgeAt}
-use Rattle.model.specs.Machine.{awakeAt, usedAt, waitingAt, ageAt, fastestAt, setAwake, setUsed, setWaiting, setAge, markDropped, idle, unstarted, started, taskRule, linkRule, sourceRule, rulesKept, lawful, fireLink, fire, arriveOne, arrive, highestIn, choose, runTask, clearLink, clearInto, endRun, ageOne, ageAll, keep, stepped, strangers, tooSoon, judgeTick, plainTick}
+use Rattle.model.specs.Machine.{awakeAt, usedAt, waitingAt, ageAt, fastestAt, againAt, lateAt, setAwake, setWaiting, setAge, setAgain, setLate, markDropped, complete, idle, unstarted, started, taskRule, linkRule, sourceRule, lateRule, rulesKept, lawful, fireLink, fire, arriveOne, arrive, highestIn, choose, runTask, clearLink, clearInto, endRun, ageOne, ageAll, keep, stepped, strangers, tooSoon, judgeTick, plainTick}
 use Rattle.model.specs.History.{Call, plainCall, answers, left}
 use Rattle.model.specs.Run.{codes, page, ranFrom, ran, pageRan}
 use Rattle.lemmas.proofs.Range.{any-cong, all-cong, upTo-alike}
@@ -42,7 +42,7 @@ module _ (d e : Description) (s : SameTo d e) where
   same-idle : idle d ≡ idle e
   unfolding idle
   same-idle =
-      ap (λ (l : List ℕ). record { awake = replicate 32 false; used = replicate 32 0; waiting = replicate 256 false; dropped = replicate 256 false; ages = l; fastest = replicate 16 0 })
+      ap (λ (l : List ℕ). record { awake = replicate 32 false; used = replicate 32 0; waiting = replicate 256 false; dropped = replicate 256 false; ages = l; fastest = replicate 16 0; again = replicate 32 false; late = replicate 256 false })
       (tab-cong 16 _ _ (λ u h. cond-same (ltb u (d .«source_count»)) (ltb u (e .«source_count»)) _ _ 0 0 (ap (ltb u) (s .sources)) (gap-same 200 u) (λ p. refl)))
 
   pub same-started : started d ≡ started e
@@ -53,7 +53,7 @@ module _ (d e : Description) (s : SameTo d e) where
   -- the rules
   pub same-lawful : (pol : Policy) (m : Machine) → lawful pol d m ≡ lawful pol e m
   unfolding lawful rulesKept
-  same-lawful pol m = rw (tasks, links, sources)
+  same-lawful pol m = rw (tasks, links, sources, lates)
     where
       tasks : allN (taskRule d m) 1 32 ≡ allN (taskRule e m) 1 32
       tasks = all-cong _ _ 1 32 (λ k p q.
@@ -72,6 +72,16 @@ module _ (d e : Description) (s : SameTo d e) where
           cond-same (ltb u (d .«source_count»)) (ltb u (e .«source_count»)) _ _ _ _ (ap (ltb u) (s .sources))
           (λ b. ap (λ (g : ℕ). leb (ageAt m u) g && cond (eqb (fastestAt m u) 0) (eqb (ageAt m u) g) (onKnob (fastestAt m u))) (gap-same 200 u b))
           (λ b. refl))
+
+      lates : allN (lateRule d m) 0 256 ≡ allN (lateRule e m) 0 256
+      lates = all-cong _ _ 0 256 (λ l p q. ap (λ (b : Bool). not (lateAt m l) || b) (here l))
+        where
+          here : (l : ℕ) → (ltb l (d .«link_count») && (waitingAt m l && againAt m (linkAt d l .to))) ≡ (ltb l (e .«link_count») && (waitingAt m l && againAt m (linkAt e l .to)))
+          here l = go (ltb l (d .«link_count»)) refl
+            where
+              go : (b : Bool) → ltb l (d .«link_count») ≡ b → (ltb l (d .«link_count») && (waitingAt m l && againAt m (linkAt d l .to))) ≡ (ltb l (e .«link_count») && (waitingAt m l && againAt m (linkAt e l .to)))
+              go true b = rw (← s .links, b) (ap (λ (x : Link). waitingAt m l && againAt m (x .to)) (s .link l (ltb-true l (d .«link_count») b)))
+              go false b = rw (← s .links, b) refl
 
   -- the refusals of a tick
   same-strangers : (marks : List Bool) → strangers d marks ≡ strangers e marks
@@ -93,7 +103,7 @@ module _ (d e : Description) (s : SameTo d e) where
   unfolding fire fireLink
   same-fire x m =
       upTo-alike (d .«link_count») (fireLink d x) (fireLink e x) m
-      (λ l h y. ap (λ (k : Link). cond (eqb (k .from) x) (setAwake (k .to) true (setWaiting l true (markDropped l y))) y) (s .link l h))
+      (λ l h y. ap (λ (k : Link). cond (eqb (k .from) x) (setAwake (k .to) true (setWaiting l true (markDropped l (cond (ltb 0 (usedAt y (k .to))) (setAgain (k .to) true (setLate l true y)) y)))) y) (s .link l h))
       ∙ ap (λ (n : ℕ). upTo n (fireLink e x) m) (s .links)
 
   same-arrive : (marks : List Bool) (m : Machine) → arrive d marks m ≡ arrive e marks m
@@ -107,14 +117,14 @@ module _ (d e : Description) (s : SameTo d e) where
   unfolding clearInto clearLink
   same-clear h m =
       upTo-alike (d .«link_count») (clearLink d h) (clearLink e h) m
-      (λ l p y. ap (λ (k : Link). cond (eqb (k .to) h) (setWaiting l false y) y) (s .link l p))
+      (λ l p y. ap (λ (k : Link). cond (eqb (k .to) h) (setLate l false (setWaiting l (lateAt y l) y)) y) (s .link l p))
       ∙ ap (λ (n : ℕ). upTo n (clearLink e h) m) (s .links)
 
   same-end : (h : ℕ) (finish : Bool) (m : Machine) → h - 1 < d .«task_count» → endRun d h finish m ≡ endRun e h finish m
   unfolding endRun
   same-end h finish m p =
-      ap (λ (r : ℕ). cond (not (eqb h 0) && (eqb (usedAt m h) r || finish)) (fire d h (clearInto d h (setUsed h 0 (setAwake h false m)))) m) (same-run d e s h p)
-      ∙ ap (λ (x : Machine). cond (not (eqb h 0) && (eqb (usedAt m h) (runOf e h) || finish)) x m) (same-fire h (clearInto d h (setUsed h 0 (setAwake h false m))) ∙ ap (fire e h) (same-clear h (setUsed h 0 (setAwake h false m))))
+      ap (λ (r : ℕ). cond (not (eqb h 0) && (eqb (usedAt m h) r || finish)) (fire d h (clearInto d h (complete h m))) m) (same-run d e s h p)
+      ∙ ap (λ (x : Machine). cond (not (eqb h 0) && (eqb (usedAt m h) (runOf e h) || finish)) x m) (same-fire h (clearInto d h (complete h m)) ∙ ap (fire e h) (same-clear h (complete h m)))
 
   same-age : (m : Machine) → ageAll d m ≡ ageAll e m
   unfolding ageAll ageOne

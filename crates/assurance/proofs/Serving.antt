@@ -6,28 +6,17 @@ use mathlib.Core.List.{List}
 use native.Mathlib.Omega.{arith}
 use lib.ListN.{length}
 use Rattle.model.specs.Graph.{System}
-use Rattle.model.specs.History.{Tick, fires, begins, ends, partDone, tickAt, endsWithin, ticksUntil, servedBefore, waitOf}
+use Rattle.model.specs.History.{Tick, fires, begins, ends, tickAt, endsWithin, ticksUntil, servedBefore, waitOf}
 use Rattle.lemmas.proofs.Tests.{Cmp, less, same, more, cmp, or-false, or-false-left, or-false-right, and-false-right}
 use Rattle.assurance.proofs.Schedule.{Schedule, beginsAt, endsAt}
-use Rattle.assurance.proofs.Events.{Unserved, new, later, Waits, Takes}
+use Rattle.assurance.proofs.Events.{Unserved, new, later, came, Waits, Takes}
 
--- no run of j ends in the stretch: nothing is served in it
-none-within : (h : List Tick) (j n : ℕ) (begun : Bool) (x : ℕ) → ((z : ℕ) → x ≤ z → z < x + n → ends (tickAt h z) j ≡ false) → endsWithin h j begun x n ≡ false
-unfolding endsWithin
-none-within h j zero begun x f = refl
-none-within h j (suc n) begun x f =
-    or-false ((begun || begins (tickAt h x) j) && ends (tickAt h x) j) _ (and-false-right (begun || begins (tickAt h x) j) _ (f x (omega arith) (omega arith))) (none-within h j n (begun || begins (tickAt h x) j) (suc x) (λ z a b. f z (omega arith) (omega arith)))
-
-pub served-not : (h : List Tick) (j x y : ℕ) → x ≤ y → ((z : ℕ) → x ≤ z → z < y → ends (tickAt h z) j ≡ false) → servedBefore h j x y ≡ false
-unfolding servedBefore
-served-not h j x y p f = none-within h j (y - x) (partDone (tickAt h x) j) x (λ z a b. f z a (omega arith))
-
--- a list of ticks shows a schedule
+-- a list of ticks shows a schedule, in which every event is taken by the run begun next
 pub record Shows (h : List Tick) {s : System} {gap : ℕ → ℕ} (S : Schedule s gap) (T : Takes S) : Type 0 where
   pub begins-is : (j x : ℕ) → x < length h → begins (tickAt h x) j ≡ beginsAt S j x
   pub ends-is : (j x : ℕ) → x < length h → ends (tickAt h x) j ≡ endsAt S j x
   pub arrives-is : (i x : ℕ) → 33 ≤ i → x < length h → fires (tickAt h x) i ≡ S .arr x i
-  pub taken-is : (j x : ℕ) → x < length h → T .taken j x ≡ partDone (tickAt h x) j
+  pub taken-is : (j x : ℕ) → T .taken j x ≡ false
 
 module _ (h : List Tick) {s : System} {gap : ℕ → ℕ} (S : Schedule s gap) (T : Takes S) (W : Shows h S T) (j : ℕ) {ev : ℕ → Bool} where
   -- one tick more
@@ -39,6 +28,18 @@ module _ (h : List Tick) {s : System} {gap : ℕ → ℕ} (S : Schedule s gap) (
   within zero {y = y} {z = z} {b = b} p q u e = let r : z ≡ y = omega arith in (b, rw r u)
   within (suc n) {y = y} {b = b} p q u e =
       within n (omega arith) q (more-unserved (omega arith) u (or-false-left ((b || begins (tickAt h y) j) && ends (tickAt h y) j) _ e)) (or-false-right ((b || begins (tickAt h y) j) && ends (tickAt h y) j) _ e)
+
+  -- and back: what is unserved goes on as it stands
+  on-within : (n : ℕ) {x y : ℕ} {b : Bool} → y ≤ length h → Unserved S j ev (T .taken j) x y b → endsWithin h j false x (y - x + n) ≡ endsWithin h j b y n
+  unfolding endsWithin
+  on-within n {x} p (new e) = let z : x - x + n ≡ n = omega arith in rw (z, W .taken-is j x) refl
+  on-within n {x} p (later {y = y} {b = b} u f) =
+      let z : suc y - x + n ≡ y - x + suc n = omega (arith, came S j u .1) in
+      rw z (on-within (suc n) (omega arith) u ∙ rw (endsWithin, W .begins-is j y (omega arith), W .ends-is j y (omega arith), f) refl)
+
+  pub unserved-not : {x y : ℕ} {b : Bool} → y ≤ length h → Unserved S j ev (T .taken j) x y b → servedBefore h j x y ≡ false
+  unfolding servedBefore endsWithin
+  unserved-not {x} {y} p u = let z : y - x + 0 ≡ y - x = omega arith in rw z at (on-within 0 p u)
 
   -- a wait is at most a D that no unserved stretch reaches
   until-le : (n : ℕ) {x y : ℕ} {b : Bool} (D : ℕ) → y + n ≤ length h → Unserved S j ev (T .taken j) x y b → ((z : ℕ) (c : Bool) → z ≤ y + n → y ≤ z → Unserved S j ev (T .taken j) x z c → z < y + D) → ticksUntil h j b y n ≤ D
@@ -56,9 +57,9 @@ module _ (h : List Tick) {s : System} {gap : ℕ → ℕ} (S : Schedule s gap) (
           (omega (arith, some, ih (more-unserved (omega arith) u e) (λ z c a r v. omega (arith, some, f z c (omega arith) (omega arith) v))))
 
   -- in History's words
-  module _ (x : ℕ) (here : x < length h) (came : ev x ≡ true) where
-    first : Unserved S j ev (T .taken j) x x (partDone (tickAt h x) j)
-    first = let u : Unserved S j ev (T .taken j) x x (T .taken j x) = new came in rw (W .taken-is j x here) at u
+  module _ (x : ℕ) (here : x < length h) (sent : ev x ≡ true) where
+    first : Unserved S j ev (T .taken j) x x false
+    first = let u : Unserved S j ev (T .taken j) x x (T .taken j x) = new sent in rw (W .taken-is j x) at u
 
     pub unserved-waits : (y : ℕ) → x < y → y ≤ length h → servedBefore h j x y ≡ false → Waits S j ev (T .taken j) y x
     unfolding servedBefore

@@ -19,18 +19,18 @@ use Rattle.model.specs.Graph.{system, linkAt, linked}
 use Rattle.model.specs.Delays.{Settled, unchanged, reached, delayOf, roundOf, tailOf, spacingOf}
 use Rattle.model.specs.Order.{inOrder, InOrder}
 use Rattle.model.specs.Verdicts.{settledVerdict, sourceVerdict, orderVerdict, verdictOf, verdictAt, doubtful, delayIn, allHeld}
-use Rattle.model.specs.Machine.{idle, droppedAt, usedAt}
-use Rattle.model.specs.History.{Call, Tick, plainCall, answers, left, observe, ticks, fires, begins, ends, partDone, tickAt, Dropped, waitOf}
+use Rattle.model.specs.Machine.{idle, waitingAt, droppedAt, lateAt, usedAt}
+use Rattle.model.specs.History.{Call, Tick, plainCall, answers, left, observe, ticks, fires, begins, ends, tickAt, Dropped, waitOf}
 use Rattle.model.specs.Promise.{Calls, none, call, UpTo, Assured}
 use Rattle.lemmas.proofs.Tests.{not-both}
 use Rattle.lemmas.proofs.Range.{all-at}
 use Rattle.theory.proofs.WellFormed.{WellFormed, Loaded, Shaped, IsTask}
 use Rattle.assurance.proofs.Schedule.{Schedule, Obeys}
-use Rattle.assurance.proofs.Events.{came, Takes, no-end, joins}
+use Rattle.assurance.proofs.Events.{Waits, came, Takes, latches}
 use Rattle.assurance.proofs.Replay.{callAt, taken, Replayed, replayed}
-use Rattle.assurance.proofs.Machine.{Spaced, at, highAt, endAt, schedule, obeys, schedule-arr, schedule-begins, schedule-ends, schedule-used}
-use Rattle.assurance.proofs.Marks.{Drop, dropped-drop, drop-dropped, firesIn, endsIn, link-here, kind, link-marked}
-use Rattle.assurance.proofs.Serving.{Shows, served-not}
+use Rattle.assurance.proofs.Machine.{Spaced, at, highAt, endAt, schedule, obeys, latched, schedule-arr, schedule-begins, schedule-ends}
+use Rattle.assurance.proofs.Marks.{Marked, never, Drop, dropped-drop, drop-dropped, firesIn, endsIn, link-here, kind, link-marked}
+use Rattle.assurance.proofs.Serving.{Shows, unserved-not}
 use Rattle.assurance.proofs.Links.{dropped-waits, source-not-dropped, source-waits, task-not-dropped}
 
 -- what is known of an accepted description d with the quote q
@@ -107,15 +107,16 @@ module _ (pol : Policy) (d : Description) (q : ℕ) (F : Facts pol d q) (cs : Li
 
   -- the list shows the schedule
   takes : Takes S
-  takes = joins S (F .loaded) (F .shaped)
+  unfolding S
+  takes = latches S (F .loaded) (latched pol d wf ks q gap (F .spaced) (R .passed) slow)
 
   shows : Shows hist S takes
-  unfolding S takes joins observe
+  unfolding S takes latches observe
   shows = record {
     begins-is = λ j x p. ap (λ (k : Tick). begins k j) (shown x p) ∙ (began j x (eqb (highAt pol d wf ks x) j) refl ∙ sym (schedule-begins pol d wf ks q gap (F .spaced) (R .passed) slow j x));
     ends-is = λ j x p. ends-is x j p ∙ sym (schedule-ends pol d wf ks q gap (F .spaced) (R .passed) slow j x);
     arrives-is = λ i x s p. fires-is x i p ∙ (ap (λ (b : Bool). cond b (eqb (highAt pol d wf ks x) i && endAt pol d wf ks x) (getD (callAt ks x .arrivals .marks) (i - 33) false)) (le-ltb i 33 s) ∙ sym (schedule-arr pol d wf ks q gap (F .spaced) (R .passed) slow x i));
-    taken-is = λ j x p. ap (λ (n : ℕ). ltb 0 n) (schedule-used pol d wf ks q gap (F .spaced) (R .passed) slow x j) ∙ sym (ap (λ (k : Tick). partDone k j) (shown x p));
+    taken-is = λ j x. refl;
   }
     where
       began : (j x : ℕ) (b : Bool) → eqb (highAt pol d wf ks x) j ≡ b → (eqb (highAt pol d wf ks x) j && eqb (usedAt (at pol d wf ks x) (highAt pol d wf ks x)) 0) ≡ (eqb (highAt pol d wf ks x) j && eqb (usedAt (at pol d wf ks x) j) 0)
@@ -135,27 +136,31 @@ module _ (pol : Policy) (d : Description) (q : ℕ) (F : Facts pol d q) (cs : Li
     isTask = wf .fields .link-to l p .0
 
     -- the dropped mark is set exactly as the events say
+    marks : Marked S j (firesIn pol d wf (F .loaded) ks i) (λ x. waitingAt (at pol d wf ks x) l) (λ x. lateAt (at pol d wf ks x) l) (λ x. droppedAt (at pol d wf ks x) l)
+    unfolding S
+    marks = link-marked pol d wf (F .loaded) ks l p q gap (F .spaced) (R .passed) slow
+
     marked-drop : droppedAt (at pol d wf ks (length hist)) l ≡ true → Dropped hist i j
+    unfolding takes latches
     marked-drop e =
-        let k : Drop (firesIn pol d wf (F .loaded) ks i) (endsIn pol d wf (F .loaded) ks j) (length hist) = dropped-drop (link-marked pol d wf (F .loaded) ks l p) (length hist) e in
+        let k : Drop S j isTask marks (length hist) = dropped-drop S j isTask marks (length hist) e in
+        let w : Waits S j (firesIn pol d wf (F .loaded) ks i) never (k .second) (k .since) = k .held .held in
         record {
           second = k .second;
           before = k .since;
-          earlier = k .held .before;
+          earlier = w .before;
           in-list = k .early;
           fired-second = fires-is (k .second) i (k .early) ∙ k .comes-second;
-          fired-before = fires-is (k .since) i (omega (arith, k .held .before, k .early)) ∙ k .held .came;
+          fired-before = fires-is (k .since) i (omega (arith, w .before, k .early)) ∙ came S j (w .unserved) .0;
           none-between = λ x a b. fires-is x i (omega (arith, k .early)) ∙ k .held .last x a b;
-          not-served = served-not hist j (k .since) (k .second) (omega (arith, k .held .before)) (λ z a b. ends-is z j (omega (arith, k .early)) ∙ k .held .unserved z a b);
+          not-served = unserved-not hist S takes shows j (omega (arith, k .early)) (w .unserved);
         }
 
     drop-marked : Dropped hist i j → droppedAt (at pol d wf ks (length hist)) l ≡ true
-    unfolding takes joins
+    unfolding takes latches
     drop-marked k =
         let w = dropped-waits hist S takes shows i j {ev = firesIn pol d wf (F .loaded) ks i} (λ x r. fires-is x i r) k in
-        let e : firesIn pol d wf (F .loaded) ks i (k .before) ≡ true = came S j (w .0 .unserved) .0 in
-        drop-dropped (link-marked pol d wf (F .loaded) ks l p) (length hist) (k .second) (k .before) (k .in-list) (k .earlier) (w .1) e
-        (λ z a b. sym (ends-is z j (omega (arith, k .in-list))) ∙ (shows .ends-is j z (omega (arith, k .in-list)) ∙ no-end S j isTask (w .0 .unserved) z a b))
+        drop-dropped S j isTask marks (length hist) (k .second) (k .before) (k .in-list) (w .0) (w .1)
 
     linked-here : system d .link i j ≡ true
     unfolding system

@@ -19,7 +19,7 @@ use Rattle.model.specs.Basics.{allN}
 use Rattle.model.specs.Graph.{system, linkAt, linked, runOf}
 use Rattle.model.specs.Delays.{spacingOf}
 use Rattle.model.specs.Verdicts.{onKnob, judgeAt}
-use Rattle.model.specs.Machine.{awakeAt, usedAt, waitingAt, droppedAt, ageAt, fastestAt, longestGap, idle, arrive, taskRule, linkRule, sourceRule, rulesKept, partsDone, aloneRule, lawful, keptAfter, strangers, tooSoon, judgeTick}
+use Rattle.model.specs.Machine.{awakeAt, usedAt, waitingAt, droppedAt, ageAt, fastestAt, againAt, lateAt, longestGap, idle, arrive, taskRule, linkRule, sourceRule, againRule, lateRule, rulesKept, partsDone, aloneRule, lawful, keptAfter, strangers, tooSoon, judgeTick}
 use Rattle.model.specs.History.{Call, left}
 use Rattle.lemmas.proofs.Tests.{Cmp, less, same, more, cmp, not-both, false-of, and-left, and-right, both, or-left, or-right, or-false, or-cases}
 use Rattle.lemmas.proofs.Range.{any-at, any-none, none-any, all-of, at-most-one}
@@ -30,10 +30,13 @@ use Rattle.theory.proofs.FileLaws.{knob-known}
 use Rattle.theory.proofs.LoadLaws.{loaded}
 use Rattle.theory.proofs.Spacing.{gap-anti, gap-some}
 use Rattle.assurance.proofs.Arriving.{Arrived, arrived}
-use Rattle.assurance.proofs.Stepping.{after-stays, after-fires, after-wakes}
+use Rattle.assurance.proofs.Stepping.{after-wakes}
 use Rattle.assurance.proofs.Replay.{stateAt, Passed, taken, Replayed, replayed}
-use Rattle.assurance.proofs.Machine.{Spaced, at, tempoAt, marksAt, highAt, endAt, at-sized, at-step, at-rests, alone, at-below, marked-in, tempo-low}
-use Rattle.assurance.proofs.Marks.{firesIn, endsIn, link-here, kind, waiting-next, waiting-first}
+use Rattle.assurance.proofs.Potential.{live}
+use Rattle.assurance.proofs.Schedule.{Schedule, beginsAt, endsAt}
+use Rattle.assurance.proofs.Events.{Held, held-live, held-tick, waits-held, Takes, latches}
+use Rattle.assurance.proofs.Machine.{Spaced, at, tempoAt, marksAt, highAt, endAt, pendAt, at-sized, at-step, high-low, at-rests, at-again, live-awake, part-again, alone, at-below, marked-in, tempo-low, latched, schedule, schedule-arr, schedule-ends, schedule-used, schedule-pending}
+use Rattle.assurance.proofs.Marks.{Marked, waiting-open, late-waits, late-part, firesIn, link-here, kind, link-marked}
 
 module _ (pol : Policy) (d : Description) (wf : WellFormed d) (L : Loaded (system d)) (G : Shaped (system d)) where
   gaps : Spaced d 3000 (spacingOf d 3000)
@@ -68,52 +71,82 @@ module _ (pol : Policy) (d : Description) (wf : WellFormed d) (L : Loaded (syste
 
         next : awakeAt (st x) k ≡ false → awakeAt (st (suc x)) k ≡ false
         next e =
-            at-step pol d wf ks x .awake k o ∙ false-of _ (λ y. woken (after-wakes (awakeAt (arrive d (marksAt pol d wf ks x) (st x)) k) (endAt pol d wf ks x) (eqb k (highAt pol d wf ks x)) (linked d (highAt pol d wf ks x) k) y))
+            at-step pol d wf ks x .awake k o ∙ false-of _ (λ y. woken (after-wakes (awakeAt (arrive d (marksAt pol d wf ks x) (st x)) k) (againAt (arrive d (marksAt pol d wf ks x) (st x)) k) (endAt pol d wf ks x) (eqb k (highAt pol d wf ks x)) (linked d (highAt pol d wf ks x) k) y))
           where
-            woken : ((awakeAt (arrive d (marksAt pol d wf ks x) (st x)) k ≡ true) × (endAt pol d wf ks x ≡ true → eqb k (highAt pol d wf ks x) ≡ false)) ⊎ ((endAt pol d wf ks x ≡ true) × (linked d (highAt pol d wf ks x) k ≡ true)) → ⊥
+            woken : ((awakeAt (arrive d (marksAt pol d wf ks x) (st x)) k ≡ true) × (endAt pol d wf ks x ≡ true → eqb k (highAt pol d wf ks x) ≡ false)) ⊎ (((againAt (arrive d (marksAt pol d wf ks x) (st x)) k ≡ true) × (endAt pol d wf ks x ≡ true) × (eqb k (highAt pol d wf ks x) ≡ true)) ⊎ ((endAt pol d wf ks x ≡ true) × (linked d (highAt pol d wf ks x) k ≡ true))) → ⊥
             woken (inl w) = not-both (w .0) (mid e)
-            woken (inr w) = not-both (w .1) (no-link (highAt pol d wf ks x) k p)
+            woken (inr (inl w)) = omega (arith, eqb-true k (highAt pol d wf ks x) (w .2), high-low pol d wf ks x)
+            woken (inr (inr w)) = not-both (w .1) (no-link (highAt pol d wf ks x) k p)
 
-    -- a waiting link's task is awake
-    waiting-awake : (l : ℕ) → l < d .«link_count» → (x : ℕ) → waitingAt (st x) l ≡ true → awakeAt (st x) (linkAt d l .to) ≡ true
-    waiting-awake l p zero e = absurd (not-both e (waiting-first pol d wf L ks l p))
-    waiting-awake l p (suc x) e = go (waiting-awake l p x)
-      where
-        o : 1 ≤ linkAt d l .to
-        o = wf .fields .link-to l p .0
+    on-knob : (x : ℕ) → x < length ks → (200 ≤ tempoAt pol d wf ks x) × (tempoAt pol d wf ks x ≤ 3000)
+    on-knob x h = let k = knob-known d (tempoAt pol d wf ks x) (passed x h .judged) in (k .1, k .2)
 
-        on : ((waitingAt (st x) l || firesIn pol d wf L ks (linkAt d l .from) x) && not (endsIn pol d wf L ks (linkAt d l .to) x)) ≡ true
-        on = sym (waiting-next pol d wf L ks l p x) ∙ e
+    S : Schedule (system d) (spacingOf d 3000)
+    S = schedule pol d wf ks 3000 (spacingOf d 3000) gaps passed (λ y h. on-knob y h .1)
 
-        off : (eqb (highAt pol d wf ks x) (linkAt d l .to) && endAt pol d wf ks x) ≡ false
-        off = not-true _ (and-right (waitingAt (st x) l || firesIn pol d wf L ks (linkAt d l .from) x) _ on)
+    T : Takes S
+    unfolding S
+    T = latches S L (latched pol d wf ks 3000 (spacingOf d 3000) gaps passed (λ y h. on-knob y h .1))
 
-        stays : awakeAt (arrive d (marksAt pol d wf ks x) (st x)) (linkAt d l .to) ≡ true → awakeAt (st (suc x)) (linkAt d l .to) ≡ true
-        stays m =
-            at-step pol d wf ks x .awake (linkAt d l .to) o ∙ after-stays (awakeAt (arrive d (marksAt pol d wf ks x) (st x)) (linkAt d l .to)) (endAt pol d wf ks x) (eqb (linkAt d l .to) (highAt pol d wf ks x)) (linked d (highAt pol d wf ks x) (linkAt d l .to)) m (λ a b. not-both (both (eqb (highAt pol d wf ks x) (linkAt d l .to)) (endAt pol d wf ks x) (eq-eqb (highAt pol d wf ks x) (linkAt d l .to) (sym (eqb-true (linkAt d l .to) (highAt pol d wf ks x) b))) a) off)
+    live-at : (x k : ℕ) → live (S .used x) (S .pending x) k ≡ live (usedAt (st x)) (pendAt pol d wf ks x) k
+    unfolding S
+    live-at x k =
+        rw (schedule-used pol d wf ks 3000 (spacingOf d 3000) gaps passed (λ y h. on-knob y h .1) x k, schedule-pending pol d wf ks 3000 (spacingOf d 3000) gaps passed (λ y h. on-knob y h .1) x k) refl
 
-        fresh : (linkAt d l .from ≤ 32) ⊎ ((33 ≤ linkAt d l .from) × (linkAt d l .from < 33 + d .«source_count»)) → firesIn pol d wf L ks (linkAt d l .from) x ≡ true → awakeAt (st (suc x)) (linkAt d l .to) ≡ true
-        fresh (inl q) f =
-            let g : (eqb (highAt pol d wf ks x) (linkAt d l .from) && endAt pol d wf ks x) ≡ true = rw (lt-ltb (linkAt d l .from) 33 (omega arith)) at f in
-            let h : highAt pol d wf ks x ≡ linkAt d l .from = eqb-true (highAt pol d wf ks x) (linkAt d l .from) (and-left (eqb (highAt pol d wf ks x) (linkAt d l .from)) _ g) in
-            at-step pol d wf ks x .awake (linkAt d l .to) o ∙ after-fires (awakeAt (arrive d (marksAt pol d wf ks x) (st x)) (linkAt d l .to)) (endAt pol d wf ks x) (eqb (linkAt d l .to) (highAt pol d wf ks x)) (linked d (highAt pol d wf ks x) (linkAt d l .to)) (and-right (eqb (highAt pol d wf ks x) (linkAt d l .from)) _ g) (ap (λ (k : ℕ). linked d k (linkAt d l .to)) h ∙ link-here pol d wf L ks l p)
-        fresh (inr q) f =
-            let g : getD (marksAt pol d wf ks x) (linkAt d l .from - 33) false ≡ true = rw (le-ltb (linkAt d l .from) 33 (q .0)) at f in
-            stays (arrivals x .awake (linkAt d l .to) o ∙ or-right (awakeAt (st x) (linkAt d l .to)) _ (any-at _ 33 (d .«source_count») (linkAt d l .from) (q .0) (q .1) (both (getD (marksAt pol d wf ks x) (linkAt d l .from - 33) false) _ g (link-here pol d wf L ks l p))))
+    -- the run that takes the last event of a waiting link is in progress or pending
+    module _ (l : ℕ) (p : l < d .«link_count») where
+      abbrev from : ℕ
+      from = linkAt d l .from
 
-        go : (waitingAt (st x) l ≡ true → awakeAt (st x) (linkAt d l .to) ≡ true) → awakeAt (st (suc x)) (linkAt d l .to) ≡ true
-        go ih =
-            or-cases (waitingAt (st x) l) (firesIn pol d wf L ks (linkAt d l .from) x) (and-left _ _ on)
-            (λ w. stays (arrivals x .awake (linkAt d l .to) o ∙ or-left (awakeAt (st x) (linkAt d l .to)) _ (ih w)))
-            (fresh (kind pol d wf L ks l p))
+      abbrev to : ℕ
+      to = linkAt d l .to
+
+      isTask : 1 ≤ to
+      isTask = wf .fields .link-to l p .0
+
+      marks : Marked S to (firesIn pol d wf L ks from) (λ x. waitingAt (st x) l) (λ x. lateAt (st x) l) (λ x. droppedAt (st x) l)
+      unfolding S
+      marks = link-marked pol d wf L ks l p 3000 (spacingOf d 3000) gaps passed (λ y h. on-knob y h .1)
+
+      enters : (x : ℕ) → firesIn pol d wf L ks from x ≡ true → (beginsAt S to x && endsAt S to x) ≡ false → Held (S .used (suc x)) (S .pending (suc x)) to (beginsAt S to x)
+      unfolding S T latches system
+      enters x e f = go (kind pol d wf L ks l p)
+        where
+          go : (from ≤ 32) ⊎ ((33 ≤ from) × (from < 33 + d .«source_count»)) → Held (S .used (suc x)) (S .pending (suc x)) to (beginsAt S to x)
+          go (inl q) =
+              T .from-task from to x (link-here pol d wf L ks l p) (schedule-ends pol d wf ks 3000 (spacingOf d 3000) gaps passed (λ y h. on-knob y h .1) from x ∙ rw (lt-ltb from 33 (omega arith)) at e)
+          go (inr q) =
+              held-tick S to isTask x false (T .from-source from to x (q .0) (q .1) (link-here pol d wf L ks l p) (schedule-arr pol d wf ks 3000 (spacingOf d 3000) gaps passed (λ y h. on-knob y h .1) x from ∙ rw (le-ltb from 33 (q .0)) at e)) f
+
+      waiting-held : (x : ℕ) → waitingAt (st x) l ≡ true → (b : Bool) × (Held (S .used x) (S .pending x) to b) × (lateAt (st x) l ≡ true → b ≡ false)
+      waiting-held x e =
+          let (z, o) = waiting-open S to isTask marks x e in
+          (o .held .begun, waits-held S to isTask enters x z (o .held), o .unbegun)
+
+      -- so its task is awake, and if the link is late it is marked again
+      waiting-awake : (x : ℕ) → waitingAt (st x) l ≡ true → awakeAt (st x) to ≡ true
+      waiting-awake x e =
+          let (b, h, u) = waiting-held x e in
+          live-awake pol d wf ks x to isTask (sym (live-at x to) ∙ held-live (S .used x) (S .pending x) to b h)
+
+      late-waiting : (x : ℕ) → lateAt (st x) l ≡ true → waitingAt (st x) l ≡ true
+      late-waiting x e = late-waits S to isTask marks x e
+
+      late-again : (x : ℕ) → lateAt (st x) l ≡ true → againAt (st x) to ≡ true
+      unfolding S
+      late-again x e =
+          let (b, h, u) = waiting-held x (late-waiting x e) in
+          let w : S .pending x to ≡ true = h .waits (u e) in
+          part-again pol d wf ks x to (sym (schedule-pending pol d wf ks 3000 (spacingOf d 3000) gaps passed (λ y h. on-knob y h .1) x to) ∙ w)
+          (rw (schedule-used pol d wf ks 3000 (spacingOf d 3000) gaps passed (λ y h. on-knob y h .1) x to) at (late-part S to isTask marks x e))
 
     -- nothing is set for absent links
-    absent-clear : (l : ℕ) → d .«link_count» ≤ l → (x : ℕ) → (waitingAt (st x) l ≡ false) × (droppedAt (st x) l ≡ false)
+    absent-clear : (l : ℕ) → d .«link_count» ≤ l → (x : ℕ) → (waitingAt (st x) l ≡ false) × (droppedAt (st x) l ≡ false) × (lateAt (st x) l ≡ false)
     unfolding stateAt idle
-    absent-clear l p zero = (getD-same 256 l false, getD-same 256 l false)
+    absent-clear l p zero = (getD-same 256 l false, getD-same 256 l false, getD-same 256 l false)
     absent-clear l p (suc x) =
         let ih = absent-clear l p x in
-        (at-step pol d wf ks x .past l p .0 ∙ ih .0, at-step pol d wf ks x .past l p .1 ∙ ih .1)
+        (at-step pol d wf ks x .past l p .0 ∙ ih .0, at-step pol d wf ks x .past l p .1 ∙ ih .1, at-step pol d wf ks x .past l p .2 ∙ ih .2)
 
     -- ages do not exceed spacings for 20.0, and are 0 for absent sources
     age-first : (u : ℕ) → u < 16 → ageAt (st 0) u ≡ cond (ltb u (d .«source_count»)) (longestGap d u) 0
@@ -131,9 +164,6 @@ module _ (pol : Policy) (d : Description) (wf : WellFormed d) (L : Loaded (syste
     age-none u q p (suc x) = at-step pol d wf ks x .age-past u p ∙ age-none u q p x
 
     -- a source keeps a tempo of the knob, or none and the age of the start; an absent one keeps none
-    on-knob : (x : ℕ) → x < length ks → (200 ≤ tempoAt pol d wf ks x) × (tempoAt pol d wf ks x ≤ 3000)
-    on-knob x h = let k = knob-known d (tempoAt pol d wf ks x) (passed x h .judged) in (k .1, k .2)
-
     tempo-most : (x : ℕ) → tempoAt pol d wf ks x ≤ 3000
     tempo-most = tempo-low pol d wf ks 3000 (spacingOf d 3000) gaps passed (λ y h. on-knob y h .1)
 
@@ -223,11 +253,31 @@ module _ (pol : Policy) (d : Description) (wf : WellFormed d) (L : Loaded (syste
             let p : d .«source_count» ≤ u = ltb-false u (d .«source_count») e in
             rw e (both (eqb (ageAt (st x) u) 0) _ (eq-eqb (ageAt (st x) u) 0 (age-none u q p x)) (eq-eqb (fastestAt (st x) u) 0 (kept-none u q p x)))
 
+    again-kept : (x k : ℕ) → 1 ≤ k → againRule (st x) k ≡ true
+    again-kept x k o = go (againAt (st x) k) refl
+      where
+        go : (b : Bool) → againAt (st x) k ≡ b → againRule (st x) k ≡ true
+        go true e =
+            or-right (not (againAt (st x) k)) _ (lt-ltb 0 (usedAt (st x) k) (at-again pol d wf ks x k o e))
+        go false e = rw e refl
+
+    late-kept : (x l : ℕ) → lateRule d (st x) l ≡ true
+    late-kept x l = go (lateAt (st x) l) refl (ltb l (d .«link_count»)) refl
+      where
+        go : (b : Bool) → lateAt (st x) l ≡ b → (c : Bool) → ltb l (d .«link_count») ≡ c → lateRule d (st x) l ≡ true
+        go false e c f = rw e refl
+        go true e true f =
+            let p : l < d .«link_count» = ltb-true l (d .«link_count») f in
+            or-right (not (lateAt (st x) l)) _ (both (ltb l (d .«link_count»)) _ f (both (waitingAt (st x) l) _ (late-waiting l p x e) (late-again l p x e)))
+        go true e false f = absurd (not-both e (absent-clear l (ltb-false l (d .«link_count») f) x .2))
+
     kept-at : (x : ℕ) → rulesKept d (st x) ≡ true
     unfolding rulesKept
     kept-at x =
         both (allN (taskRule d (st x)) 1 32) _ (all-of _ 1 32 (λ k a b. task-kept x k a))
-        (both (allN (linkRule d (st x)) 0 256) _ (all-of _ 0 256 (λ l a b. link-kept x l)) (all-of _ 0 16 (λ u a b. source-kept x u b)))
+        (both (allN (linkRule d (st x)) 0 256) _ (all-of _ 0 256 (λ l a b. link-kept x l))
+        (both (allN (sourceRule d (st x)) 0 16) _ (all-of _ 0 16 (λ u a b. source-kept x u b))
+        (both (allN (againRule (st x)) 1 32) _ (all-of _ 1 32 (λ k a b. again-kept x k a)) (all-of _ 0 256 (λ l a b. late-kept x l)))))
 
     -- on the hold-on model at most one task is part done
     part-here : (x k : ℕ) → 1 ≤ k → ltb 0 (usedAt (st x) k) ≡ true → (k ≤ d .«task_count») × (0 < usedAt (st x) k)

@@ -133,7 +133,7 @@ module _ (pol : Policy) (d : Description) (wf : WellFormed d) (ks : List Call) w
   again-is : (x k : ℕ) → 1 ≤ k → againAt (midAt x) k ≡ (againAt (at x) k || (calledAt x k && ltb 0 (usedAt (at x) k)))
   again-is x k o = arrived d wf (marksAt x) (at x) (at-sized x) .again k o
 
-  pub again-keeps : (x k : ℕ) → 1 ≤ k → againAt (at x) k ≡ true → againAt (midAt x) k ≡ true
+  again-keeps : (x k : ℕ) → 1 ≤ k → againAt (at x) k ≡ true → againAt (midAt x) k ≡ true
   again-keeps x k o e = again-is x k o ∙ or-left (againAt (at x) k) _ e
 
   -- arrivals leave what is used as it was
@@ -214,6 +214,17 @@ module _ (pol : Policy) (d : Description) (wf : WellFormed d) (ks : List Call) w
 
   abbrev pub pendMid : ℕ → ℕ → Bool
   pendMid x = pend (awakeAt (midAt x)) (usedAt (at x)) (againAt (midAt x))
+
+  -- who is live is awake
+  pub live-awake : (x k : ℕ) → 1 ≤ k → live (usedAt (at x)) (pendAt x) k ≡ true → awakeAt (at x) k ≡ true
+  live-awake x k o e = true-of (awakeAt (at x) k) (λ f.
+      let z : usedAt (at x) k ≡ 0 = at-rests x k o f in
+      let g : againAt (at x) k ≡ false = false-of (againAt (at x) k) (λ y. omega (arith, at-again x k o y)) in
+      not-both e (rw (z, f, g) refl))
+
+  -- and of those that are part done, the pending ones are marked again
+  pub part-again : (x k : ℕ) → pendAt x k ≡ true → 0 < usedAt (at x) k → againAt (at x) k ≡ true
+  part-again x k e h = pend-cases (awakeAt (at x)) (usedAt (at x)) (againAt (at x)) k e (λ w z. absurd (omega arith)) (λ g. g)
 
   -- where none goes on, all above the task that runs sleep
   high-above : (x k : ℕ) → running pol d (midAt x) ≡ 0 → highAt x < k → k ≤ d .«task_count» → live (usedAt (at x)) (pendMid x) k ≡ false
@@ -311,13 +322,13 @@ module _ (pol : Policy) (d : Description) (wf : WellFormed d) (ks : List Call) w
           go (inr v) = inr (v .0, v .1)
 
   -- an event leaves its task awake, and again if it is part done: so it is pending, once the sources have fired, and after the tick
-  pub pend-arrived : (x u k : ℕ) → 1 ≤ k → 33 ≤ u → u < 33 + d .«source_count» → getD (marksAt x) (u - 33) false ≡ true → linked d u k ≡ true → pendMid x k ≡ true
+  pend-arrived : (x u k : ℕ) → 1 ≤ k → 33 ≤ u → u < 33 + d .«source_count» → getD (marksAt x) (u - 33) false ≡ true → linked d u k ≡ true → pendMid x k ≡ true
   pend-arrived x u k o p q e l =
       let w : calledAt x k ≡ true = any-at _ 33 (d .«source_count») u p q (both (getD (marksAt x) (u - 33) false) _ e l) in
       pend-woken (awakeAt (midAt x)) (usedAt (at x)) (againAt (midAt x)) k (mid-is x k o ∙ or-right (awakeAt (at x) k) _ w)
       (λ h. again-is x k o ∙ or-right (againAt (at x) k) _ (both (calledAt x k) _ w (lt-ltb 0 (usedAt (at x) k) h)))
 
-  pub pend-fired : (x k : ℕ) → 1 ≤ k → endAt x ≡ true → linked d (highAt x) k ≡ true → pendAt (suc x) k ≡ true
+  pend-fired : (x k : ℕ) → 1 ≤ k → endAt x ≡ true → linked d (highAt x) k ≡ true → pendAt (suc x) k ≡ true
   pend-fired x k o e l =
       pend-woken (awakeAt (at (suc x))) (usedAt (at (suc x))) (againAt (at (suc x))) k
       (at-step x .awake k o ∙ after-fires (awakeAt (midAt x) k) (againAt (midAt x) k) (endAt x) (eqb k (highAt x)) (linked d (highAt x) k) e l)
@@ -496,6 +507,10 @@ module _ (pol : Policy) (d : Description) (wf : WellFormed d) (ks : List Call) w
     pub schedule-used : (x k : ℕ) → schedule .used x k ≡ usedAt (at x) k
     unfolding schedule
     schedule-used x k = refl
+
+    pub schedule-pending : (x k : ℕ) → schedule .pending x k ≡ pendAt x k
+    unfolding schedule
+    schedule-pending x k = refl
 
     -- nobody has used a whole run
     pub at-below : Shaped (system d) → (x k : ℕ) → 1 ≤ k → k ≤ d .«task_count» → usedAt (at x) k < runOf d k

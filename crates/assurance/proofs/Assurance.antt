@@ -6,7 +6,7 @@ use mathlib.Core.List.{List, _∷_}
 use mathlib.Core.Logic.{_⊎_, inl, inr}
 use native.Mathlib.Omega.{arith}
 use lib.ListN.{length, getD}
-use lib.Dec.{ltb, eqb}
+use lib.Dec.{eqb}
 use borrow.Author.Tests.{eqb-true, lt-ltb, le-ltb}
 use Rattle.model.specs.declared.Description.{Description}
 use Rattle.model.specs.declared.Policy.{Policy}
@@ -144,7 +144,7 @@ module _ (pol : Policy) (d : Description) (q : ℕ) (F : Facts pol d q) (cs : Li
     unfolding takes latches
     marked-drop e =
         let k : Drop S j isTask marks (length hist) = dropped-drop S j isTask marks (length hist) e in
-        let w : Waits S j (firesIn pol d wf (F .loaded) ks i) never (k .second) (k .since) = k .held .held in
+        let w : Waits S j (firesIn pol d wf (F .loaded) ks i) never (k .second) (k .since) = k .unserved .held in
         record {
           second = k .second;
           before = k .since;
@@ -152,7 +152,7 @@ module _ (pol : Policy) (d : Description) (q : ℕ) (F : Facts pol d q) (cs : Li
           in-list = k .early;
           fired-second = fires-is (k .second) i (k .early) ∙ k .comes-second;
           fired-before = fires-is (k .since) i (omega (arith, w .before, k .early)) ∙ came S j (w .unserved) .0;
-          none-between = λ x a b. fires-is x i (omega (arith, k .early)) ∙ k .held .last x a b;
+          none-between = λ x a b. fires-is x i (omega (arith, k .early)) ∙ k .unserved .last x a b;
           not-served = unserved-not hist S takes shows j (omega (arith, k .early)) (w .unserved);
         }
 

@@ -4,14 +4,13 @@ use mathlib.Core.Path.{_≡_, refl, sym, _∙_}
 use mathlib.Core.Bool.{Bool, true, false, _||_, _&&_}
 use mathlib.Core.Logic.{_⊎_, inl, inr}
 use native.Mathlib.Omega.{arith}
-use lib.Dec.{ltb, eqb}
-use borrow.Author.Tests.{eq-eqb, eqb-true, ltb-true, ltb-false}
+use lib.Dec.{eqb}
+use borrow.Author.Tests.{eq-eqb, eqb-true}
 use Rattle.model.specs.Graph.{System}
-use Rattle.lemmas.proofs.Tests.{Cmp, less, same, more, cmp, at-or-not, not-both, false-of, or-new, or-false-left, or-false-right, both, and-left}
-use Rattle.lemmas.proofs.Bools.{or-off}
+use Rattle.lemmas.proofs.Tests.{Cmp, less, same, more, cmp, at-or-not, not-both, false-of, both, and-left}
 use Rattle.theory.proofs.WellFormed.{Loaded, Shaped}
 use Rattle.assurance.proofs.Potential.{live, live-used, live-pending}
-use Rattle.assurance.proofs.Schedule.{Schedule, liveMid, beginsAt, endsAt, ends-ran, ends-over, ends-of, used-other, used-on}
+use Rattle.assurance.proofs.Schedule.{Schedule, liveMid, beginsAt, endsAt, ends-ran, ends-of, used-other, used-on}
 
 -- the run of j that takes an event, by whether it has begun: it is in progress, or else it is pending
 pub record Held (us : ℕ → ℕ) (ps : ℕ → Bool) (j : ℕ) (begun : Bool) : Type 0 where

@@ -8,7 +8,7 @@ use mathlib.Core.Logic.{_⊎_, inl, inr}
 use native.Mathlib.Omega.{arith}
 use lib.ListN.{length, getD}
 use lib.Dec.{ltb, leb, eqb}
-use borrow.Author.Tests.{eqb-true, eq-eqb, ne-eqb, lt-ltb, le-ltb, le-leb, not-true, leb-true, leb-false, ltb-true, ltb-false}
+use borrow.Author.Tests.{eqb-true, eq-eqb, ne-eqb, lt-ltb, le-ltb, le-leb, leb-true, leb-false, ltb-true, ltb-false}
 use Rattle.model.specs.declared.Description.{Description}
 use Rattle.model.specs.declared.Policy.{Policy}
 use Rattle.model.specs.declared.Policy.the-variants.{Preemptive, HoldOn}
@@ -21,8 +21,8 @@ use Rattle.model.specs.Delays.{spacingOf}
 use Rattle.model.specs.Verdicts.{onKnob, judgeAt}
 use Rattle.model.specs.Machine.{awakeAt, usedAt, waitingAt, droppedAt, ageAt, fastestAt, againAt, lateAt, longestGap, idle, arrive, taskRule, linkRule, sourceRule, againRule, lateRule, rulesKept, partsDone, aloneRule, lawful, keptAfter, strangers, tooSoon, judgeTick}
 use Rattle.model.specs.History.{Call, left}
-use Rattle.lemmas.proofs.Tests.{Cmp, less, same, more, cmp, not-both, false-of, and-left, and-right, both, or-left, or-right, or-false, or-cases}
-use Rattle.lemmas.proofs.Range.{any-at, any-none, none-any, all-of, at-most-one}
+use Rattle.lemmas.proofs.Tests.{Cmp, less, same, more, cmp, not-both, false-of, and-right, both, or-left, or-right, or-false}
+use Rattle.lemmas.proofs.Range.{any-none, none-any, all-of, at-most-one}
 use Rattle.lemmas.proofs.Table.{getD-tab, getD-same}
 use Rattle.theory.proofs.WellFormed.{WellFormed, Loaded, Shaped}
 use Rattle.theory.proofs.Fielded.{shaped}

@@ -53,7 +53,7 @@ module _ {s : System} {gap : ℕ → ℕ} (S : Schedule s gap) (j : ℕ) (isTask
     pub early : second < n
     pub comes-second : ev second ≡ true
     pub since : ℕ
-    pub held : Open second since
+    pub unserved : Open second since
 
   -- the link is late once the events of tick y have come
   abbrev lateMid : ℕ → Bool
@@ -155,9 +155,11 @@ module _ {s : System} {gap : ℕ → ℕ} (S : Schedule s gap) (j : ℕ) (isTask
           (x, open-step y x o f (and-false-left (o .held .begun || beginsAt S j y) _ b) (λ k. b))
       go false f false q ih =
           let h : (wa y || ev y) ≡ true = rw q at on in
-          let (x, o) = ih (or-else (wa y) (ev y) f h) in
-          (x, open-step y x o f (and-false-right (o .held .begun || beginsAt S j y) _ q) (λ k.
-          or-false (o .held .begun) _ (o .unbegun (or-else (la y) _ (and-false-left (ev y) _ f) (late-on y k .0))) (goes (late-on y k .0))))
+          let (x, o) = ih (or-else (wa y) (ev y) f h) in (
+            x,
+            open-step y x o f (and-false-right (o .held .begun || beginsAt S j y) _ q) (λ k.
+                or-false (o .held .begun) _ (o .unbegun (or-else (la y) _ (and-false-left (ev y) _ f) (late-on y k .0))) (goes (late-on y k .0))),
+          )
 
   -- and back: what is unserved waits, and is late while its task is part done and its run has not begun
   waits-on : (y : ℕ) (b : Bool) → (wa y || ev y) ≡ true → (b ≡ false → 0 < S .used y j → lateMid y ≡ true) → ((b || beginsAt S j y) && endsAt S j y) ≡ false → (wa (suc y) ≡ true) × ((b || beginsAt S j y) ≡ false → 0 < S .used (suc y) j → la (suc y) ≡ true)
@@ -171,16 +173,16 @@ module _ {s : System} {gap : ℕ → ℕ} (S : Schedule s gap) (j : ℕ) (isTask
       go false e =
           (M .wa-next y ∙ rw e w, λ p q. M .la-next y ∙ rw e (both (lateMid y) true (f (or-false-left b _ p) (part-back y (or-false-right b _ p) q)) refl))
 
-  unserved-waits : {x y : ℕ} {b : Bool} → Unserved S j ev never x y b → x < y → (wa y ≡ true) × (b ≡ false → 0 < S .used y j → la y ≡ true)
-  unserved-waits (new e) p = absurd (omega arith)
-  unserved-waits (later {y = y} (new e) f) p =
+  waits-marked : {x y : ℕ} {b : Bool} → Unserved S j ev never x y b → x < y → (wa y ≡ true) × (b ≡ false → 0 < S .used y j → la y ≡ true)
+  waits-marked (new e) p = absurd (omega arith)
+  waits-marked (later {y = y} (new e) f) p =
       waits-on y false (or-right (wa y) (ev y) e) (λ a h. or-right (la y) _ (both (ev y) _ e (lt-ltb 0 (S .used y j) h))) f
-  unserved-waits (later {y = y} {b = b} (later u g) f) p =
-      let ih = unserved-waits (later u g) (omega (arith, came S j u .1)) in
+  waits-marked (later {y = y} {b = b} (later u g) f) p =
+      let ih = waits-marked (later u g) (omega (arith, came S j u .1)) in
       waits-on y b (or-left (wa y) (ev y) (ih .0)) (λ a h. or-left (la y) _ (ih .1 a h)) f
 
-  pub open-waiting : (y x : ℕ) → Waits S j ev never y x → wa y ≡ true
-  open-waiting y x w = unserved-waits (w .unserved) (w .before) .0
+  open-waiting : (y x : ℕ) → Waits S j ev never y x → wa y ≡ true
+  open-waiting y x w = waits-marked (w .unserved) (w .before) .0
 
   pub dropped-drop : (n : ℕ) → dr n ≡ true → Drop n
   dropped-drop zero e = absurd (not-both e (M .dr-first))
@@ -192,11 +194,11 @@ module _ {s : System} {gap : ℕ → ℕ} (S : Schedule s gap) (j : ℕ) (isTask
       go : (b : Bool) → dr n ≡ b → (dr n ≡ true → Drop n) → Drop (suc n)
       go true w ih =
           let k : Drop n = ih w in
-          record { second = k .second; early = omega (arith, k .early); comes-second = k .comes-second; since = k .since; held = k .held }
+          record { second = k .second; early = omega (arith, k .early); comes-second = k .comes-second; since = k .since; unserved = k .unserved }
       go false w ih =
           let f : (wa n && ev n) ≡ true = or-new (dr n) (wa n && ev n) w on in
           let (x, o) = waiting-open n (and-left (wa n) (ev n) f) in
-          record { second = n; early = omega arith; comes-second = and-right (wa n) (ev n) f; since = x; held = o }
+          record { second = n; early = omega arith; comes-second = and-right (wa n) (ev n) f; since = x; unserved = o }
 
   pub drop-dropped : (n y x : ℕ) → y < n → Waits S j ev never y x → ev y ≡ true → dr n ≡ true
   drop-dropped zero y x p w e = absurd (omega arith)

@@ -7,7 +7,7 @@ use native.Mathlib.Omega.{arith}
 use lib.ListN.{length}
 use Rattle.model.specs.Graph.{System}
 use Rattle.model.specs.History.{Tick, fires, begins, ends, tickAt, endsWithin, ticksUntil, servedBefore, waitOf}
-use Rattle.lemmas.proofs.Tests.{Cmp, less, same, more, cmp, or-false, or-false-left, or-false-right, and-false-right}
+use Rattle.lemmas.proofs.Tests.{Cmp, less, same, more, cmp, or-false-left, or-false-right}
 use Rattle.assurance.proofs.Schedule.{Schedule, beginsAt, endsAt}
 use Rattle.assurance.proofs.Events.{Unserved, new, later, came, Waits, Takes}
 

@@ -212,7 +212,7 @@ module _ (pol : Policy) (d : Description) (wf : WellFormed d) (ks : List Call) w
   abbrev pub pendAt : ℕ → ℕ → Bool
   pendAt x = pend (awakeAt (at x)) (usedAt (at x)) (againAt (at x))
 
-  abbrev pub pendMid : ℕ → ℕ → Bool
+  abbrev pendMid : ℕ → ℕ → Bool
   pendMid x = pend (awakeAt (midAt x)) (usedAt (at x)) (againAt (midAt x))
 
   -- who is live is awake

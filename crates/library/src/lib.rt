@@ -96,15 +96,17 @@ fn put_tempos(tempos: &[u32], out: &mut [u8], at: usize)
 
 // A machine's record into a buffer that takes it.
 fn put_record(m: Machine, out: &mut [u8])
-    requires { ⌜ 768 ≤ length (now out) ⌝ }
-    ensures { λ _. ⌜ now (out .exit) ≡ recordBytes m ++ drop 768 (now (out .entry)) ⌝ }
+    requires { ⌜ 1056 ≤ length (now out) ⌝ }
+    ensures { λ _. ⌜ now (out .exit) ≡ recordBytes m ++ drop 1056 (now (out .entry)) ⌝ }
 {
     put_marks(&m.awake, &mut *out, 0);
     put_numbers(&m.used, &mut *out, 32);
     put_marks(&m.waiting, &mut *out, 160);
     put_marks(&m.dropped, &mut *out, 416);
     put_numbers(&m.ages, &mut *out, 672);
-    put_tempos(&m.fastest, out, 736);
+    put_tempos(&m.fastest, &mut *out, 736);
+    put_marks(&m.again, &mut *out, 768);
+    put_marks(&m.late, out, 800);
 }
 
 // The report of a file into a buffer, on one model: its length, or the refusal 13 and no byte changed.
@@ -167,7 +169,7 @@ fn run_file(p: Policy, file: &[u8], calls: &[u8], outcomes: &mut [u8], state: &m
         return refusal_code(why, place);
     }
     let d = read.description;
-    if state.len() < 768 {
+    if state.len() < 1056 {
         return refusal_code(Refusal::ShortPage, 0);
     }
     if outcomes.len() < calls.len() / 6 {

@@ -162,40 +162,34 @@ pub fn advance<'a>(
     let mask = call.mask;
     let t = call.tempo;
     let finish = call.finish;
+    let peak = larger(w.peak, t);
+    let mut words = at_tempos(w.low, peak, w);
     if mask == 0 {
         if !on_knob(t) {
             return refused(Refusal::OffKnob, w);
         }
-        return run_on(
-            p,
-            rows,
-            runs,
-            finish,
-            at_tempos(w.low, larger(w.peak, t), w),
-            used,
-        );
+    } else {
+        if !on_knob(t) {
+            return refused(Refusal::OffKnob, w);
+        }
+        if above(mask, sources) != 0 {
+            return refused(Refusal::Stranger, w);
+        }
+        if too_soon(
+            mask,
+            peak,
+            ticks,
+            pulses,
+            longest,
+            since,
+            fastest,
+            w.tick,
+            tempos,
+            gaps,
+        ) {
+            return refused(Refusal::TooSoon, w);
+        }
+        words = arrive(rows, t, peak, mask, w, since, fastest);
     }
-    if !on_knob(t) {
-        return refused(Refusal::OffKnob, w);
-    }
-    if above(mask, sources) != 0 {
-        return refused(Refusal::Stranger, w);
-    }
-    let peak = larger(w.peak, t);
-    if too_soon(
-        mask,
-        peak,
-        ticks,
-        pulses,
-        longest,
-        since,
-        fastest,
-        w.tick,
-        tempos,
-        gaps,
-    ) {
-        return refused(Refusal::TooSoon, w);
-    }
-    let arrived = arrive(rows, t, peak, mask, w, since, fastest);
-    run_on(p, rows, runs, finish, arrived, used)
+    run_on(p, rows, runs, finish, words, used)
 }

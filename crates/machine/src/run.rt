@@ -117,12 +117,15 @@ fn later(w: Words, ticks: usize) -> Words
     requires { ⌜ w .tick + ticks < 2 ^ 64 ⌝ }
     ensures { λ r. ⌜ r ≡ laterBy ticks w ⌝ }
 {
-    let waiting = w.waiting;
+    let fresh = w.fresh;
+    let taken = w.taken;
     let dropped = w.dropped;
     Words {
-        awake: w.awake,
+        woken: w.woken,
+        part: w.part,
         running: w.running,
-        waiting,
+        fresh,
+        taken,
         dropped,
         tick: w.tick + ticks as u64,
         low: w.low,
@@ -183,7 +186,7 @@ pub fn run_wired(
         let outcome = done.outcome;
         outcomes[i] = code(outcome);
         let next = done.words;
-        if next.awake != 0 {
+        if next.woken | next.part != 0 {
             words = next;
             i += 1;
             head = ahead;
@@ -195,7 +198,7 @@ pub fn run_wired(
         head = peek(calls, to, n);
     }
     raise(words.peak, &mut fastest);
-    let machine = unpack(&longest, sources, words, used, &since, fastest);
+    let machine = unpack(&w.rows, &longest, sources, words, used, &since, fastest);
     let outcome = Outcome::Done;
     Ticked { outcome, machine }
 }

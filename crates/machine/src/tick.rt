@@ -62,7 +62,7 @@ pub fn tick_judged(
         tempo: t,
         finish,
     };
-    let packed = pack(p, m);
+    let packed = pack(p, &w.rows, m);
     let words = packed.words;
     let mut since = packed.since;
     let mut used = m.used;
@@ -91,6 +91,6 @@ pub fn tick_judged(
     raise(left.peak, &mut fastest);
     Ticked {
         outcome,
-        machine: unpack(&longest, sources, left, used, &since, fastest),
+        machine: unpack(&w.rows, &longest, sources, left, used, &since, fastest),
     }
 }

@@ -74,6 +74,8 @@ pub fn blank_machine() -> Machine
     let dropped = [false; 256];
     let ages = [0u32; 16];
     let fastest = [0u32; 16];
+    let again = [false; 32];
+    let late = [false; 256];
     Machine {
         awake,
         used,
@@ -81,6 +83,8 @@ pub fn blank_machine() -> Machine
         dropped,
         ages,
         fastest,
+        again,
+        late,
     }
 }
 

@@ -1,6 +1,8 @@
 // The machine's record from words of bits, and words from a record.
 
+use crate::step::kept_bits;
 use crate::step::long;
+use crate::step::row;
 use crate::words::Words;
 use model::Machine;
 use model::Policy;
@@ -20,12 +22,15 @@ ghost use Rattle.steps.specs.Record.{OnePart, AwakeOf, LinksOf, AgesOf, 
 pub fn begin() -> Words
     ensures { λ r. ⌜ Begins r ⌝ }
 {
-    let waiting = wide::none();
+    let fresh = wide::none();
+    let taken = wide::none();
     let dropped = wide::none();
     Words {
-        awake: 0,
+        woken: 0,
+        part: 0,
         running: 0,
-        waiting,
+        fresh,
+        taken,
         dropped,
         tick: 4294967296,
         low: 0,
@@ -58,15 +63,29 @@ pub fn word_in(marks: &[bool], at: usize, count: usize) -> u64
     set
 }
 
-// The awake tasks as a word, whose bit k is task k.
-fn awake_in(awake: &[bool; 32]) -> u64
-    requires { ⌜ length (now awake) ≡ 32 ⌝ }
-    ensures { λ r. ⌜ AwakeIn (now (awake .entry)) r ⌝ }
+// The marked tasks as a word, whose bit k is task k.
+fn tasks_in(marks: &[bool; 32]) -> u64
+    requires { ⌜ length (now marks) ≡ 32 ⌝ }
+    ensures { λ r. ⌜ TasksIn (now (marks .entry)) r ⌝ }
 {
     let mut set: u64 = 0;
     let mut k: usize = 0;
     while k < 32 {
-        set = with_if(set, k + 1, awake[k]);
+        set = with_if(set, k + 1, marks[k]);
+        k += 1;
+    }
+    set
+}
+
+// The tasks that are part done, likewise.
+fn part_in(used: &[u32; 32]) -> u64
+    requires { ⌜ length (now used) ≡ 32 ⌝ }
+    ensures { λ r. ⌜ PartIn (now (used .entry)) r ⌝ }
+{
+    let mut set: u64 = 0;
+    let mut k: usize = 0;
+    while k < 32 {
+        set = with_if(set, k + 1, used[k] != 0);
         k += 1;
     }
     set
@@ -85,14 +104,14 @@ fn links_in(marks: &[bool; 256]) -> Wide
     }
 }
 
-// The awake tasks of a word, whose bit k is task k.
-fn awake_of(awake: u64) -> [bool; 32]
-    ensures { λ r. ⌜ AwakeOf awake r ⌝ }
+// The marks of the tasks of a word, whose bit k is task k.
+fn tasks_of(set: u64) -> [bool; 32]
+    ensures { λ r. ⌜ TasksOf set r ⌝ }
 {
     let mut marks = [false; 32];
     let mut k: usize = 0;
     while k < 32 {
-        marks[k] = sets::has(awake, k + 1);
+        marks[k] = sets::has(set, k + 1);
         k += 1;
     }
     marks
@@ -158,8 +177,33 @@ pub fn since_of(ages: &[u32; 16]) -> [u64; 16]
     since
 }
 
+// The links into task k if it is one of some tasks, else none.
+fn links_if(rows: &[u64; 576], tasks: u64, k: usize) -> Wide
+    requires { ⌜ k < 33 ⌝ }
+    ensures { λ r. ⌜ ((l : ℕ) → inside r l ≡ (member tasks k && inside (wideAt (now (rows .entry)) (9 * k + 4)) l)) ⌝ }
+{
+    if sets::has(tasks, k) {
+        return row(rows, 9 * k + 4);
+    }
+    wide::none()
+}
+
+// The links into some tasks.
+fn links_into(rows: &[u64; 576], tasks: u64) -> Wide
+    ensures { λ r. ⌜ Into (now (rows .entry)) tasks r ⌝ }
+{
+    let mut set = wide::none();
+    let mut k: usize = 0;
+    while k < 33 {
+        set = wide::union(set, links_if(rows, tasks, k));
+        k += 1;
+    }
+    set
+}
+
 // The record that words hold, with what tasks have used and the tempos that are kept.
 pub fn unpack<'a>(
+    rows: &[u64; 576],
     gaps: &'a [u32; 16],
     sources: usize,
     w: Words,
@@ -168,14 +212,17 @@ pub fn unpack<'a>(
     fastest: [u32; 16],
 ) -> Machine
     requires { ⌜ sources ≤ 16 ⌝ }
-    ensures { λ r. ⌜ Unpacks (now (gaps .entry)) sources w used (now (since .entry)) fastest r ⌝ }
+    ensures { λ r. ⌜ Unpacks (now (rows .entry)) (now (gaps .entry)) sources w used (now (since .entry)) fastest r ⌝ }
 {
-    let waits = w.waiting;
+    let fresh = w.fresh;
+    let taken = w.taken;
     let drops = w.dropped;
-    let awake = awake_of(w.awake);
-    let waiting = links_of(waits);
-    let dropped = links_of(drops);
+    let awake = tasks_of(sets::union(w.woken, w.part));
+    let waiting = links_of(wide::union(fresh, taken));
+    let dropped = links_of(wide::union(drops, wide::both(fresh, taken)));
     let ages = ages_of(gaps, sources, since, w.tick);
+    let again = tasks_of(sets::both(w.woken, w.part));
+    let late = links_of(wide::both(fresh, links_into(rows, w.part)));
     Machine {
         awake,
         used,
@@ -183,35 +230,19 @@ pub fn unpack<'a>(
         dropped,
         ages,
         fastest,
+        again,
+        late,
     }
-}
-
-// The last of some tasks that is part done, one more being looked at.
-fn part_at(found: usize, k: usize, used: u32) -> usize
-    requires { ⌜ k < 32 ⌝ }
-    ensures { λ r. ⌜ r ≡ cond (ltb 0 used) (k + 1) found ⌝ }
-{
-    if 0 < used {
-        return k + 1;
-    }
-    found
 }
 
 // The task that goes on: on the hold-on model the one that is part done.
-fn running_in(p: Policy, used: &[u32; 32]) -> usize
-    requires { ⌜ length (now used) ≡ 32 ⌝ }
-    ensures { λ r. ⌜ ((holdsOn p ≡ true → OnePart (now (used .entry))) → Goes p r (now (used .entry))) ⌝ }
+fn running_in(p: Policy, part: u64) -> usize
+    ensures { λ r. ⌜ ((used : List ℕ) → PartIn used part → (holdsOn p ≡ true → OnePart used) → Goes p r used) ⌝ }
 {
-    let Policy::HoldOn = p else {
+    if part == 0 {
         return 0;
-    };
-    let mut found: usize = 0;
-    let mut k: usize = 0;
-    while k < 32 {
-        found = part_at(found, k, used[k]);
-        k += 1;
     }
-    found
+    sets::last(part) & kept_bits(p)
 }
 
 // The words of a record and the ticks at which ages were 0; what tasks have used and the tempos that are kept stay as they are.
@@ -220,17 +251,23 @@ pub struct Packed {
     pub since: [u64; 16],
 }
 
-pub fn pack(p: Policy, m: Machine) -> Packed
-    ensures { λ r. ⌜ Packs p m (r .words) (r .since) ⌝ }
+// A link into a task that is part done has been taken by its run, if it waits and is not late; any other that waits is fresh.
+pub fn pack(p: Policy, rows: &[u64; 576], m: Machine) -> Packed
+    ensures { λ r. ⌜ Packs p (now (rows .entry)) m (r .words) (r .since) ⌝ }
 {
     let ages = m.ages;
+    let part = part_in(&m.used);
     let waiting = links_in(&m.waiting);
+    let late = links_in(&m.late);
     let dropped = links_in(&m.dropped);
+    let taken = wide::without(wide::both(waiting, links_into(rows, part)), late);
     let since = since_of(&ages);
     let words = Words {
-        awake: awake_in(&m.awake),
-        running: running_in(p, &m.used),
-        waiting,
+        woken: sets::union(sets::without(tasks_in(&m.awake), part), tasks_in(&m.again)),
+        part,
+        running: running_in(p, part),
+        fresh: wide::without(waiting, taken),
+        taken,
         dropped,
         tick: 4294967296,
         low: 0,

@@ -13,7 +13,7 @@ ghost use Rattle.steps.specs.Parts.{Sourced};
 ghost use Rattle.steps.specs.Words.{wideAt, Sent, Fires, atTempos, Arrives, Sleeps, holdsOn, Chosen, GoesOn, Works, Workable, raisedTo, Folds, Passes};
 
 // The four words from place i on.
-fn row(rows: &[u64; 576], i: usize) -> Wide
+pub fn row(rows: &[u64; 576], i: usize) -> Wide
     requires { ⌜ i < 573 ⌝ }
     ensures { λ r. ⌜ r ≡ wideAt (now (rows .entry)) i ⌝ }
 {
@@ -25,17 +25,20 @@ fn row(rows: &[u64; 576], i: usize) -> Wide
     }
 }
 
-// Links fire together: each that waits is dropped, each waits anew, and their tasks wake.
+// Links fire together: each that is fresh is dropped, each is fresh anew, and their tasks are woken.
 fn send(w: Words, out: Wide, wakes: u64) -> Words
     ensures { λ r. ⌜ Sent w out wakes r ⌝ }
 {
-    let waiting = w.waiting;
+    let fresh = w.fresh;
+    let taken = w.taken;
     let dropped = w.dropped;
-    let missed = wide::both(waiting, out);
+    let missed = wide::both(fresh, out);
     Words {
-        awake: sets::union(w.awake, wakes),
+        woken: sets::union(w.woken, wakes),
+        part: w.part,
         running: w.running,
-        waiting: wide::union(waiting, out),
+        fresh: wide::union(fresh, out),
+        taken,
         dropped: wide::union(dropped, missed),
         tick: w.tick,
         low: w.low,
@@ -43,7 +46,7 @@ fn send(w: Words, out: Wide, wakes: u64) -> Words
     }
 }
 
-// Node x fires: each link out of it that waits is dropped, waits anew and wakes its task.
+// Node x fires: each link out of it that is fresh is dropped, is fresh anew and wakes its task.
 pub fn fire(rows: &[u64; 576], x: usize, w: Words) -> Words
     requires { ⌜ x < 64 ⌝ }
     ensures { λ r. ⌜ Fires (now (rows .entry)) x w r ⌝ }
@@ -129,12 +132,15 @@ pub fn arrive(
 pub fn at_tempos(low: u32, peak: u32, w: Words) -> Words
     ensures { λ r. ⌜ r ≡ atTempos low peak w ⌝ }
 {
-    let waiting = w.waiting;
+    let fresh = w.fresh;
+    let taken = w.taken;
     let dropped = w.dropped;
     Words {
-        awake: w.awake,
+        woken: w.woken,
+        part: w.part,
         running: w.running,
-        waiting,
+        fresh,
+        taken,
         dropped,
         tick: w.tick,
         low,
@@ -142,23 +148,60 @@ pub fn at_tempos(low: u32, peak: u32, w: Words) -> Words
     }
 }
 
-// Task h sleeps and nobody goes on, and the waiting marks on links into it clear.
+// Task h, whose run begins and ends in this tick, sleeps, and no link into it is fresh.
 fn sleep(rows: &[u64; 576], h: usize, w: Words) -> Words
     requires { ⌜ h < 64 ⌝ }
     ensures { λ r. ⌜ Sleeps (now (rows .entry)) h w r ⌝ }
 {
     let into = row(rows, 9 * h + 4);
-    let waiting = w.waiting;
+    let fresh = w.fresh;
+    let taken = w.taken;
     let dropped = w.dropped;
     Words {
-        awake: sets::without(w.awake, sets::one(h)),
-        running: 0,
-        waiting: wide::without(waiting, into),
+        woken: sets::without(w.woken, sets::one(h)),
+        part: w.part,
+        running: w.running,
+        fresh: wide::without(fresh, into),
+        taken,
         dropped,
         tick: w.tick,
         low: w.low,
         peak: w.peak,
     }
+}
+
+// The run of task h, which began before this tick, ends and nobody goes on: what it has taken is served, and what has come since is still fresh.
+fn complete(rows: &[u64; 576], h: usize, w: Words) -> Words
+    requires { ⌜ h < 64 ⌝ }
+    ensures { λ r. ⌜ Completes (now (rows .entry)) h w r ⌝ }
+{
+    let into = row(rows, 9 * h + 4);
+    let fresh = w.fresh;
+    let taken = w.taken;
+    let dropped = w.dropped;
+    let served = wide::both(taken, into);
+    Words {
+        woken: w.woken,
+        part: sets::without(w.part, sets::one(h)),
+        running: 0,
+        fresh,
+        taken: wide::without(taken, into),
+        dropped: wide::union(dropped, wide::both(fresh, served)),
+        tick: w.tick,
+        low: w.low,
+        peak: w.peak,
+    }
+}
+
+// The run of task h, which had used some ticks before this one, ends.
+fn end(rows: &[u64; 576], h: usize, spent: u32, w: Words) -> Words
+    requires { ⌜ h < 64 ⌝ }
+    ensures { λ r. ⌜ Ends (now (rows .entry)) h spent w r ⌝ }
+{
+    if spent == 0 {
+        return sleep(rows, h, w);
+    }
+    complete(rows, h, w)
 }
 
 // Whether a run ends: the task has used its longest run, or the caller says so.
@@ -183,7 +226,7 @@ fn chosen(running: usize, awake: u64) -> usize
 }
 
 // What is kept of the number of a task whose run is not over: all of its bits on the hold-on model, else none.
-fn kept_bits(p: Policy) -> usize
+pub fn kept_bits(p: Policy) -> usize
     ensures { λ r. ⌜ r ≡ cond (holdsOn p) 63 0 ⌝ }
 {
     match p {
@@ -192,17 +235,21 @@ fn kept_bits(p: Policy) -> usize
     }
 }
 
-// The run of task h is not over: on the hold-on model it goes on.
-fn go_on(p: Policy, h: usize, w: Words) -> Words
+// The run of task h begins and is not over: it takes what is fresh on links into it, and on the hold-on model it goes on.
+fn begin(p: Policy, rows: &[u64; 576], h: usize, w: Words) -> Words
     requires { ⌜ h < 64 ⌝ }
-    ensures { λ r. ⌜ GoesOn p h w r ⌝ }
+    ensures { λ r. ⌜ Starts p (now (rows .entry)) h w r ⌝ }
 {
-    let waiting = w.waiting;
+    let into = row(rows, 9 * h + 4);
+    let fresh = w.fresh;
+    let taken = w.taken;
     let dropped = w.dropped;
     Words {
-        awake: w.awake,
+        woken: sets::without(w.woken, sets::one(h)),
+        part: sets::with(w.part, h),
         running: h & kept_bits(p),
-        waiting,
+        fresh: wide::without(fresh, into),
+        taken: wide::union(taken, wide::both(fresh, into)),
         dropped,
         tick: w.tick,
         low: w.low,
@@ -210,7 +257,19 @@ fn go_on(p: Policy, h: usize, w: Words) -> Words
     }
 }
 
-// Steps 2 and 3: the task that goes on runs, or else the highest awake, and its run ends if this tick ends it.
+// The run of task h, which had used some ticks before this one, is not over.
+fn go_on(p: Policy, rows: &[u64; 576], h: usize, spent: u32, w: Words) -> Words
+    requires { ⌜ h < 64 ⌝ }
+    ensures { λ r. ⌜ GoesOn p (now (rows .entry)) h spent w r ⌝ }
+{
+    if spent == 0 {
+        return begin(p, rows, h, w);
+    }
+    w
+}
+
+// Steps 2 and 3: the task that goes on runs, or else the highest awake, and its run ends if this tick ends it. A run of one tick at the most is not
+// looked up.
 pub fn work<'a>(
     p: Policy,
     rows: &'a [u64; 576],
@@ -219,20 +278,25 @@ pub fn work<'a>(
     w: Words,
     used: &mut [u32; 32],
 ) -> Words
-    requires { ⌜ Workable w (now used) ⌝ }
+    requires { ⌜ Workable w (now runs) (now used) ⌝ }
     ensures { λ r. ⌜ Works p (now (rows .entry)) (now (runs .entry)) finish w (now (used .entry)) r (now (used .exit)) ⌝ }
 {
-    if w.awake == 0 {
+    let awake = sets::union(w.woken, w.part);
+    if awake == 0 {
         return w;
     }
-    let h = chosen(w.running, w.awake);
-    let more = used[h - 1] + 1;
-    if ends(more, runs[h - 1], finish) {
-        used[h - 1] = 0;
+    let h = chosen(w.running, awake);
+    if runs[h - 1] == 1 {
         return fire(rows, h, sleep(rows, h, w));
     }
+    let spent = used[h - 1];
+    let more = spent + 1;
+    if ends(more, runs[h - 1], finish) {
+        used[h - 1] = 0;
+        return fire(rows, h, end(rows, h, spent, w));
+    }
     used[h - 1] = more;
-    go_on(p, h, w)
+    go_on(p, rows, h, spent, w)
 }
 
 // The larger of two tempos.
@@ -250,12 +314,15 @@ pub fn pass(w: Words) -> Words
     requires { ⌜ w .tick < 2 ^ 63 ⌝ }
     ensures { λ r. ⌜ Passes w r ⌝ }
 {
-    let waiting = w.waiting;
+    let fresh = w.fresh;
+    let taken = w.taken;
     let dropped = w.dropped;
     Words {
-        awake: w.awake,
+        woken: w.woken,
+        part: w.part,
         running: w.running,
-        waiting,
+        fresh,
+        taken,
         dropped,
         tick: w.tick + 1,
         low: w.low,

@@ -2,14 +2,18 @@
 
 use sets::wide::Wide;
 
-// Bit k of awake is task k. running is the task that goes on: on the hold-on model the one that is part done, else 0. Bit l of waiting and of
-// dropped is the link at place l. tick counts the ticks, from 2^32 on. Ages are not kept: beside the words goes, for each source, the
-// tick at which its age was 0, be it before the first. So do kept tempos, as they were at the last arrival: none is below low, but 0, and peak is the
-// fastest tempo given since, or 200.
+// A task reads its inputs when its run begins, so an event is fresh until then and taken from then on. Bit k of woken is task k if it was woken since
+// its run began, or at all if none is in progress; bit k of part is task k if its run is part done. Bit l of fresh is the link at place l if its last
+// event was not read yet; of taken, if the run in progress has read one; a link that is both is dropped, and marked so in dropped by the end of that
+// run. running is the task that goes on: on the hold-on model the one that is part done, else 0. tick counts the ticks, from 2^32 on. Ages are not kept:
+// beside the words goes, for each source, the tick at which its age was 0, be it before the first. So do kept tempos, as they were at the last
+// arrival: none is below low, but 0, and peak is the fastest tempo given since, or 200.
 pub struct Words {
-    pub awake: u64,
+    pub woken: u64,
+    pub part: u64,
     pub running: usize,
-    pub waiting: Wide,
+    pub fresh: Wide,
+    pub taken: Wide,
     pub dropped: Wide,
     pub tick: u64,
     pub low: u32,

@@ -15,9 +15,6 @@ use spacings::gaps_by;
 use spacings::gaps_of;
 use spacings::on_knob;
 use spacings::sources_of;
-use steps::record::begin;
-use steps::record::since_of;
-use steps::record::unpack;
 use wiring::wiring_of;
 ghost use mathlib.Core.Path.{_≡_};
 ghost use Rattle.model.specs.declared.Outcome.the-variants.{Done};
@@ -72,14 +69,27 @@ pub fn start(d: Description) -> Ticked
     if let Outcome::Refused(why, place) = judged {
         return refused_start(why, place);
     }
-    let longest = gaps_of(d, 200);
-    let used = [0u32; 32];
-    let since = since_of(&longest);
-    let fastest = [0u32; 16];
-    let m = unpack(&longest, d.source_count, begin(), used, &since, fastest);
+    let blank = blank_machine();
+    let awake = blank.awake;
+    let used = blank.used;
+    let waiting = blank.waiting;
+    let dropped = blank.dropped;
+    let fastest = blank.fastest;
+    let again = blank.again;
+    let late = blank.late;
+    let machine = Machine {
+        awake,
+        used,
+        waiting,
+        dropped,
+        ages: gaps_of(d, 200),
+        fastest,
+        again,
+        late,
+    };
     Ticked {
         outcome: Outcome::Done,
-        machine: m,
+        machine,
     }
 }
 

@@ -12,9 +12,9 @@ use Rattle.model.specs.declared.Description.{Description}
 use Rattle.model.specs.declared.Machine.{Machine}
 use Rattle.model.specs.Basics.{anyN}
 use Rattle.model.specs.Graph.{linkAt, linked}
-use Rattle.model.specs.Machine.{awakeAt, waitingAt, droppedAt, ageAt, longestGap, arrive}
+use Rattle.model.specs.Machine.{awakeAt, usedAt, againAt, waitingAt, lateAt, droppedAt, ageAt, longestGap, arrive}
 use Rattle.lemmas.proofs.Tests.{same-test, not-both, and-left, and-right, and-false-right, both}
-use Rattle.lemmas.proofs.Bools.{or-none, or-idle-right}
+use Rattle.lemmas.proofs.Bools.{or-none, or-idle, or-idle-right}
 use Rattle.lemmas.proofs.Range.{any-at, any-found, any-none}
 use Rattle.theory.proofs.WellFormed.{WellFormed}
 use Rattle.assurance.proofs.Arriving.{Arrived, arrived, comes, comes-of}
@@ -25,7 +25,7 @@ use Rattle.wiring.specs.Rows.{RowsOf}
 use Rattle.steps.specs.declared.words.Words.{Words}
 use Rattle.model.specs.Run.{heard, marksIn}
 use Rattle.steps.specs.Parts.{Known}
-use Rattle.steps.specs.Words.{wideAt, Sent, Stored, Ages, Holds}
+use Rattle.steps.specs.Words.{wideAt, enters, Sent, Stored, Ages, Holds}
 use Rattle.steps.proofs.MaskLaws.{Turn, mark-in, heard-under, passed, any-turn}
 use Rattle.steps.proofs.MarkLaws.{row-out, woken, marks-sent}
 use Rattle.lemmas.proofs.Table.{getD-set}
@@ -145,8 +145,9 @@ module _ (d : Description) (rows : List ℕ) (mask r tick : ℕ) (since₀ since
 
   pub all-arrived : (w₀ w′ : Words) (used : List ℕ) (m : Machine) → tick ≡ w₀ .tick → Sent w₀ out wakes w′ → Holds d w₀ used since₀ m → Holds d w′ used since (arrive d (marksIn mask) m)
   all-arrived w₀ w′ used m same sent h = record {
-    marks = marks-sent d w₀ w′ out wakes sent m m′ some (f .sized) (λ i p. f .awake i p ∙ ap (λ b. awakeAt m i || b) (sym (tasks-are i))) (λ l. waits l (decLt l (d .«link_count»))) (λ l. drops l (decLt l (d .«link_count»))) (h .marks);
+    marks = marks-sent d w₀ w′ out wakes sent m m′ some (f .sized) (f .used) (λ i p. f .awake i p ∙ ap (λ b. awakeAt m i || b) (sym (tasks-are i))) (λ i p. f .again i p ∙ ap (λ b. againAt m i || (b && ltb 0 (usedAt m i))) (sym (tasks-are i))) (λ l. waits l (decLt l (d .«link_count»))) (λ l. lates l (decLt l (d .«link_count»))) (λ l. drops l (decLt l (d .«link_count»))) (h .marks);
     same-used = h .same-used ∙ sym (f .used);
+    below = λ i o t. rw (f .used) (h .below i o t);
     ages = subst (λ n. Ages d n since m′) (same ∙ sym (sent .then)) (record {
       many = s .many;
       before = λ u p. before u p (heard mask u) refl;
@@ -173,6 +174,11 @@ module _ (d : Description) (rows : List ℕ) (mask r tick : ℕ) (since₀ since
       drops : (l : ℕ) → Dec (l < d .«link_count») → droppedAt m′ l ≡ (droppedAt m l || (waitingAt m l && inside out l))
       drops l (yes p) = f .dropped l p ∙ ap (λ b. droppedAt m l || (waitingAt m l && b)) (sym (links-are l p))
       drops l (no p) = f .past l (omega arith) .1 ∙ or-idle-right (droppedAt m l) (waitingAt m l) (inside out l) (links-past l (omega arith))
+
+      lates : (l : ℕ) → Dec (l < d .«link_count») → lateAt m′ l ≡ (lateAt m l || (inside out l && enters d (w₀ .part) l))
+      lates l (yes p) =
+          f .late l p ∙ ap (λ b. lateAt m l || b) (rw (links-are l p, lt-ltb l (d .«link_count») p, h .marks .part (linkAt d l .to) (g .fields .link-to l p .0)) refl)
+      lates l (no p) = f .past l (omega arith) .2 ∙ or-idle (lateAt m l) (inside out l) _ (links-past l (omega arith))
 
       age : (u : ℕ) → u < d .«source_count» → ageAt m′ u ≡ cond (heard mask u) 0 (ageAt m u)
       age u p = f .age u ∙ rw (lt-ltb u (d .«source_count») p, mark-in mask u (omega (arith, k .0))) refl

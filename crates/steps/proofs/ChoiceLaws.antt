@@ -15,16 +15,15 @@ use Rattle.model.specs.declared.Policy.the-variants.{Preemptive, HoldOn}
 use Rattle.model.specs.Basics.{tab}
 use Rattle.model.specs.Machine.{usedAt, highestIn, running, choose}
 use Rattle.lemmas.proofs.Tests.{Cmp, less, same, more, cmp, not-both}
-use Rattle.lemmas.proofs.Bools.{and-off}
+use Rattle.lemmas.proofs.Bools.{and-on, and-off}
 use Rattle.lemmas.proofs.Table.{getD-tab}
 use Rattle.theory.proofs.WellFormed.{WellFormed}
 use Rattle.assurance.proofs.Firing.{getD-task}
 use Rattle.assurance.proofs.Ending.{highest-le, highest-above, highest-awake}
 use Rattle.assurance.proofs.Choosing.{Anew, Kept, chosen, running-le, running-part}
 use Rattle.sets.specs.Sets.{member}
-use Rattle.sets.proofs.SetLaws.{member-none}
 use Rattle.steps.specs.declared.words.Words.{Words}
-use Rattle.steps.specs.Words.{Holds, holdsOn, Goes, Chosen}
+use Rattle.steps.specs.Words.{awakeIn, Holds, holdsOn, Goes, Chosen}
 use Rattle.steps.proofs.MarkLaws.{highest-is, highest-none}
 
 -- the highest of a list's marks, by what it is
@@ -74,27 +73,27 @@ module _ (p : Policy) (d : Description) (w : Words) (used since : List ℕ) (m :
           at k o b = getD-tab 32 (λ i. ltb 0 (getD (m .used) i 0)) false (k - 1) (omega arith) ∙ sym (goes-in k o b ∙ ap (λ (c : Bool). c && ltb 0 (usedAt m k)) (ap holdsOn e))
 
   -- the one that goes on, or else the highest awake, is the task that runs
-  module _ (going : 0 < w .running → member (w .awake) (w .running) ≡ true) where
-    pub choose-is : (h : ℕ) → Chosen (w .running) (w .awake) h → choose p d m ≡ h
-    choose-is h l = go (cmp 0 (w .running)) (chosen p d m)
+  module _ (going : 0 < w .running → awakeIn w (w .running) ≡ true) where
+    pub choose-is : (awake h : ℕ) → ((k : ℕ) → member awake k ≡ awakeIn w k) → Chosen (w .running) awake h → choose p d m ≡ h
+    choose-is awake h set l = go (cmp 0 (w .running)) (chosen p d m)
       where
         go : Cmp 0 (w .running) → Anew p d m ⊎ Kept p d m → choose p d m ≡ h
         go (less o) (inl c) = absurd (omega (arith, c .none, running-is o (H .marks .present (w .running) (going o))))
         go (less o) (inr c) = c .is ∙ running-is o (H .marks .present (w .running) (going o)) ∙ sym (l .goes o)
-        go (same e) (inl c) = c .is ∙ highest-is d w m h (H .marks) (l .highest (sym e))
+        go (same e) (inl c) = c .is ∙ highest-is d w m awake h (H .marks) set (l .highest (sym e))
         go (same e) (inr c) = absurd (omega (arith, c .some, running-none (sym e)))
         go (more e) c = absurd (omega arith)
 
-    pub choose-none : w .awake ≡ 0 → choose p d m ≡ 0
-    choose-none e = go (chosen p d m)
+    pub choose-none : ((k : ℕ) → awakeIn w k ≡ false) → choose p d m ≡ 0
+    choose-none none = go (chosen p d m)
       where
         idle : Cmp 0 (w .running) → w .running ≡ 0
-        idle (less o) = absurd (not-both (going o) (ap (λ s. member s (w .running)) e ∙ member-none (w .running)))
+        idle (less o) = absurd (not-both (going o) (none (w .running)))
         idle (same z) = sym z
         idle (more z) = absurd (omega arith)
 
         go : Anew p d m ⊎ Kept p d m → choose p d m ≡ 0
-        go (inl c) = c .is ∙ highest-none d w m (H .marks) e
+        go (inl c) = c .is ∙ highest-none d w m (H .marks) none
         go (inr c) = absurd (omega (arith, c .some, running-none (idle (cmp 0 (w .running)))))
 
 -- the task that runs is awake
@@ -153,3 +152,29 @@ module _ (p : Policy) (running : ℕ) (used : List ℕ) (h : ℕ) (low : 1 ≤ h
       at k o b (less q) = rest k o b (λ z. omega arith)
       at k o b (same q) = own-one k o b q
       at k o b (more q) = rest k o b (λ z. omega arith)
+
+  -- by what the task has used: nobody else goes on where it has used nothing, and it goes on already where it has
+  pub goes-none : getD used (h - 1) 0 ≡ 0 → running ≡ 0
+  goes-none z = go (cmp 0 running)
+    where
+      go : Cmp 0 running → running ≡ 0
+      go (less o) =
+          let e : h ≡ running = own o in
+          absurd (not-both (eq-eqb h running e) (r .here h low high ∙ ap (λ n. holdsOn p && ltb 0 n) z ∙ and-off (holdsOn p)))
+      go (same e) = sym e
+      go (more e) = absurd (omega arith)
+
+  pub goes-same : 0 < getD used (h - 1) 0 → running ≡ cond (holdsOn p) h 0
+  goes-same s = go (holdsOn p) refl
+    where
+      is : eqb h running ≡ holdsOn p
+      is = r .here h low high ∙ ap (λ b. holdsOn p && b) (lt-ltb 0 (getD used (h - 1) 0) s) ∙ and-on (holdsOn p) true refl
+
+      go : (b : Bool) → holdsOn p ≡ b → running ≡ cond (holdsOn p) h 0
+      go true e = rw e (sym (eqb-true h running (is ∙ e)))
+      go false e = rw e (idle (cmp 0 running))
+        where
+          idle : Cmp 0 running → running ≡ 0
+          idle (less o) = absurd (not-both (eq-eqb h running (own o)) (is ∙ e))
+          idle (same z) = sym z
+          idle (more z) = absurd (omega arith)

@@ -7,23 +7,24 @@ use native.Mathlib.Omega.{arith}
 use native.Mathlib.Decide.{decLt}
 use lib.ListN.{getD, length-set}
 use lib.Dec.{eqb, ltb}
-use borrow.Author.Tests.{eqb-true, le-ltb}
+use borrow.Author.Tests.{eqb-true, lt-ltb, le-ltb}
 use Rattle.model.specs.declared.Description.{Description}
 use Rattle.model.specs.declared.Machine.{Machine}
 use Rattle.model.specs.Graph.{linkAt, system}
-use Rattle.model.specs.Machine.{awakeAt, waitingAt, droppedAt, setAwake, setUsed, fire, highest, clearInto}
-use Rattle.lemmas.proofs.Tests.{Cmp, less, same, more, cmp, not-both, false-of, and-left, and-right, or-cases, or-false}
+use Rattle.model.specs.Machine.{awakeAt, usedAt, waitingAt, droppedAt, againAt, lateAt, setUsed, fire, highest, complete, clearInto}
+use Rattle.lemmas.proofs.Tests.{Cmp, less, same, more, cmp, not-both, false-of, and-left, and-right, and-false-right, both, or-left, or-right, or-cases, or-false}
+use Rattle.lemmas.proofs.Bools.{and-on}
 use Rattle.lemmas.proofs.Range.{any-found}
 use Rattle.theory.proofs.WellFormed.{WellFormed}
 use Rattle.assurance.proofs.Firing.{Sized, Fired, fired, getD-task}
-use Rattle.assurance.proofs.Ending.{highest-above, highest-awake, Cleared, cleared}
+use Rattle.assurance.proofs.Ending.{highest-above, highest-awake, Cleared, cleared, Aged}
 use Rattle.sets.specs.declared.wide.Wide.{Wide}
 use Rattle.sets.specs.Sets.{member, LastIn}
 use Rattle.sets.specs.Wide.{wordIn, inside}
 use Rattle.sets.proofs.SetLaws.{member-none}
 use Rattle.wiring.specs.Rows.{RowsOf}
 use Rattle.steps.specs.declared.words.Words.{Words}
-use Rattle.steps.specs.Words.{wideAt, Sent, Marks}
+use Rattle.steps.specs.Words.{wideAt, awakeIn, waitingIn, enters, Sent, Marks, ended}
 use Rattle.theory.proofs.Links.{to-most}
 
 -- a node's words as a set: the links out of it, and those into it
@@ -71,90 +72,401 @@ woken d rows g r x k e =
     let t : linkAt d (z .at) .to ≤ d .«task_count» = g .fields .link-to (z .at) i .1 in
     (omega (arith, to-most d (g .fields) (z .at) i .0), omega arith)
 
--- links have fired together, and so they have in the record
-module _ (d : Description) (w w′ : Words) (out : Wide) (wakes : ℕ) (s : Sent w out wakes w′) (m m′ : Machine) (tasks : (k : ℕ) → member wakes k ≡ true → (1 ≤ k) × (k ≤ d .«task_count»)) (z : Sized m′) (a : (k : ℕ) → 1 ≤ k → awakeAt m′ k ≡ (awakeAt m k || member wakes k)) (b : (l : ℕ) → waitingAt m′ l ≡ (waitingAt m l || inside out l)) (c : (l : ℕ) → droppedAt m′ l ≡ (droppedAt m l || (waitingAt m l && inside out l))) where
+-- links have fired together: what words say then
+also : (a b c : Bool) → (a || b || c) ≡ (a || c || b)
+also true b c = refl
+also false true true = refl
+also false true false = refl
+also false false true = refl
+also false false false = refl
+
+under : (a b c : Bool) → ((a || b) && c) ≡ ((a && c) || (b && c))
+under true true true = refl
+under true true false = refl
+under true false true = refl
+under true false false = refl
+under false b c = refl
+
+missed : (d f t o : Bool) → ((d || (f && o)) || ((f || o) && t)) ≡ ((d || (f && t)) || ((f || t) && o))
+missed true f t o = refl
+missed false true true true = refl
+missed false true true false = refl
+missed false true false true = refl
+missed false true false false = refl
+missed false false true true = refl
+missed false false true false = refl
+missed false false false true = refl
+missed false false false false = refl
+
+-- and so they have in the record
+module _ (d : Description) (w w′ : Words) (out : Wide) (wakes : ℕ) (s : Sent w out wakes w′) (m m′ : Machine) (tasks : (k : ℕ) → member wakes k ≡ true → (1 ≤ k) × (k ≤ d .«task_count»)) (z : Sized m′) (u : m′ .used ≡ m .used) (a : (k : ℕ) → 1 ≤ k → awakeAt m′ k ≡ (awakeAt m k || member wakes k)) (e : (k : ℕ) → 1 ≤ k → againAt m′ k ≡ (againAt m k || (member wakes k && ltb 0 (usedAt m k)))) (b : (l : ℕ) → waitingAt m′ l ≡ (waitingAt m l || inside out l)) (f : (l : ℕ) → lateAt m′ l ≡ (lateAt m l || (inside out l && enters d (w .part) l))) (c : (l : ℕ) → droppedAt m′ l ≡ (droppedAt m l || (waitingAt m l && inside out l))) where
+  awake-sent : (k : ℕ) → awakeIn w′ k ≡ (awakeIn w k || member wakes k)
+  awake-sent k = rw (s .woken k, s .same .0) (also (member (w .woken) k) (member wakes k) (member (w .part) k))
+
   pub marks-sent : Marks d w m → Marks d w′ m′
   marks-sent h = record {
     sized = z;
-    no-zero = s .awake 0 ∙ or-false (member (w .awake) 0) (member wakes 0) (h .no-zero) (false-of (member wakes 0) (λ q. omega (arith, tasks 0 q .0)));
-    present = λ k p. or-cases (member (w .awake) k) (member wakes k) (sym (s .awake k) ∙ p) (h .present k) (λ q. tasks k q .1);
-    awake = λ k p. s .awake k ∙ ap (λ i. i || member wakes k) (h .awake k p) ∙ sym (a k p);
-    waiting = λ l. s .waiting l ∙ ap (λ i. i || inside out l) (h .waiting l) ∙ sym (b l);
-    dropped = λ l. s .dropped l ∙ rw (h .dropped l, h .waiting l) (sym (c l));
+    no-zero = awake-sent 0 ∙ or-false (awakeIn w 0) (member wakes 0) (h .no-zero) (false-of (member wakes 0) (λ q. omega (arith, tasks 0 q .0)));
+    present = λ k p. or-cases (awakeIn w k) (member wakes k) (sym (awake-sent k) ∙ p) (h .present k) (λ q. tasks k q .1);
+    part = λ k p. rw (s .same .0, u) (h .part k p);
+    awake = λ k p. awake-sent k ∙ ap (λ i. i || member wakes k) (h .awake k p) ∙ sym (a k p);
+    again = λ k p. rw (s .woken k, s .same .0) (under (member (w .woken) k) (member wakes k) (member (w .part) k) ∙ ap (λ i. i || (member wakes k && member (w .part) k)) (h .again k p) ∙ ap (λ i. againAt m k || (member wakes k && i)) (h .part k p) ∙ sym (e k p));
+    waiting = λ l. rw (s .fresh l, s .same .1) (also (inside (w .fresh) l) (inside out l) (inside (w .taken) l) ∙ ap (λ i. i || inside out l) (h .waiting l) ∙ sym (b l));
+    late = λ l. rw (s .fresh l, s .same .0) (under (inside (w .fresh) l) (inside out l) (enters d (w .part) l) ∙ ap (λ i. i || (inside out l && enters d (w .part) l)) (h .late l) ∙ sym (f l));
+    dropped = λ l. rw (s .fresh l, s .dropped l, s .same .1) (missed (inside (w .dropped) l) (inside (w .fresh) l) (inside (w .taken) l) (inside out l) ∙ ap (λ i. i || (waitingIn w l && inside out l)) (h .dropped l) ∙ ap (λ i. droppedAt m l || (i && inside out l)) (h .waiting l) ∙ sym (c l));
+    held = λ l p. rw (s .same .0) (h .held l (rw (s .same .1) at p));
   }
 
 -- node x fires
 pub marks-fired : (d : Description) (rows : List ℕ) (x : ℕ) (w w′ : Words) → Sent w (wideAt rows (9 * x)) (getD rows (9 * x + 8) 0) w′ → (m : Machine) → WellFormed d → RowsOf d (d .«link_count») rows → Marks d w m → Marks d w′ (fire d x m)
 marks-fired d rows x w w′ s m g r h =
     let f : Fired d x (d .«link_count») m (fire d x m) = fired d g x m (h .sized) in
-    marks-sent d w w′ (wideAt rows (9 * x)) (getD rows (9 * x + 8) 0) s m (fire d x m) (woken d rows g r x) (f .sized) (λ k p. rw (r .wakes x k) (f .awake k p)) (λ l. rw (row-out d rows x g r l) (f .waiting l)) (λ l. rw (row-out d rows x g r l) (f .dropped l)) h
+    marks-sent d w w′ (wideAt rows (9 * x)) (getD rows (9 * x + 8) 0) s m (fire d x m) (woken d rows g r x) (f .sized) (f .used) (λ k p. rw (r .wakes x k) (f .awake k p)) (λ k p. rw (r .wakes x k) (f .again k p)) (λ l. rw (row-out d rows x g r l) (f .waiting l)) (λ l. f .late l ∙ ap (λ i. lateAt m l || i) (entered l (decLt l (d .«link_count»)))) (λ l. rw (row-out d rows x g r l) (f .dropped l)) h
+  where
+    n : ℕ
+    n = d .«link_count»
 
--- task h sleeps, and the marks on links into it clear
-and-not : (a e : Bool) → (a && not e) ≡ cond e false a
-and-not true true = refl
-and-not true false = refl
-and-not false true = refl
-and-not false false = refl
+    entered : (l : ℕ) → Dec (l < n) → (ltb l n && (eqb (linkAt d l .from) x && ltb 0 (usedAt m (linkAt d l .to)))) ≡ (inside (wideAt rows (9 * x)) l && enters d (w .part) l)
+    entered l (yes p) = rw (row-out d rows x g r l, lt-ltb l n p, h .part (linkAt d l .to) (to-most d (g .fields) l p .0)) refl
+    entered l (no p) = rw (row-out d rows x g r l, le-ltb l n (omega arith)) refl
 
-module _ (d : Description) (rows : List ℕ) (x : ℕ) (w w′ : Words) (alone : ℕ) (into : Wide) (o : into ≡ wideAt rows (9 * x + 4)) (s : (k : ℕ) → member alone k ≡ eqb k x) (a : (k : ℕ) → member (w′ .awake) k ≡ (member (w .awake) k && not (member alone k))) (b : (l : ℕ) → inside (w′ .waiting) l ≡ (inside (w .waiting) l && not (inside into l))) (e : w′ .dropped ≡ w .dropped) where
-  pub marks-slept : (m : Machine) → WellFormed d → RowsOf d (d .«link_count») rows → 1 ≤ x → x ≤ 32 → Marks d w m → Marks d w′ (clearInto d x (setAwake x false m))
-  marks-slept m g r p q h =
-      let m₁ : Machine = setAwake x false m in
-      let z : Sized m₁ = record { awakes = length-set (m .awake) (x - 1) false ∙ h .sized .awakes; useds = h .sized .useds; waitings = h .sized .waitings; droppeds = h .sized .droppeds; ages = h .sized .ages; fastests = h .sized .fastests } in
-      let f : Cleared d x (d .«link_count») m₁ (clearInto d x m₁) = cleared d g x m₁ z in
-      record {
-        sized = f .sized;
-        no-zero = a 0 ∙ rw (h .no-zero) refl;
-        present = λ k y. h .present k (and-left (member (w .awake) k) _ (sym (a k) ∙ y));
-        awake = λ k y. a k ∙ rw (s k, h .awake k y) (and-not (awakeAt m k) (eqb k x) ∙ sym (ap (λ (l : List Bool). getD l (k - 1) false) (f .awake) ∙ getD-task (m .awake) x false false k y p (omega (arith, h .sized .awakes))));
-        waiting = λ l. b l ∙ rw (h .waiting l, ap (λ i. inside i l) o ∙ row-into d rows x g r l) (sym (f .waiting l));
-        dropped = λ l. ap (λ i. inside i l) e ∙ h .dropped l ∙ sym (ap (λ (i : List Bool). getD i l false) (f .dropped));
-      }
+-- the run of task h is over: each part of the record that it leaves
+pub record Over (d : Description) (h : ℕ) (m m′ : Machine) : Type 0 where
+  pub sized : Sized m′
+  pub used : (k : ℕ) → 1 ≤ k → usedAt m′ k ≡ cond (eqb k h) 0 (usedAt m k)
+  pub awake : (k : ℕ) → 1 ≤ k → awakeAt m′ k ≡ cond (eqb k h) (againAt m h) (awakeAt m k)
+  pub again : (k : ℕ) → 1 ≤ k → againAt m′ k ≡ cond (eqb k h) false (againAt m k)
+  pub waiting : (l : ℕ) → waitingAt m′ l ≡ cond (ltb l (d .«link_count») && eqb (linkAt d l .to) h) (lateAt m l) (waitingAt m l)
+  pub late : (l : ℕ) → lateAt m′ l ≡ (lateAt m l && not (ltb l (d .«link_count») && eqb (linkAt d l .to) h))
+  pub dropped : (l : ℕ) → droppedAt m′ l ≡ droppedAt m l
 
--- the same marks in other words
-pub marks-same : (d : Description) (w w′ : Words) (m : Machine) → (w′ .awake ≡ w .awake) × (w′ .waiting ≡ w .waiting) × (w′ .dropped ≡ w .dropped) → Marks d w m → Marks d w′ m
-marks-same d w w′ m e h = record {
+pub over : (d : Description) (h : ℕ) (m : Machine) → WellFormed d → Sized m → 1 ≤ h → h ≤ 32 → Over d h m (ended d h m)
+over d h m g z p q =
+    let m₁ : Machine = complete h m in
+    let z₁ : Sized m₁ = record { awakes = length-set (m .awake) (h - 1) (againAt m h) ∙ z .awakes; useds = length-set (m .used) (h - 1) 0 ∙ z .useds; waitings = z .waitings; droppeds = z .droppeds; ages = z .ages; fastests = z .fastests; agains = length-set (m .again) (h - 1) false ∙ z .agains; lates = z .lates } in
+    let c : Cleared d h (d .«link_count») m₁ (clearInto d h m₁) = cleared d g h m₁ z₁ in
+    record {
+      sized = c .sized;
+      used = λ k o. rw (c .used) (getD-task (m .used) h 0 0 k o p (omega (arith, z .useds)));
+      awake = λ k o. rw (c .awake) (getD-task (m .awake) h (againAt m h) false k o p (omega (arith, z .awakes)));
+      again = λ k o. rw (c .again) (getD-task (m .again) h false false k o p (omega (arith, z .agains)));
+      waiting = c .waiting;
+      late = c .late;
+      dropped = λ l. ap (λ (i : List Bool). getD i l false) (c .dropped);
+    }
+
+-- what words say of a task, x telling whether it is h, and of a link, x telling whether it enters h: once a run that began in this tick is over,
+slept-awake : (w p x a : Bool) → (x ≡ true → p ≡ false) → (x ≡ true → a ≡ false) → ((w && not x) || p) ≡ cond x a (w || p)
+slept-awake w true true a f g = absurd (not-both refl (f refl))
+slept-awake true false true a f g = sym (g refl)
+slept-awake false false true a f g = sym (g refl)
+slept-awake true p false a f g = refl
+slept-awake false p false a f g = refl
+
+slept-again : (w p x : Bool) → ((w && not x) && p) ≡ cond x false (w && p)
+slept-again true p true = refl
+slept-again true p false = refl
+slept-again false p true = refl
+slept-again false p false = refl
+
+slept-waiting : (f t x a : Bool) → (x ≡ true → t ≡ false) → (x ≡ true → a ≡ false) → ((f && not x) || t) ≡ cond x a (f || t)
+slept-waiting = slept-awake
+
+slept-late : (f x e : Bool) → ((f && not x) && e) ≡ (f && e && not x)
+slept-late true true true = refl
+slept-late true true false = refl
+slept-late true false true = refl
+slept-late true false false = refl
+slept-late false x e = refl
+
+slept-dropped : (d f t x : Bool) → (x ≡ true → t ≡ false) → (d || ((f && not x) && t)) ≡ (d || (f && t))
+slept-dropped true f t x g = refl
+slept-dropped false true true true g = absurd (not-both refl (g refl))
+slept-dropped false true true false g = refl
+slept-dropped false true false true g = refl
+slept-dropped false true false false g = refl
+slept-dropped false false t x g = refl
+
+-- one that began before is over,
+done-part : (k : Bool) (u : ℕ) (p : Bool) → p ≡ ltb 0 u → (p && not k) ≡ ltb 0 (cond k 0 u)
+done-part true u true e = refl
+done-part true u false e = refl
+done-part false u true e = e
+done-part false u false e = e
+
+done-awake : (w p x a : Bool) → (x ≡ true → a ≡ w) → (w || (p && not x)) ≡ cond x a (w || p)
+done-awake true p true a f = sym (f refl)
+done-awake false true true a f = sym (f refl)
+done-awake false false true a f = sym (f refl)
+done-awake true p false a f = refl
+done-awake false true false a f = refl
+done-awake false false false a f = refl
+
+done-again : (w p x : Bool) → (w && (p && not x)) ≡ cond x false (w && p)
+done-again true true true = refl
+done-again true true false = refl
+done-again true false true = refl
+done-again true false false = refl
+done-again false p true = refl
+done-again false p false = refl
+
+done-enters : (l p q : Bool) → (l && (p && not q)) ≡ (l && p && not (l && q))
+done-enters true p q = refl
+done-enters false p q = refl
+
+done-late : (f e x : Bool) → (f && (e && not x)) ≡ (f && e && not x)
+done-late true e x = refl
+done-late false e x = refl
+
+done-dropped : (d f t x : Bool) → ((d || (f && (t && x))) || (f && (t && not x))) ≡ (d || (f && t))
+done-dropped true f t x = refl
+done-dropped false true true true = refl
+done-dropped false true true false = refl
+done-dropped false true false x = refl
+done-dropped false false t x = refl
+
+-- or one begins that is not over
+begun-part : (k : Bool) (u more : ℕ) (p : Bool) → p ≡ ltb 0 u → 0 < more → (p || k) ≡ ltb 0 (cond k more u)
+begun-part true u more true e o = sym (lt-ltb 0 more o)
+begun-part true u more false e o = sym (lt-ltb 0 more o)
+begun-part false u more true e o = e
+begun-part false u more false e o = e
+
+begun-awake : (w p x : Bool) → (x ≡ true → (w || p) ≡ true) → ((w && not x) || (p || x)) ≡ (w || p)
+begun-awake true true true f = refl
+begun-awake true false true f = refl
+begun-awake false true true f = refl
+begun-awake false false true f = absurd (not-both (f refl) refl)
+begun-awake true p false f = refl
+begun-awake false true false f = refl
+begun-awake false false false f = refl
+
+begun-again : (w p x : Bool) → (x ≡ true → p ≡ false) → ((w && not x) && (p || x)) ≡ (w && p)
+begun-again true true true f = absurd (not-both refl (f refl))
+begun-again true false true f = refl
+begun-again true true false f = refl
+begun-again true false false f = refl
+begun-again false p x f = refl
+
+begun-waiting : (f t x : Bool) → ((f && not x) || (t || (f && x))) ≡ (f || t)
+begun-waiting true true true = refl
+begun-waiting true true false = refl
+begun-waiting true false true = refl
+begun-waiting true false false = refl
+begun-waiting false true x = refl
+begun-waiting false false x = refl
+
+begun-enters : (l p q : Bool) → (l && (p || q)) ≡ (l && p || (l && q))
+begun-enters true p q = refl
+begun-enters false p q = refl
+
+begun-late : (f e x : Bool) → (x ≡ true → e ≡ false) → ((f && not x) && (e || x)) ≡ (f && e)
+begun-late = begun-again
+
+begun-dropped : (d f t x : Bool) → (x ≡ true → t ≡ false) → (d || ((f && not x) && (t || (f && x)))) ≡ (d || (f && t))
+begun-dropped true f t x g = refl
+begun-dropped false true true true g = absurd (not-both refl (g refl))
+begun-dropped false true false true g = refl
+begun-dropped false true true false g = refl
+begun-dropped false true false false g = refl
+begun-dropped false false t x g = refl
+
+-- task h, the links into it, and the words before and after
+module _ (d : Description) (rows : List ℕ) (h : ℕ) (w w′ : Words) (alone : ℕ) (into : Wide) (o : into ≡ wideAt rows (9 * h + 4)) (only : (k : ℕ) → member alone k ≡ eqb k h) (m : Machine) (g : WellFormed d) (r : RowsOf d (d .«link_count») rows) (p : 1 ≤ h) (q : h ≤ 32) (H : Marks d w m) where
+  -- the link at place l enters h
+  abbrev own : ℕ → Bool
+  own l = ltb l (d .«link_count») && eqb (linkAt d l .to) h
+
+  into-is : (l : ℕ) → inside into l ≡ own l
+  into-is l = ap (λ i. inside i l) o ∙ row-into d rows h g r l
+
+  -- by whether its task is part done
+  own-enters : (b : Bool) → member (w .part) h ≡ b → (l : ℕ) → own l ≡ true → enters d (w .part) l ≡ b
+  own-enters b e l x =
+      let y : linkAt d l .to ≡ h = eqb-true (linkAt d l .to) h (and-right (ltb l (d .«link_count»)) _ x) in
+      rw (and-left (ltb l (d .«link_count»)) _ x, y) e
+
+  abbrev untaken : Type 0
+  untaken = (l : ℕ) → own l ≡ true → inside (w .taken) l ≡ false
+
+  own-untaken : member (w .part) h ≡ false → untaken
+  own-untaken e l x = false-of (inside (w .taken) l) (λ t. not-both (H .held l t) (own-enters false e l x))
+
+  -- its run began in this tick and is over
+  module _ (unused : usedAt m h ≡ 0) (a : (k : ℕ) → member (w′ .woken) k ≡ (member (w .woken) k && not (member alone k))) (b : (l : ℕ) → inside (w′ .fresh) l ≡ (inside (w .fresh) l && not (inside into l))) (same : (w′ .part ≡ w .part) × (w′ .taken ≡ w .taken) × (w′ .dropped ≡ w .dropped)) where
+    off : member (w .part) h ≡ false
+    off = H .part h p ∙ ap (ltb 0) unused
+
+    off-at : (k : ℕ) → eqb k h ≡ true → member (w .part) k ≡ false
+    off-at k e = ap (member (w .part)) (eqb-true k h e) ∙ off
+
+    asleep : againAt m h ≡ false
+    asleep = sym (H .again h p) ∙ and-false-right (member (w .woken) h) _ off
+
+    left : (k : ℕ) → awakeIn w′ k ≡ true → awakeIn w k ≡ true
+    left k y = or-cases (member (w′ .woken) k) (member (w′ .part) k) y (λ x. or-left (member (w .woken) k) _ (and-left (member (w .woken) k) _ (sym (a k) ∙ x))) (λ x. or-right (member (w .woken) k) _ (ap (λ s. member s k) (sym (same .0)) ∙ x))
+
+    pub marks-slept : Marks d w′ (ended d h m)
+    marks-slept =
+        let c : Over d h m (ended d h m) = over d h m g (H .sized) p q in
+        record {
+          sized = c .sized;
+          no-zero = false-of (awakeIn w′ 0) (λ y. not-both (left 0 y) (H .no-zero));
+          present = λ k y. H .present k (left k y);
+          part = λ k y. ap (λ s. member s k) (same .0) ∙ none k y (eqb k h) refl ∙ sym (ap (ltb 0) (c .used k y));
+          awake = λ k y. rw (a k, only k, same .0) (slept-awake (member (w .woken) k) (member (w .part) k) (eqb k h) (againAt m h) (off-at k) (λ x. asleep) ∙ ap (cond (eqb k h) (againAt m h)) (H .awake k y) ∙ sym (c .awake k y));
+          again = λ k y. rw (a k, only k, same .0) (slept-again (member (w .woken) k) (member (w .part) k) (eqb k h) ∙ ap (cond (eqb k h) false) (H .again k y) ∙ sym (c .again k y));
+          waiting = λ l. rw (b l, into-is l, same .1) (slept-waiting (inside (w .fresh) l) (inside (w .taken) l) (own l) (lateAt m l) (own-untaken off l) (λ x. sym (H .late l) ∙ and-false-right (inside (w .fresh) l) _ (own-enters false off l x)) ∙ ap (cond (own l) (lateAt m l)) (H .waiting l) ∙ sym (c .waiting l));
+          late = λ l. rw (b l, into-is l, same .0) (slept-late (inside (w .fresh) l) (own l) (enters d (w .part) l) ∙ ap (λ i. i && not (own l)) (H .late l) ∙ sym (c .late l));
+          dropped = λ l. rw (b l, into-is l, same .1, same .2) (slept-dropped (inside (w .dropped) l) (inside (w .fresh) l) (inside (w .taken) l) (own l) (own-untaken off l) ∙ H .dropped l ∙ sym (c .dropped l));
+          held = λ l y. rw (same .0) (H .held l (rw (same .1) at y));
+        }
+      where
+        none : (k : ℕ) → 1 ≤ k → (x : Bool) → eqb k h ≡ x → member (w .part) k ≡ ltb 0 (cond (eqb k h) 0 (usedAt m k))
+        none k y true e = rw e (off-at k e)
+        none k y false e = rw e (H .part k y)
+
+  -- its run began before and is over
+  module _ (some : 0 < usedAt m h) (a : (k : ℕ) → member (w′ .part) k ≡ (member (w .part) k && not (member alone k))) (b : (l : ℕ) → inside (w′ .taken) l ≡ (inside (w .taken) l && not (inside into l))) (e : (l : ℕ) → inside (w′ .dropped) l ≡ (inside (w .dropped) l || (inside (w .fresh) l && (inside (w .taken) l && inside into l)))) (same : (w′ .woken ≡ w .woken) × (w′ .fresh ≡ w .fresh)) where
+    on : member (w .part) h ≡ true
+    on = H .part h p ∙ lt-ltb 0 (usedAt m h) some
+
+    woken-again : (k : ℕ) → eqb k h ≡ true → againAt m h ≡ member (w .woken) k
+    woken-again k x = sym (H .again h p) ∙ and-on (member (w .woken) h) _ on ∙ ap (member (w .woken)) (sym (eqb-true k h x))
+
+    rest : (k : ℕ) → awakeIn w′ k ≡ true → awakeIn w k ≡ true
+    rest k y = or-cases (member (w′ .woken) k) (member (w′ .part) k) y (λ x. or-left (member (w .woken) k) _ (ap (λ s. member s k) (sym (same .0)) ∙ x)) (λ x. or-right (member (w .woken) k) _ (and-left (member (w .part) k) _ (sym (a k) ∙ x)))
+
+    enters-rest : (l : ℕ) → enters d (w′ .part) l ≡ (enters d (w .part) l && not (own l))
+    enters-rest l = rw (a (linkAt d l .to), only (linkAt d l .to)) (done-enters (ltb l (d .«link_count»)) (member (w .part) (linkAt d l .to)) (eqb (linkAt d l .to) h))
+
+    pub marks-completed : Marks d w′ (ended d h m)
+    marks-completed =
+        let c : Over d h m (ended d h m) = over d h m g (H .sized) p q in
+        record {
+          sized = c .sized;
+          no-zero = false-of (awakeIn w′ 0) (λ y. not-both (rest 0 y) (H .no-zero));
+          present = λ k y. H .present k (rest k y);
+          part = λ k y. a k ∙ rw (only k) (done-part (eqb k h) (usedAt m k) (member (w .part) k) (H .part k y)) ∙ sym (ap (ltb 0) (c .used k y));
+          awake = λ k y. rw (same .0, a k, only k) (done-awake (member (w .woken) k) (member (w .part) k) (eqb k h) (againAt m h) (woken-again k) ∙ ap (cond (eqb k h) (againAt m h)) (H .awake k y) ∙ sym (c .awake k y));
+          again = λ k y. rw (same .0, a k, only k) (done-again (member (w .woken) k) (member (w .part) k) (eqb k h) ∙ ap (cond (eqb k h) false) (H .again k y) ∙ sym (c .again k y));
+          waiting = λ l. rw (same .1, b l, into-is l) (done-awake (inside (w .fresh) l) (inside (w .taken) l) (own l) (lateAt m l) (λ x. sym (H .late l) ∙ and-on (inside (w .fresh) l) _ (own-enters true on l x)) ∙ ap (cond (own l) (lateAt m l)) (H .waiting l) ∙ sym (c .waiting l));
+          late = λ l. rw (same .1, enters-rest l) (done-late (inside (w .fresh) l) (enters d (w .part) l) (own l) ∙ ap (λ i. i && not (own l)) (H .late l) ∙ sym (c .late l));
+          dropped = λ l. rw (same .1, b l, e l, into-is l) (done-dropped (inside (w .dropped) l) (inside (w .fresh) l) (inside (w .taken) l) (own l) ∙ H .dropped l ∙ sym (c .dropped l));
+          held = λ l y. enters-rest l ∙ both (enters d (w .part) l) _ (H .held l (and-left (inside (w .taken) l) _ (sym (b l) ∙ y))) (ap not (sym (into-is l)) ∙ and-right (inside (w .taken) l) _ (sym (b l) ∙ y));
+        }
+
+  -- its run begins and is not over
+  module _ (more : ℕ) (unused : usedAt m h ≡ 0) (wakes : awakeAt m h ≡ true) (grows : 0 < more) (a : (k : ℕ) → member (w′ .woken) k ≡ (member (w .woken) k && not (member alone k))) (c : (k : ℕ) → member (w′ .part) k ≡ (member (w .part) k || eqb k h)) (b : (l : ℕ) → inside (w′ .fresh) l ≡ (inside (w .fresh) l && not (inside into l))) (t : (l : ℕ) → inside (w′ .taken) l ≡ (inside (w .taken) l || (inside (w .fresh) l && inside into l))) (same : w′ .dropped ≡ w .dropped) where
+    fresh-off : member (w .part) h ≡ false
+    fresh-off = H .part h p ∙ ap (ltb 0) unused
+
+    used-now : (k : ℕ) → 1 ≤ k → usedAt (setUsed h more m) k ≡ cond (eqb k h) more (usedAt m k)
+    used-now k y = getD-task (m .used) h more 0 k y p (omega (arith, H .sized .useds))
+
+    woken-h : (k : ℕ) → eqb k h ≡ true → awakeIn w k ≡ true
+    woken-h k x = ap (awakeIn w) (eqb-true k h x) ∙ H .awake h p ∙ wakes
+
+    awake-same : (k : ℕ) → awakeIn w′ k ≡ awakeIn w k
+    awake-same k = rw (a k, only k, c k) (begun-awake (member (w .woken) k) (member (w .part) k) (eqb k h) (woken-h k))
+
+    enters-more : (l : ℕ) → enters d (w′ .part) l ≡ (enters d (w .part) l || own l)
+    enters-more l = rw (c (linkAt d l .to)) (begun-enters (ltb l (d .«link_count»)) (member (w .part) (linkAt d l .to)) (eqb (linkAt d l .to) h))
+
+    pub marks-started : Marks d w′ (setUsed h more m)
+    marks-started = record {
+      sized = record { awakes = H .sized .awakes; useds = length-set (m .used) (h - 1) more ∙ H .sized .useds; waitings = H .sized .waitings; droppeds = H .sized .droppeds; ages = H .sized .ages; fastests = H .sized .fastests; agains = H .sized .agains; lates = H .sized .lates };
+      no-zero = awake-same 0 ∙ H .no-zero;
+      present = λ k y. H .present k (sym (awake-same k) ∙ y);
+      part = λ k y. c k ∙ begun-part (eqb k h) (usedAt m k) more (member (w .part) k) (H .part k y) grows ∙ sym (ap (ltb 0) (used-now k y));
+      awake = λ k y. awake-same k ∙ H .awake k y;
+      again = λ k y. rw (a k, only k, c k) (begun-again (member (w .woken) k) (member (w .part) k) (eqb k h) (λ x. ap (member (w .part)) (eqb-true k h x) ∙ fresh-off) ∙ H .again k y);
+      waiting = λ l. rw (b l, t l, into-is l) (begun-waiting (inside (w .fresh) l) (inside (w .taken) l) (own l) ∙ H .waiting l);
+      late = λ l. rw (b l, into-is l, enters-more l) (begun-late (inside (w .fresh) l) (enters d (w .part) l) (own l) (own-enters false fresh-off l) ∙ H .late l);
+      dropped = λ l. rw (b l, t l, into-is l, same) (begun-dropped (inside (w .dropped) l) (inside (w .fresh) l) (inside (w .taken) l) (own l) (own-untaken fresh-off l) ∙ H .dropped l);
+      held = λ l y. enters-more l ∙ or-cases (inside (w .taken) l) (inside (w .fresh) l && inside into l) (sym (t l) ∙ y) (λ x. or-left (enters d (w .part) l) _ (H .held l x)) (λ x. or-right (enters d (w .part) l) _ (sym (into-is l) ∙ and-right (inside (w .fresh) l) _ x));
+    }
+
+-- a run that began before goes on
+pub marks-more : (d : Description) (w : Words) (m : Machine) (h more : ℕ) → 1 ≤ h → h ≤ 32 → 0 < usedAt m h → 0 < more → Marks d w m → Marks d w (setUsed h more m)
+marks-more d w m h more p q some grows H = record {
+  sized = record { awakes = H .sized .awakes; useds = length-set (m .used) (h - 1) more ∙ H .sized .useds; waitings = H .sized .waitings; droppeds = H .sized .droppeds; ages = H .sized .ages; fastests = H .sized .fastests; agains = H .sized .agains; lates = H .sized .lates };
+  no-zero = H .no-zero;
+  present = H .present;
+  part = λ k y. H .part k y ∙ by k (eqb k h) refl ∙ sym (ap (ltb 0) (getD-task (m .used) h more 0 k y p (omega (arith, H .sized .useds))));
+  awake = H .awake;
+  again = H .again;
+  waiting = H .waiting;
+  late = H .late;
+  dropped = H .dropped;
+  held = H .held;
+}
+  where
+    by : (k : ℕ) (x : Bool) → eqb k h ≡ x → ltb 0 (usedAt m k) ≡ ltb 0 (cond (eqb k h) more (usedAt m k))
+    by k true e = rw (e, eqb-true k h e) (lt-ltb 0 (usedAt m h) some ∙ sym (lt-ltb 0 more grows))
+    by k false e = rw e refl
+
+-- the same marks in words that differ otherwise, and in a record that does
+pub record SameMarks (w w′ : Words) : Type 0 where
+  pub woken : w′ .woken ≡ w .woken
+  pub part : w′ .part ≡ w .part
+  pub fresh : w′ .fresh ≡ w .fresh
+  pub taken : w′ .taken ≡ w .taken
+  pub dropped : w′ .dropped ≡ w .dropped
+
+pub marks-same : (d : Description) (w w′ : Words) (m : Machine) → SameMarks w w′ → Marks d w m → Marks d w′ m
+marks-same d w w′ m s h = record {
   sized = h .sized;
-  no-zero = ap (λ s. member s 0) (e .0) ∙ h .no-zero;
-  present = λ k p. h .present k (sym (ap (λ s. member s k) (e .0)) ∙ p);
-  awake = λ k p. ap (λ s. member s k) (e .0) ∙ h .awake k p;
-  waiting = λ l. ap (λ s. inside s l) (e .1) ∙ h .waiting l;
-  dropped = λ l. ap (λ s. inside s l) (e .2) ∙ h .dropped l;
+  no-zero = rw (s .woken, s .part) (h .no-zero);
+  present = λ k p. h .present k (rw (s .woken, s .part) at p);
+  part = λ k p. rw (s .part) (h .part k p);
+  awake = λ k p. rw (s .woken, s .part) (h .awake k p);
+  again = λ k p. rw (s .woken, s .part) (h .again k p);
+  waiting = λ l. rw (s .fresh, s .taken) (h .waiting l);
+  late = λ l. rw (s .fresh, s .part) (h .late l);
+  dropped = λ l. rw (s .fresh, s .taken, s .dropped) (h .dropped l);
+  held = λ l p. rw (s .part) (h .held l (rw (s .taken) at p));
 }
 
--- a change of another part leaves the marks
-pub marks-used : (d : Description) (w : Words) (m : Machine) (k x : ℕ) → Marks d w m → Marks d w (setUsed k x m)
-marks-used d w m k x h = record {
-  sized = record { awakes = h .sized .awakes; useds = length-set (m .used) (k - 1) x ∙ h .sized .useds; waitings = h .sized .waitings; droppeds = h .sized .droppeds; ages = h .sized .ages; fastests = h .sized .fastests };
+pub marks-aged : (d : Description) (n : ℕ) (w : Words) (m m′ : Machine) → Aged d n m m′ → Marks d w m → Marks d w m′
+marks-aged d n w m m′ f h = record {
+  sized = f .sized;
   no-zero = h .no-zero;
   present = h .present;
-  awake = h .awake;
-  waiting = h .waiting;
-  dropped = h .dropped;
+  part = λ k p. rw (f .used) (h .part k p);
+  awake = λ k p. rw (f .awake) (h .awake k p);
+  again = λ k p. rw (f .again) (h .again k p);
+  waiting = λ l. rw (f .waiting) (h .waiting l);
+  late = λ l. rw (f .late) (h .late l);
+  dropped = λ l. rw (f .dropped) (h .dropped l);
+  held = h .held;
 }
 
 -- the highest awake task is the greatest member, and there is none without members
-awake-one : (d : Description) (w : Words) (m : Machine) → Marks d w m → 0 < highest d m → member (w .awake) (highest d m) ≡ true
+awake-one : (d : Description) (w : Words) (m : Machine) → Marks d w m → 0 < highest d m → awakeIn w (highest d m) ≡ true
 awake-one d w m h p = h .awake (highest d m) (omega arith) ∙ highest-awake (m .awake) (d .«task_count») p
 
-pub highest-is : (d : Description) (w : Words) (m : Machine) (k : ℕ) → Marks d w m → LastIn (w .awake) k → highest d m ≡ k
-highest-is d w m k h f = go (cmp (highest d m) k)
+pub highest-is : (d : Description) (w : Words) (m : Machine) (awake k : ℕ) → Marks d w m → ((j : ℕ) → member awake j ≡ awakeIn w j) → LastIn awake k → highest d m ≡ k
+highest-is d w m awake k h same-set f = go (cmp (highest d m) k)
   where
+    in-words : (j : ℕ) → member awake j ≡ true → awakeIn w j ≡ true
+    in-words j e = sym (same-set j) ∙ e
+
     some : 1 ≤ k
-    some = at k (f .in-set)
+    some = at k (in-words k (f .in-set))
       where
-        at : (k : ℕ) → member (w .awake) k ≡ true → 1 ≤ k
+        at : (k : ℕ) → awakeIn w k ≡ true → 1 ≤ k
         at zero e = absurd (not-both e (h .no-zero))
         at (suc k) e = omega arith
 
     go : Cmp (highest d m) k → highest d m ≡ k
-    go (less p) = absurd (not-both (sym (h .awake k some) ∙ f .in-set) (highest-above (m .awake) (d .«task_count») k p (h .present k (f .in-set))))
+    go (less p) = absurd (not-both (sym (h .awake k some) ∙ in-words k (f .in-set)) (highest-above (m .awake) (d .«task_count») k p (h .present k (in-words k (f .in-set)))))
     go (same p) = p
-    go (more p) = absurd (not-both (awake-one d w m h (omega arith)) (f .none-after (highest d m) p))
+    go (more p) = absurd (not-both (same-set (highest d m) ∙ awake-one d w m h (omega arith)) (f .none-after (highest d m) p))
 
-pub highest-none : (d : Description) (w : Words) (m : Machine) → Marks d w m → w .awake ≡ 0 → highest d m ≡ 0
-highest-none d w m h e = go (highest d m) refl
+pub highest-none : (d : Description) (w : Words) (m : Machine) → Marks d w m → ((j : ℕ) → awakeIn w j ≡ false) → highest d m ≡ 0
+highest-none d w m h none = go (highest d m) refl
   where
     go : (k : ℕ) → highest d m ≡ k → highest d m ≡ 0
     go zero q = q
-    go (suc k) q = absurd (not-both (awake-one d w m h (omega arith)) (ap (λ s. member s (highest d m)) e ∙ member-none (highest d m)))
+    go (suc k) q = absurd (not-both (awake-one d w m h (omega arith)) (none (highest d m)))

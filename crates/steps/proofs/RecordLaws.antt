@@ -1,5 +1,5 @@
 -- A record and the words that hold it: marks one by one, ages, the start, and the rules. Assumes nothing.
-use Prim.Native.Nat.{ℕ, zero, suc, _+_, _-_, _/_, _%_, _≤_, _<_, min}
+use Prim.Native.Nat.{ℕ, zero, suc, _+_, _-_, _*_, _/_, _%_, _≤_, _<_, min}
 use mathlib.Core.Path.{_≡_, refl, sym, ap, subst, _∙_}
 use mathlib.Core.Bool.{Bool, true, false, _||_, _&&_, not, cond}
 use mathlib.Core.List.{List, [], _∷_}
@@ -9,28 +9,32 @@ use native.Mathlib.Decide.{decLt}
 use lib.ListN.{getD, length, replicate, List·getD-eq-default}
 use lib.Seq.{ext-getD}
 use lib.Dec.{eqb, ltb, leb}
-use borrow.Author.Tests.{eqb-true, eq-eqb, ne-eqb, leb-true, lt-ltb, le-ltb, lt-leb, ltb-true, ltb-false, not-true}
+use borrow.Author.Tests.{eqb-true, eq-eqb, ne-eqb, leb-true, le-leb, lt-ltb, le-ltb, lt-leb, ltb-true, not-true}
 use Rattle.model.specs.declared.Description.{Description}
 use Rattle.model.specs.declared.Policy.{Policy}
 use Rattle.model.specs.declared.Policy.the-variants.{Preemptive, HoldOn}
 use Rattle.model.specs.declared.Machine.{Machine}
-use Rattle.model.specs.Basics.{allN}
+use Rattle.model.specs.Basics.{allN, anyN}
+use Rattle.model.specs.Graph.{linkAt, runOf}
 use Rattle.model.specs.Verdicts.{onKnob}
-use Rattle.model.specs.Machine.{awakeAt, usedAt, ageAt, fastestAt, longestGap, idle, taskRule, linkRule, sourceRule, rulesKept, partsDone, aloneRule}
-use Rattle.lemmas.proofs.Tests.{Cmp, less, same, more, cmp, not-both, false-of, and-left, and-right}
+use Rattle.model.specs.Machine.{awakeAt, usedAt, waitingAt, droppedAt, againAt, lateAt, ageAt, fastestAt, longestGap, idle, taskRule, linkRule, sourceRule, againRule, lateRule, rulesKept, partsDone, aloneRule}
+use Rattle.lemmas.proofs.Tests.{Cmp, less, same, more, cmp, same-test, not-both, false-of, both, and-left, and-right, and-false-left, and-false-right, or-new, or-else, or-false}
 use Rattle.lemmas.proofs.Table.{getD-tab, length-tab, getD-same}
-use Rattle.lemmas.proofs.Range.{all-at, one-only}
+use Rattle.lemmas.proofs.Range.{any-at, any-found, all-at, one-only}
+use Rattle.theory.proofs.Links.{to-most}
 use Rattle.theory.proofs.WellFormed.{WellFormed}
 use Rattle.theory.proofs.Spacing.{gap-most}
 use Rattle.assurance.proofs.Firing.{Sized}
 use Rattle.sets.specs.declared.wide.Wide.{Wide}
-use Rattle.sets.specs.Sets.{member}
+use Rattle.sets.specs.Sets.{member, LastIn}
 use Rattle.sets.specs.Wide.{wordIn, inside}
 use Rattle.sets.proofs.SetLaws.{member-none}
 use Rattle.steps.specs.declared.words.Words.{Words}
 use Rattle.spacings.specs.Gaps.{GapsOf}
-use Rattle.steps.specs.Words.{Holds, holdsOn, Goes, Keeps, raisedTo}
-use Rattle.steps.specs.Record.{OnePart, AwakeOf, AwakeIn, LinksOf, AgesOf, SinceOf, Begins}
+use Rattle.wiring.specs.Rows.{RowsOf}
+use Rattle.steps.specs.Words.{wideAt, awakeIn, againIn, waitingIn, droppedIn, enters, lateIn, Holds, holdsOn, Goes, Keeps, raisedTo}
+use Rattle.steps.specs.Record.{OnePart, TasksIn, PartIn, Into, AgesOf, SinceOf, Begins}
+use Rattle.steps.proofs.MarkLaws.{row-into}
 use Rattle.lemmas.proofs.Bools.{and-off, and-swap, less-more}
 
 -- a number that is marked
@@ -87,55 +91,43 @@ part-more f set k set′ h e =
         go true f = eq-eqb (suc j) (k + 1) (omega (arith, eqb-true j k f)) ∙ sym f
         go false f = false-of (eqb (suc j) (k + 1)) (λ y. not-both (eq-eqb j k (omega (arith, eqb-true (suc j) (k + 1) y))) f) ∙ sym f
 
--- who goes on: nobody, or the task that is part done
-pub part-none : (p : Policy) (used : List ℕ) → holdsOn p ≡ false → Goes p 0 used
-part-none p used e = record {
+-- who goes on: nobody where none is part done, and on the hold-on model the one that is
+pub going-none : (p : Policy) (used : List ℕ) (part : ℕ) → part ≡ 0 → PartIn used part → Goes p 0 used
+going-none p used part e h = record {
   low = omega arith;
-  here = λ k o h. ne-eqb k 0 (λ z. omega arith) ∙ sym (ap (λ (b : Bool). b && ltb 0 (getD used (k - 1) 0)) e);
+  here = λ k o b. ne-eqb k 0 (λ z. omega arith) ∙ sym (ap (λ x. holdsOn p && x) (sym (h .1 k o) ∙ ap (λ s. member s k) e ∙ member-none k) ∙ and-off (holdsOn p));
 }
 
--- the last of the first k tasks that is part done, 0 for none
-pub record LastPart (used : List ℕ) (k found : ℕ) : Type 0 where
-  pub within : found ≤ k
-  pub none : found ≡ 0 → (j : ℕ) → j < k → getD used j 0 ≡ 0
-  pub some : 0 < found → 0 < getD used (found - 1) 0
-
-pub last-more : (used : List ℕ) (k found found′ : ℕ) → found′ ≡ cond (ltb 0 (getD used k 0)) (k + 1) found → LastPart used k found → LastPart used (k + 1) found′
-last-more used k found found′ e r = go (ltb 0 (getD used k 0)) refl e
+pub going-one : (p : Policy) (used : List ℕ) (part found : ℕ) → length used ≡ 32 → PartIn used part → LastIn part found → (holdsOn p ≡ true → OnePart used) → Goes p (cond (holdsOn p) found 0) used
+going-one p used part found z h f one = go (holdsOn p) refl
   where
-    go : (b : Bool) → ltb 0 (getD used k 0) ≡ b → found′ ≡ cond b (k + 1) found → LastPart used (k + 1) found′
-    go true q z = record {
-      within = omega arith;
-      none = λ y j h. absurd (omega arith);
-      some = λ y. let n : found′ - 1 ≡ k = omega arith in rw n (ltb-true 0 (getD used k 0) q);
-    }
-    go false q z = record {
-      within = omega (arith, r .within);
-      none = λ y j h. at j h (cmp j k) y;
-      some = λ y. rw z (r .some (omega arith));
-    }
+    some : 1 ≤ found
+    some = at found (f .in-set)
       where
-        at : (j : ℕ) → j < k + 1 → Cmp j k → found′ ≡ 0 → getD used j 0 ≡ 0
-        at j h (less x) y = r .none (omega arith) j x
-        at j h (same x) y = rw x (omega (arith, ltb-false 0 (getD used k 0) q))
-        at j h (more x) y = absurd (omega arith)
+        at : (k : ℕ) → member part k ≡ true → 1 ≤ k
+        at zero e = absurd (not-both e (h .0))
+        at (suc k) e = omega arith
 
-pub part-done : (p : Policy) (used : List ℕ) (found : ℕ) → holdsOn p ≡ true → LastPart used 32 found → OnePart used → Goes p found used
-part-done p used found e r one = record { low = r .within; here = λ k o h. rw e (at k o h (cmp 0 (getD used (k - 1) 0)) (cmp 0 found)) }
-  where
-    at : (k : ℕ) → 1 ≤ k → k ≤ 32 → Cmp 0 (getD used (k - 1) 0) → Cmp 0 found → eqb k found ≡ ltb 0 (getD used (k - 1) 0)
-    at k o h (less u) (less f) =
-        let q : k - 1 ≡ found - 1 = one (k - 1) (found - 1) (omega arith) (omega (arith, r .within)) u (r .some f) in
-        eq-eqb k found (omega arith) ∙ sym (lt-ltb 0 (getD used (k - 1) 0) u)
-    at k o h (less u) (same f) = absurd (omega (arith, r .none (sym f) (k - 1) (omega arith)))
-    at k o h (same u) f = ne-eqb k found (λ z. no z (cmp 0 found)) ∙ sym (le-ltb 0 (getD used (k - 1) 0) (omega arith))
+    spent : 0 < getD used (found - 1) 0
+    spent = ltb-true 0 (getD used (found - 1) 0) (sym (h .1 found some) ∙ f .in-set)
+
+    most : found ≤ 32
+    most = by (decLt 32 found)
       where
-        no : k ≡ found → Cmp 0 found → ⊥
-        no z (less y) = omega (arith, r .some y, ap (λ i. getD used (i - 1) 0) z)
-        no z (same y) = omega arith
-        no z (more y) = omega arith
-    at k o h (less u) (more f) = absurd (omega arith)
-    at k o h (more u) f = absurd (omega arith)
+        by : Dec (32 < found) → found ≤ 32
+        by (yes q) = absurd (omega (arith, spent, List·getD-eq-default used 0 {n = found - 1} (omega arith)))
+        by (no q) = omega arith
+
+    go : (b : Bool) → holdsOn p ≡ b → Goes p (cond (holdsOn p) found 0) used
+    go false e = record { low = rw e (omega arith); here = λ k o b. rw e (ne-eqb k 0 (λ y. omega arith)) }
+    go true e = record { low = rw e most; here = λ k o b. rw e (at k o b (cmp 0 (getD used (k - 1) 0))) }
+      where
+        at : (k : ℕ) → 1 ≤ k → k ≤ 32 → Cmp 0 (getD used (k - 1) 0) → eqb k found ≡ ltb 0 (getD used (k - 1) 0)
+        at k o b (less u) =
+            let q : k - 1 ≡ found - 1 = one e (k - 1) (found - 1) (omega arith) (omega (arith, most)) u spent in
+            eq-eqb k found (omega (arith, some)) ∙ sym (lt-ltb 0 (getD used (k - 1) 0) u)
+        at k o b (same u) = ne-eqb k found (λ y. omega (arith, spent, ap (λ i. getD used (i - 1) 0) y)) ∙ sym (le-ltb 0 (getD used (k - 1) 0) (omega arith))
+        at k o b (more u) = absurd (omega arith)
 
 -- the rule of one part done, task by task
 pub one-part : (p : Policy) (m : Machine) → aloneRule p m ≡ true → holdsOn p ≡ true → OnePart (m .used)
@@ -147,44 +139,83 @@ one-part HoldOn m e h = λ j k p q u v.
     let z : 1 + j ≡ 1 + k = one-only (λ i. ltb 0 (usedAt m i)) 1 32 (leb-true _ 1 e) (1 + j) (1 + k) (omega arith) (omega arith) (omega arith) (omega arith) (rw a (lt-ltb 0 (getD (m .used) j 0) u)) (rw b (lt-ltb 0 (getD (m .used) k 0) v)) in
     omega arith
 
--- the awake tasks of a word
-pub awake-done : (awake : List Bool) (set : ℕ) → length awake ≡ 32 → (member set 0 ≡ false) × ((j : ℕ) → member set (suc j) ≡ (ltb j 32 && getD awake j false)) → AwakeIn awake set
-awake-done awake set z h = (h .0, λ k p. let e : suc (k - 1) ≡ k = omega arith in subst (λ i. member set i ≡ getD awake (k - 1) false) e (h .1 (k - 1) ∙ at (k - 1) (decLt (k - 1) 32)))
+-- the tasks of a word, all passed
+pub tasks-done : (f : ℕ → Bool) (set : ℕ) → ((j : ℕ) → 32 ≤ j → f j ≡ false) → (member set 0 ≡ false) × ((j : ℕ) → member set (suc j) ≡ (ltb j 32 && f j)) → (member set 0 ≡ false) × ((k : ℕ) → 1 ≤ k → member set k ≡ f (k - 1))
+tasks-done f set beyond h = (h .0, λ k p. let e : suc (k - 1) ≡ k = omega arith in subst (λ i. member set i ≡ f (k - 1)) e (h .1 (k - 1) ∙ at (k - 1) (decLt (k - 1) 32)))
   where
-    at : (j : ℕ) → Dec (j < 32) → (ltb j 32 && getD awake j false) ≡ getD awake j false
+    at : (j : ℕ) → Dec (j < 32) → (ltb j 32 && f j) ≡ f j
     at j (yes p) = rw (lt-ltb j 32 p) refl
-    at j (no p) = rw (le-ltb j 32 (omega arith)) (sym (List·getD-eq-default awake false {n = j} (omega arith)))
+    at j (no p) = rw (le-ltb j 32 (omega arith)) (sym (beyond j (omega arith)))
+
+-- the links into some tasks, by the description
+pub into-is : (d : Description) (rows : List ℕ) (tasks : ℕ) (r : Wide) → WellFormed d → RowsOf d (d .«link_count») rows → Into rows tasks r → (l : ℕ) → inside r l ≡ enters d tasks l
+into-is d rows tasks r g w h l = h l ∙ same-test (anyN p 0 33) (enters d tasks l) to back
+  where
+    p : ℕ → Bool
+    p k = member tasks k && inside (wideAt rows (9 * k + 4)) l
+
+    to : anyN p 0 33 ≡ true → enters d tasks l ≡ true
+    to e =
+        let z = any-found p 0 33 e in
+        let y : (ltb l (d .«link_count») && eqb (linkAt d l .to) (z .at)) ≡ true = sym (row-into d rows (z .at) g w l) ∙ and-right (member tasks (z .at)) _ (z .passes) in
+        let q : linkAt d l .to ≡ z .at = eqb-true (linkAt d l .to) (z .at) (and-right (ltb l (d .«link_count»)) _ y) in
+        both (ltb l (d .«link_count»)) _ (and-left (ltb l (d .«link_count»)) _ y) (ap (member tasks) q ∙ and-left (member tasks (z .at)) _ (z .passes))
+
+    back : enters d tasks l ≡ true → anyN p 0 33 ≡ true
+    back e =
+        let a : ltb l (d .«link_count») ≡ true = and-left (ltb l (d .«link_count»)) _ e in
+        let i : l < d .«link_count» = ltb-true l (d .«link_count») a in
+        let k : ℕ = linkAt d l .to in
+        any-at p 0 33 k (omega arith) (omega (arith, to-most d (g .fields) l i .1)) (both (member tasks k) _ (and-right (ltb l (d .«link_count»)) _ e) (row-into d rows k g w l ∙ both (ltb l (d .«link_count»)) _ a (eq-eqb k k refl)))
 
 -- the record that words hold is the record of their lists
-pub unpacked : (d : Description) (gaps : List ℕ) (sources : ℕ) (w : Words) (used since fastest : List ℕ) (m : Machine) (aw wa dr : List Bool) (ag : List ℕ) → d .«source_count» ≡ sources → GapsOf d 200 gaps → Holds d w used since m → fastest ≡ m .fastest → AwakeOf (w .awake) aw → LinksOf (w .waiting) wa → LinksOf (w .dropped) dr → AgesOf gaps sources since (w .tick) ag → record { awake = aw; used = used; waiting = wa; dropped = dr; ages = ag; fastest = fastest } ≡ m
-unpacked d gaps sources w used since fastest m aw wa dr ag q g h k a b c e =
-    whole (ext-getD false aw (m .awake) (a .0 ∙ sym (h .marks .sized .awakes)) (λ k p. let s : k + 1 - 1 ≡ k = omega arith in a .1 k (omega (arith, a .0)) ∙ h .marks .awake (k + 1) (omega arith) ∙ ap (λ i. getD (m .awake) i false) s))
-    (h .same-used)
-    (ext-getD false wa (m .waiting) (b .0 ∙ sym (h .marks .sized .waitings)) (λ l p. b .1 l (omega (arith, b .0)) ∙ h .marks .waiting l))
-    (ext-getD false dr (m .dropped) (c .0 ∙ sym (h .marks .sized .droppeds)) (λ l p. c .1 l (omega (arith, c .0)) ∙ h .marks .dropped l))
-    (ext-getD 0 ag (m .ages) (e .many ∙ sym (h .marks .sized .ages)) (λ u p. age u (decLt u (d .«source_count»))))
-    k
-  where
-    whole : aw ≡ m .awake → used ≡ m .used → wa ≡ m .waiting → dr ≡ m .dropped → ag ≡ m .ages → fastest ≡ m .fastest → record { awake = aw; used = used; waiting = wa; dropped = dr; ages = ag; fastest = fastest } ≡ m
-    whole p q r s t k = rw (p, q, r, s, t, k) refl
+pub record Listed (d : Description) (gaps : List ℕ) (sources : ℕ) (w : Words) (since : List ℕ) (aw wa dr : List Bool) (ages : List ℕ) (ag la : List Bool) : Type 0 where
+  pub awake : (length aw ≡ 32) × ((k : ℕ) → k < 32 → getD aw k false ≡ awakeIn w (k + 1))
+  pub waiting : (length wa ≡ 256) × ((l : ℕ) → l < 256 → getD wa l false ≡ waitingIn w l)
+  pub dropped : (length dr ≡ 256) × ((l : ℕ) → l < 256 → getD dr l false ≡ droppedIn w l)
+  pub aged : AgesOf gaps sources since (w .tick) ages
+  pub again : (length ag ≡ 32) × ((k : ℕ) → k < 32 → getD ag k false ≡ againIn w (k + 1))
+  pub late : (length la ≡ 256) × ((l : ℕ) → l < 256 → getD la l false ≡ lateIn d w l)
 
-    age : (u : ℕ) → Dec (u < d .«source_count») → getD ag u 0 ≡ getD (m .ages) u 0
-    age u (yes p) = e .here u (omega arith) ∙ ap (λ x. min x (w .tick - getD since u 0)) (g .at u p) ∙ sym (h .ages .here u p)
-    age u (no p) = e .past u (omega arith) ∙ sym (h .ages .past u (omega arith))
+pub unpacked : (d : Description) (gaps : List ℕ) (sources : ℕ) (w : Words) (used since fastest : List ℕ) (m : Machine) (aw wa dr : List Bool) (old : List ℕ) (ag la : List Bool) → d .«source_count» ≡ sources → GapsOf d 200 gaps → Holds d w used since m → fastest ≡ m .fastest → Listed d gaps sources w since aw wa dr old ag la → record { awake = aw; used = used; waiting = wa; dropped = dr; ages = old; fastest = fastest; again = ag; late = la } ≡ m
+unpacked d gaps sources w used since fastest m aw wa dr old ag la q g h k t =
+    whole (ext-getD false aw (m .awake) (t .awake .0 ∙ sym (h .marks .sized .awakes)) (λ k p. t .awake .1 k (omega (arith, t .awake .0)) ∙ h .marks .awake (k + 1) (omega arith) ∙ ap (λ i. getD (m .awake) i false) (less k)))
+    (h .same-used)
+    (ext-getD false wa (m .waiting) (t .waiting .0 ∙ sym (h .marks .sized .waitings)) (λ l p. t .waiting .1 l (omega (arith, t .waiting .0)) ∙ h .marks .waiting l))
+    (ext-getD false dr (m .dropped) (t .dropped .0 ∙ sym (h .marks .sized .droppeds)) (λ l p. t .dropped .1 l (omega (arith, t .dropped .0)) ∙ h .marks .dropped l))
+    (ext-getD 0 old (m .ages) (t .aged .many ∙ sym (h .marks .sized .ages)) (λ u p. age u (decLt u (d .«source_count»))))
+    k
+    (ext-getD false ag (m .again) (t .again .0 ∙ sym (h .marks .sized .agains)) (λ k p. t .again .1 k (omega (arith, t .again .0)) ∙ h .marks .again (k + 1) (omega arith) ∙ ap (λ i. getD (m .again) i false) (less k)))
+    (ext-getD false la (m .late) (t .late .0 ∙ sym (h .marks .sized .lates)) (λ l p. t .late .1 l (omega (arith, t .late .0)) ∙ h .marks .late l))
+  where
+    less : (k : ℕ) → k + 1 - 1 ≡ k
+    less k = omega arith
+
+    whole : aw ≡ m .awake → used ≡ m .used → wa ≡ m .waiting → dr ≡ m .dropped → old ≡ m .ages → fastest ≡ m .fastest → ag ≡ m .again → la ≡ m .late → record { awake = aw; used = used; waiting = wa; dropped = dr; ages = old; fastest = fastest; again = ag; late = la } ≡ m
+    whole p q r s t k u v = rw (p, q, r, s, t, k, u, v) refl
+
+    age : (u : ℕ) → Dec (u < d .«source_count») → getD old u 0 ≡ getD (m .ages) u 0
+    age u (yes p) = t .aged .here u (omega arith) ∙ ap (λ x. min x (w .tick - getD since u 0)) (g .at u p) ∙ sym (h .ages .here u p)
+    age u (no p) = t .aged .past u (omega arith) ∙ sym (h .ages .past u (omega arith))
 
 -- at the start
 pub begun : (d : Description) (w : Words) (gaps since : List ℕ) → WellFormed d → Begins w → GapsOf d 200 gaps → SinceOf gaps since → Holds d w (replicate 32 0) since (idle d)
 unfolding idle
 begun d w gaps since g b s r = record {
   marks = record {
-    sized = record { awakes = refl; useds = refl; waitings = refl; droppeds = refl; ages = length-tab 16 _; fastests = refl };
-    no-zero = none 0;
-    present = λ k p. absurd (not-both p (none k));
-    awake = λ k p. none k ∙ sym (getD-same 32 (k - 1) false);
-    waiting = λ l. b .waiting l ∙ sym (getD-same 256 l false);
-    dropped = λ l. b .dropped l ∙ sym (getD-same 256 l false);
+    sized = record { awakes = refl; useds = refl; waitings = refl; droppeds = refl; ages = length-tab 16 _; fastests = refl; agains = refl; lates = refl };
+    no-zero = asleep 0;
+    present = λ k p. absurd (not-both p (asleep k));
+    part = λ k p. unbegun k ∙ sym (ap (ltb 0) (getD-same 32 (k - 1) 0));
+    awake = λ k p. asleep k ∙ sym (getD-same 32 (k - 1) false);
+    again = λ k p. and-false-right (member (w .woken) k) _ (unbegun k) ∙ sym (getD-same 32 (k - 1) false);
+    waiting = λ l. or-false (inside (w .fresh) l) _ (b .fresh l) (b .taken l) ∙ sym (getD-same 256 l false);
+    late = λ l. and-false-left (inside (w .fresh) l) _ (b .fresh l) ∙ sym (getD-same 256 l false);
+    dropped = λ l. or-false (inside (w .dropped) l) _ (b .dropped l) (and-false-left (inside (w .fresh) l) _ (b .fresh l)) ∙ sym (getD-same 256 l false);
+    held = λ l p. absurd (not-both p (b .taken l));
   };
   same-used = refl;
+  below = λ k o t. rw (getD-same {A = ℕ} 32 (k - 1) 0) (omega (arith, g .fields .runs k o t));
   ages = record {
     many = r .many;
     before = λ u p. omega (arith, b .first, at u p);
@@ -196,8 +227,11 @@ begun d w gaps since g b s r = record {
     at : (u : ℕ) → u < d .«source_count» → getD since u 0 ≡ 4294967296 - getD gaps u 0
     at u p = r .here u (omega (arith, g .fields .few-sources))
 
-    none : (k : ℕ) → member (w .awake) k ≡ false
-    none k = ap (λ s. member s k) (b .asleep) ∙ member-none k
+    unbegun : (k : ℕ) → member (w .part) k ≡ false
+    unbegun k = ap (λ s. member s k) (b .none) ∙ member-none k
+
+    asleep : (k : ℕ) → awakeIn w k ≡ false
+    asleep k = or-false (member (w .woken) k) _ (ap (λ s. member s k) (b .asleep) ∙ member-none k) (unbegun k)
 
     absent : (u : ℕ) → d .«source_count» ≤ u → Dec (u < 16) → ageAt (idle d) u ≡ 0
     absent u p (yes q) = getD-tab 16 _ 0 u q ∙ rw (le-ltb u (d .«source_count») p) refl
@@ -231,9 +265,18 @@ module _ (d : Description) (m : Machine) (g : WellFormed d) (l : rulesKept d m �
   unfolding rulesKept
   task-rule k p q = all-at (taskRule d m) 1 32 (and-left (allN (taskRule d m) 1 32) _ l) k p (omega arith)
 
-  source-rule : (u : ℕ) → u < 16 → sourceRule d m u ≡ true
+  rules : allN (sourceRule d m) 0 16 && (allN (againRule m) 1 32 && allN (lateRule d m) 0 256) ≡ true
   unfolding rulesKept
-  source-rule u p = all-at (sourceRule d m) 0 16 (and-right (allN (linkRule d m) 0 256) _ (and-right (allN (taskRule d m) 1 32) _ l)) u (omega arith) (omega arith)
+  rules = and-right (allN (linkRule d m) 0 256) _ (and-right (allN (taskRule d m) 1 32) _ l)
+
+  source-rule : (u : ℕ) → u < 16 → sourceRule d m u ≡ true
+  source-rule u p = all-at (sourceRule d m) 0 16 (and-left (allN (sourceRule d m) 0 16) _ rules) u (omega arith) (omega arith)
+
+  again-rule : (k : ℕ) → 1 ≤ k → k ≤ 32 → againRule m k ≡ true
+  again-rule k p q = all-at (againRule m) 1 32 (and-left (allN (againRule m) 1 32) _ (and-right (allN (sourceRule d m) 0 16) _ rules)) k p (omega arith)
+
+  late-rule : (i : ℕ) → i < 256 → lateRule d m i ≡ true
+  late-rule i p = all-at (lateRule d m) 0 256 (and-right (allN (againRule m) 1 32) _ (and-right (allN (sourceRule d m) 0 16) _ rules)) i (omega arith) (omega arith)
 
   absent : (k : ℕ) → 1 ≤ k → d .«task_count» < k → awakeAt m k ≡ true → ⊥
   absent k p q e = go (decLt 32 k)
@@ -261,17 +304,59 @@ module _ (d : Description) (m : Machine) (g : WellFormed d) (l : rulesKept d m �
           eqb-true (ageAt m u) 0 (and-left (eqb (ageAt m u) 0) _ r)
       go (no h) = List·getD-eq-default (m .ages) 0 {n = u} (omega (arith, z .ages))
 
-  pub packed : (since : List ℕ) (w : Words) → AwakeIn (m .awake) (w .awake) → ((l : ℕ) → inside (w .waiting) l ≡ getD (m .waiting) l false) → ((l : ℕ) → inside (w .dropped) l ≡ getD (m .dropped) l false) → SinceOf (m .ages) since → w .tick ≡ 4294967296 → Holds d w (m .used) since m
-  packed since w a b c r e = record {
+  -- a task that is part done is one of the description's, below its run and awake; one that is marked again is part done
+  low : (k : ℕ) → 1 ≤ k → k ≤ d .«task_count» → (usedAt m k < runOf d k) × ((awakeAt m k || eqb (usedAt m k) 0) ≡ true)
+  low k p q =
+      let r : (ltb (usedAt m k) (runOf d k) && (awakeAt m k || eqb (usedAt m k) 0)) ≡ true = rw (le-leb k (d .«task_count») q) at (task-rule k p (omega (arith, g .fields .few-tasks))) in
+      (ltb-true (usedAt m k) (runOf d k) (and-left (ltb (usedAt m k) (runOf d k)) _ r), and-right (ltb (usedAt m k) (runOf d k)) _ r)
+
+  part-awake : (k : ℕ) → 1 ≤ k → ltb 0 (usedAt m k) ≡ true → awakeAt m k ≡ true
+  part-awake k p e = go (decLt 32 k) (decLt (d .«task_count») k)
+    where
+      u : 0 < usedAt m k
+      u = ltb-true 0 (usedAt m k) e
+
+      go : Dec (32 < k) → Dec (d .«task_count» < k) → awakeAt m k ≡ true
+      go (yes h) t = absurd (omega (arith, u, List·getD-eq-default (m .used) 0 {n = k - 1} (omega (arith, z .useds))))
+      go (no h) (yes t) =
+          let r : (not (awakeAt m k) && eqb (usedAt m k) 0) ≡ true = rw (lt-leb k (d .«task_count») t) at (task-rule k p (omega arith)) in
+          absurd (omega (arith, u, eqb-true (usedAt m k) 0 (and-right (not (awakeAt m k)) _ r)))
+      go (no h) (no t) = or-else (awakeAt m k) (eqb (usedAt m k) 0) (ne-eqb (usedAt m k) 0 (λ y. omega (arith, u))) (low k p (omega arith) .1)
+
+  again-part : (k : ℕ) → 1 ≤ k → againAt m k ≡ true → ltb 0 (usedAt m k) ≡ true
+  again-part k p e = go (decLt 32 k)
+    where
+      go : Dec (32 < k) → ltb 0 (usedAt m k) ≡ true
+      go (yes h) = absurd (not-both e (List·getD-eq-default (m .again) false {n = k - 1} (omega (arith, z .agains))))
+      go (no h) = or-new (not (againAt m k)) _ (ap not e) (again-rule k p (omega arith))
+
+  -- a late link waits, for a task that is part done
+  late-waits : (i : ℕ) → lateAt m i ≡ true → (i < d .«link_count») × (waitingAt m i ≡ true) × (againAt m (linkAt d i .to) ≡ true)
+  late-waits i e = go (decLt i 256)
+    where
+      go : Dec (i < 256) → (i < d .«link_count») × (waitingAt m i ≡ true) × (againAt m (linkAt d i .to) ≡ true)
+      go (no h) = absurd (not-both e (List·getD-eq-default (m .late) false {n = i} (omega (arith, z .lates))))
+      go (yes h) =
+          let r : (ltb i (d .«link_count») && (waitingAt m i && againAt m (linkAt d i .to))) ≡ true = or-new (not (lateAt m i)) _ (ap not e) (late-rule i h) in
+          let q : (waitingAt m i && againAt m (linkAt d i .to)) ≡ true = and-right (ltb i (d .«link_count»)) _ r in
+          (ltb-true i (d .«link_count») (and-left (ltb i (d .«link_count»)) _ r), and-left (waitingAt m i) _ q, and-right (waitingAt m i) _ q)
+
+  pub packed : (since : List ℕ) (w : Words) (awake again : ℕ) (waiting late into : Wide) → TasksIn (m .awake) awake → TasksIn (m .again) again → PartIn (m .used) (w .part) → ((k : ℕ) → member (w .woken) k ≡ ((member awake k && not (member (w .part) k)) || member again k)) → ((i : ℕ) → inside waiting i ≡ waitingAt m i) → ((i : ℕ) → inside late i ≡ lateAt m i) → ((i : ℕ) → inside into i ≡ enters d (w .part) i) → ((i : ℕ) → inside (w .taken) i ≡ ((inside waiting i && inside into i) && not (inside late i))) → ((i : ℕ) → inside (w .fresh) i ≡ (inside waiting i && not (inside (w .taken) i))) → ((i : ℕ) → inside (w .dropped) i ≡ droppedAt m i) → SinceOf (m .ages) since → w .tick ≡ 4294967296 → Holds d w (m .used) since m
+  packed since w awake again waiting late into a b part woken c e f taken fresh drops r n = record {
     marks = record {
       sized = z;
-      no-zero = a .0;
+      no-zero = or-false (member (w .woken) 0) _ (woken 0 ∙ or-false (member awake 0 && not (member (w .part) 0)) _ (and-false-left (member awake 0) _ (a .0)) (b .0)) (part .0);
       present = λ k p. present k p (decLt (d .«task_count») k);
-      awake = a .1;
-      waiting = b;
-      dropped = c;
+      part = part .1;
+      awake = awake-is;
+      again = λ k p. rw (woken k, part .1 k p, b .1 k p) (both-again (member awake k) (ltb 0 (usedAt m k)) (againAt m k) (again-part k p));
+      waiting = λ i. rw (fresh i) (split (inside waiting i) (inside (w .taken) i) (λ q. and-left (inside waiting i) _ (and-left (inside waiting i && inside into i) _ (sym (taken i) ∙ q)))) ∙ c i;
+      late = λ i. ap (λ x. x && enters d (w .part) i) (fresh i ∙ ap (λ x. inside waiting i && not x) (taken i)) ∙ rw (f i) (ap (λ x. (inside waiting i && not ((inside waiting i && enters d (w .part) i) && not x)) && enters d (w .part) i) (e i) ∙ lates (inside waiting i) (enters d (w .part) i) (lateAt m i) (λ q. c i ∙ late-waits i q .1) (late-enters i));
+      dropped = λ i. rw (fresh i) (apart (inside (w .dropped) i) (inside waiting i) (inside (w .taken) i)) ∙ drops i;
+      held = λ i p. sym (f i) ∙ and-right (inside waiting i) _ (and-left (inside waiting i && inside into i) _ (sym (taken i) ∙ p));
     };
     same-used = refl;
+    below = λ k o t. low k o t .0;
     ages = record {
       many = r .many;
       before = λ u p. omega (arith, r .here u (omega (arith, g .fields .few-sources)));
@@ -280,10 +365,58 @@ module _ (d : Description) (m : Machine) (g : WellFormed d) (l : rulesKept d m �
     };
   }
     where
-      some : (k : ℕ) → member (w .awake) k ≡ true → 1 ≤ k
-      some zero p = absurd (not-both p (a .0))
+      both-awake : (a p g : Bool) → (p ≡ true → a ≡ true) → (g ≡ true → p ≡ true) → (((a && not p) || g) || p) ≡ a
+      both-awake true true g h i = refl
+      both-awake true true true h i = refl
+      both-awake true false true h i = absurd (not-both (i refl) refl)
+      both-awake true false false h i = refl
+      both-awake false true g h i = absurd (not-both (h refl) refl)
+      both-awake false false true h i = absurd (not-both (i refl) refl)
+      both-awake false false false h i = refl
+
+      both-again : (a p g : Bool) → (g ≡ true → p ≡ true) → (((a && not p) || g) && p) ≡ g
+      both-again true true true i = refl
+      both-again true true false i = refl
+      both-again true false true i = absurd (not-both (i refl) refl)
+      both-again true false false i = refl
+      both-again false true true i = refl
+      both-again false true false i = refl
+      both-again false false true i = absurd (not-both (i refl) refl)
+      both-again false false false i = refl
+
+      split : (x t : Bool) → (t ≡ true → x ≡ true) → ((x && not t) || t) ≡ x
+      split true true h = refl
+      split true false h = refl
+      split false true h = absurd (not-both (h refl) refl)
+      split false false h = refl
+
+      lates : (x y l : Bool) → (l ≡ true → x ≡ true) → (l ≡ true → y ≡ true) → ((x && not ((x && y) && not l)) && y) ≡ l
+      lates true true true h i = refl
+      lates true true false h i = refl
+      lates true false true h i = absurd (not-both (i refl) refl)
+      lates true false false h i = refl
+      lates false y true h i = absurd (not-both (h refl) refl)
+      lates false y false h i = refl
+
+      apart : (q x t : Bool) → (q || ((x && not t) && t)) ≡ q
+      apart true x t = refl
+      apart false true true = refl
+      apart false true false = refl
+      apart false false t = refl
+
+      late-enters : (i : ℕ) → lateAt m i ≡ true → enters d (w .part) i ≡ true
+      late-enters i q =
+          let y = late-waits i q in
+          let o : 1 ≤ linkAt d i .to = to-most d (g .fields) i (y .0) .0 in
+          both (ltb i (d .«link_count»)) _ (lt-ltb i (d .«link_count») (y .0)) (part .1 (linkAt d i .to) o ∙ again-part (linkAt d i .to) o (y .2))
+
+      awake-is : (k : ℕ) → 1 ≤ k → awakeIn w k ≡ awakeAt m k
+      awake-is k p = rw (woken k, part .1 k p, a .1 k p, b .1 k p) (both-awake (awakeAt m k) (ltb 0 (usedAt m k)) (againAt m k) (part-awake k p) (again-part k p))
+
+      some : (k : ℕ) → awakeIn w k ≡ true → 1 ≤ k
+      some zero p = absurd (not-both p (or-false (member (w .woken) 0) _ (woken 0 ∙ or-false (member awake 0 && not (member (w .part) 0)) _ (and-false-left (member awake 0) _ (a .0)) (b .0)) (part .0)))
       some (suc k) p = omega arith
 
-      present : (k : ℕ) → member (w .awake) k ≡ true → Dec (d .«task_count» < k) → k ≤ d .«task_count»
-      present k p (yes h) = absurd (absent k (some k p) h (sym (a .1 k (some k p)) ∙ p))
+      present : (k : ℕ) → awakeIn w k ≡ true → Dec (d .«task_count» < k) → k ≤ d .«task_count»
+      present k p (yes h) = absurd (absent k (some k p) h (sym (awake-is k (some k p)) ∙ p))
       present k p (no h) = omega arith

@@ -10,24 +10,24 @@ use lib.Bits.{bitAnd, and-mask}
 use lib.ListN.{getD, set, length-set}
 use lib.Seq.{getD-set-same}
 use lib.Dec.{eqb}
-use borrow.Author.Tests.{ne-eqb, lt-ltb, le-ltb}
+use borrow.Author.Tests.{eqb-true, eqb-false, eq-eqb, ne-eqb, lt-ltb, le-ltb}
 use Rattle.model.specs.declared.Description.{Description}
 use Rattle.model.specs.declared.Policy.{Policy}
 use Rattle.model.specs.declared.Machine.{Machine}
 use Rattle.model.specs.Basics.{upTo}
 use Rattle.model.specs.Graph.{runOf}
-use Rattle.model.specs.Machine.{usedAt, ageAt, longestGap, setAwake, setUsed, fire, arriveOne, runTask, clearInto, endRun, ageAll}
+use Rattle.model.specs.Machine.{awakeAt, usedAt, againAt, ageAt, longestGap, setUsed, fire, arriveOne, runTask, complete, clearInto, endRun, ageAll}
 use Rattle.theory.proofs.WellFormed.{WellFormed}
-use Rattle.assurance.proofs.Firing.{Sized, Fired, fired}
+use Rattle.lemmas.proofs.Tests.{or-left, or-false-left}
+use Rattle.assurance.proofs.Firing.{Sized, Fired, fired, getD-task}
 use Rattle.assurance.proofs.Ending.{Cleared, cleared, Aged, aged}
-use Rattle.sets.specs.Sets.{member, LastIn}
-use Rattle.sets.specs.Wide.{inside}
+use Rattle.sets.specs.Sets.{member}
 use Rattle.steps.specs.declared.words.Words.{Words}
 use Rattle.model.specs.Run.{heard, marksIn}
-use Rattle.steps.specs.Words.{Marks, Ages, Holds, Goes, Chosen, worked, Above, raisedTo, atTempos}
+use Rattle.steps.specs.Words.{awakeIn, Marks, Ages, Holds, Goes, Chosen, ended, worked, Above, raisedTo, atTempos}
 use Rattle.steps.proofs.MaskLaws.{mark-in}
-use Rattle.steps.proofs.MarkLaws.{marks-same, marks-used}
-use Rattle.steps.proofs.ChoiceLaws.{choose-is, choose-none}
+use Rattle.steps.proofs.MarkLaws.{SameMarks, marks-same, marks-aged}
+use Rattle.steps.proofs.ChoiceLaws.{choose-is, choose-none, chosen-awake}
 use Rattle.lemmas.proofs.Bools.{and-off}
 use Rattle.lemmas.proofs.Table.{set-twice}
 
@@ -76,7 +76,7 @@ end-off : (d : Description) (h : ℕ) (finish : Bool) (m : Machine) → (eqb (us
 unfolding endRun
 end-off d h finish m e = rw (e, and-off (not (eqb h 0))) refl
 
-end-on : (d : Description) (h : ℕ) (finish : Bool) (m : Machine) → 1 ≤ h → (eqb (usedAt m h) (runOf d h) || finish) ≡ true → endRun d h finish m ≡ fire d h (clearInto d h (setUsed h 0 (setAwake h false m)))
+end-on : (d : Description) (h : ℕ) (finish : Bool) (m : Machine) → 1 ≤ h → (eqb (usedAt m h) (runOf d h) || finish) ≡ true → endRun d h finish m ≡ fire d h (ended d h m)
 unfolding endRun
 end-on d h finish m p e = rw (e, ne-eqb h 0 (λ z. omega arith)) refl
 
@@ -85,49 +85,86 @@ pub kept-number : (b : Bool) (h : ℕ) → h < 64 → bitAnd h (cond b 63 0) ≡
 kept-number true h p = and-mask h 6 ∙ mod-eq-of-lt p
 kept-number false h p = and-mask h 0 ∙ (let z : h % 1 ≡ 0 = omega arith in z)
 
-pub work-none : (p : Policy) (d : Description) (w : Words) (used since : List ℕ) (finish : Bool) (m : Machine) → WellFormed d → (0 < w .running → member (w .awake) (w .running) ≡ true) → w .awake ≡ 0 → Goes p (w .running) used → Holds d w used since m → Holds d w used since (worked p d finish m)
+pub work-none : (p : Policy) (d : Description) (w : Words) (used since : List ℕ) (finish : Bool) (m : Machine) → WellFormed d → (0 < w .running → awakeIn w (w .running) ≡ true) → ((k : ℕ) → awakeIn w k ≡ false) → Goes p (w .running) used → Holds d w used since m → Holds d w used since (worked p d finish m)
 work-none p d w used since finish m g going e r h =
     let q : worked p d finish m ≡ m = ap (λ k. endRun d k finish (runTask k m)) (choose-none p d w used since m g r h going e) ∙ ap (endRun d 0 finish) (run-none m) ∙ end-none d finish m in
     subst (λ (k : Machine). Holds d w used since k) (sym q) h
 
--- h is the task that runs, which has used so much more
-module _ (pol : Policy) (d : Description) (w : Words) (used since runs : List ℕ) (finish : Bool) (m : Machine) (g : WellFormed d) (s : runs ≡ d .runs) (going : 0 < w .running → member (w .awake) (w .running) ≡ true) (r : Goes pol (w .running) used) (H : Holds d w used since m) (h more : ℕ) (l : Chosen (w .running) (w .awake) h) (p : 1 ≤ h) (q : h ≤ 32) (e : more ≡ getD used (h - 1) 0 + 1) where
+-- a run that is over, whatever it has used
+ended-any : (d : Description) (h more : ℕ) (m : Machine) → ended d h (setUsed h more m) ≡ ended d h m
+ended-any d h more m = ap (λ (us : List ℕ). clearInto d h (record { awake = set (m .awake) (h - 1) (againAt m h); used = us; waiting = m .waiting; dropped = m .dropped; ages = m .ages; fastest = m .fastest; again = set (m .again) (h - 1) false; late = m .late })) (set-twice (m .used) (h - 1) more 0)
+
+-- h is the task that runs, which had used so much before
+module _ (pol : Policy) (d : Description) (w : Words) (used since runs : List ℕ) (finish : Bool) (m : Machine) (g : WellFormed d) (s : runs ≡ d .runs) (going : 0 < w .running → awakeIn w (w .running) ≡ true) (r : Goes pol (w .running) used) (H : Holds d w used since m) (awake : ℕ) (set-is : (k : ℕ) → member awake k ≡ awakeIn w k) (h : ℕ) (l : Chosen (w .running) awake h) (p : 1 ≤ h) (q : h ≤ 32) where
+  abbrev spent : ℕ
+  abbrev more : ℕ
+  spent = getD used (h - 1) 0
+  more = spent + 1
+
+  pub spent-is : usedAt m h ≡ spent
+  spent-is = sym (ap (λ (us : List ℕ). getD us (h - 1) 0) (H .same-used))
+
+  pub awake-is : awakeAt m h ≡ true
+  awake-is = sym (H .marks .awake h p) ∙ sym (set-is h) ∙ chosen-awake (w .running) awake h (λ o. set-is (w .running) ∙ going o) l
+
+  here : h ≤ d .«task_count»
+  here = H .marks .present h (H .marks .awake h p ∙ awake-is)
+
   ran-is : runTask h m ≡ setUsed h more m
-  ran-is = run-on h m p ∙ ap (λ x. setUsed h x m) (sym (e ∙ ap (λ (us : List ℕ). getD us (h - 1) 0 + 1) (H .same-used)))
+  ran-is = run-on h m p ∙ ap (λ x. setUsed h (x + 1) m) spent-is
 
   work-is : worked pol d finish m ≡ endRun d h finish (setUsed h more m)
-  work-is = ap (λ k. endRun d k finish (runTask k m)) (choose-is pol d w used since m g r H going h l) ∙ ap (endRun d h finish) ran-is
+  work-is = ap (λ k. endRun d k finish (runTask k m)) (choose-is pol d w used since m g r H going awake h set-is l) ∙ ap (endRun d h finish) ran-is
 
   test-is : (eqb more (getD runs (h - 1) 0) || finish) ≡ (eqb (usedAt (setUsed h more m) h) (runOf d h) || finish)
   test-is = rw (s, getD-set-same (m .used) (h - 1) more 0 (omega (arith, H .marks .sized .useds))) refl
 
-  pub work-on : (w′ : Words) → (w′ .awake ≡ w .awake) × (w′ .waiting ≡ w .waiting) × (w′ .dropped ≡ w .dropped) → w′ .tick ≡ w .tick → (eqb more (getD runs (h - 1) 0) || finish) ≡ false → Holds d w′ (set used (h - 1) more) since (worked pol d finish m)
-  work-on w′ same n f =
+  run-is : getD runs (h - 1) 0 ≡ runOf d h
+  run-is = rw s refl
+
+  -- a run of one tick at the most has used nothing, and ends
+  pub single-spent : getD runs (h - 1) 0 ≡ 1 → spent ≡ 0
+  single-spent e = omega (arith, H .below h p here, spent-is, run-is)
+
+  pub single-ends : getD runs (h - 1) 0 ≡ 1 → (eqb more (getD runs (h - 1) 0) || finish) ≡ true
+  single-ends e = or-left (eqb more (getD runs (h - 1) 0)) finish (eq-eqb more (getD runs (h - 1) 0) (omega (arith, single-spent e)))
+
+  below-else : (us : List ℕ) (x : ℕ) → us ≡ set (m .used) (h - 1) x → x < runOf d h → (k : ℕ) → 1 ≤ k → k ≤ d .«task_count» → getD us (k - 1) 0 < runOf d k
+  below-else us x e b k o t = rw (e, getD-task (m .used) h x 0 k o p (omega (arith, H .marks .sized .useds))) (by (eqb k h) refl)
+    where
+      by : (c : Bool) → eqb k h ≡ c → cond (eqb k h) x (usedAt m k) < runOf d k
+      by true f = rw (f, eqb-true k h f) b
+      by false f = rw f (H .below k o t)
+
+  -- it goes on
+  pub work-on : (w′ : Words) → Marks d w′ (setUsed h more m) → w′ .tick ≡ w .tick → (eqb more (getD runs (h - 1) 0) || finish) ≡ false → Holds d w′ (set used (h - 1) more) since (worked pol d finish m)
+  work-on w′ marks n f =
+      let ne : more ≡ getD runs (h - 1) 0 → ⊥ = eqb-false more (getD runs (h - 1) 0) (or-false-left (eqb more (getD runs (h - 1) 0)) finish f) in
       subst (λ (k : Machine). Holds d w′ (set used (h - 1) more) since k) (sym (work-is ∙ end-off d h finish (setUsed h more m) (sym test-is ∙ f)))
       (record {
-        marks = marks-same d w w′ (setUsed h more m) same (marks-used d w m h more (H .marks));
+        marks = marks;
         same-used = ap (λ (us : List ℕ). set us (h - 1) more) (H .same-used);
+        below = below-else (set (m .used) (h - 1) more) more refl (omega (arith, H .below h p here, spent-is, run-is));
         ages = subst (λ i. Ages d i since (setUsed h more m)) (sym n) (ages-same d (w .tick) since m (setUsed h more m) refl (H .ages));
       })
 
-  -- its run ends
-  pub work-over : (w₁ w₂ : Words) → (eqb more (getD runs (h - 1) 0) || finish) ≡ true → ((k : Machine) → Marks d w k → Marks d w₁ (clearInto d h (setAwake h false k))) → ((k : Machine) → Marks d w₁ k → Marks d w₂ (fire d h k)) → w₂ .tick ≡ w .tick → Holds d w₂ (set used (h - 1) 0) since (worked pol d finish m)
-  work-over w₁ w₂ f sleeps fires n =
-      let m₁ : Machine = setUsed h 0 (setUsed h more m) in
-      let m₂ : Machine = setAwake h false m₁ in
-      let k₁ : Marks d w m₁ = marks-used d w (setUsed h more m) h 0 (marks-used d w m h more (H .marks)) in
-      let z : Sized m₂ = record { awakes = length-set (m .awake) (h - 1) false ∙ H .marks .sized .awakes; useds = k₁ .sized .useds; waitings = H .marks .sized .waitings; droppeds = H .marks .sized .droppeds; ages = H .marks .sized .ages; fastests = H .marks .sized .fastests } in
-      let c : Cleared d h (d .«link_count») m₂ (clearInto d h m₂) = cleared d g h m₂ z in
-      let f₂ : Fired d h (d .«link_count») (clearInto d h m₂) (fire d h (clearInto d h m₂)) = fired d g h (clearInto d h m₂) (c .sized) in
-      subst (λ (k : Machine). Holds d w₂ (set used (h - 1) 0) since k) (sym (work-is ∙ end-on d h finish (setUsed h more m) p (sym test-is ∙ f)))
+  -- it is over
+  pub work-over : (w₁ w₂ : Words) (used′ : List ℕ) → used′ ≡ set used (h - 1) 0 → (eqb more (getD runs (h - 1) 0) || finish) ≡ true → Marks d w₁ (ended d h m) → ((k : Machine) → Marks d w₁ k → Marks d w₂ (fire d h k)) → w₂ .tick ≡ w .tick → Holds d w₂ used′ since (worked pol d finish m)
+  work-over w₁ w₂ used′ e f over fires n =
+      let m₁ : Machine = complete h m in
+      let z₁ : Sized m₁ = record { awakes = length-set (m .awake) (h - 1) (againAt m h) ∙ H .marks .sized .awakes; useds = length-set (m .used) (h - 1) 0 ∙ H .marks .sized .useds; waitings = H .marks .sized .waitings; droppeds = H .marks .sized .droppeds; ages = H .marks .sized .ages; fastests = H .marks .sized .fastests; agains = length-set (m .again) (h - 1) false ∙ H .marks .sized .agains; lates = H .marks .sized .lates } in
+      let c : Cleared d h (d .«link_count») m₁ (ended d h m) = cleared d g h m₁ z₁ in
+      let f₂ : Fired d h (d .«link_count») (ended d h m) (fire d h (ended d h m)) = fired d g h (ended d h m) (c .sized) in
+      subst (λ (k : Machine). Holds d w₂ used′ since k) (sym (work-is ∙ end-on d h finish (setUsed h more m) p (sym test-is ∙ f) ∙ ap (fire d h) (ended-any d h more m)))
       (record {
-        marks = fires (clearInto d h m₂) (sleeps m₁ k₁);
-        same-used = ap (λ (us : List ℕ). set us (h - 1) 0) (H .same-used) ∙ sym (f₂ .used ∙ c .used ∙ set-twice (m .used) (h - 1) more 0);
-        ages = subst (λ i. Ages d i since (fire d h (clearInto d h m₂))) (sym n) (ages-same d (w .tick) since m (fire d h (clearInto d h m₂)) (f₂ .ages ∙ c .ages) (H .ages));
+        marks = fires (ended d h m) over;
+        same-used = e ∙ ap (λ (us : List ℕ). set us (h - 1) 0) (H .same-used) ∙ sym (f₂ .used ∙ c .used);
+        below = below-else (fire d h (ended d h m) .used) 0 (f₂ .used ∙ c .used) (omega (arith, H .below h p here));
+        ages = subst (λ i. Ages d i since (fire d h (ended d h m))) (sym n) (ages-same d (w .tick) since m (fire d h (ended d h m)) (f₂ .ages ∙ c .ages) (H .ages));
       })
 
 -- step 4: one tick more has passed
-module _ (d : Description) (w w′ : Words) (used since : List ℕ) (m : Machine) (g : WellFormed d) (a : w′ .awake ≡ w .awake) (b : w′ .waiting ≡ w .waiting) (c : w′ .dropped ≡ w .dropped) (n : w′ .tick ≡ w .tick + 1) (h : Holds d w used since m) where
+module _ (d : Description) (w w′ : Words) (used since : List ℕ) (m : Machine) (g : WellFormed d) (same : SameMarks w w′) (n : w′ .tick ≡ w .tick + 1) (h : Holds d w used since m) where
   f : Aged d (d .«source_count») m (ageAll d m)
   f = aged d g m (h .marks .sized)
 
@@ -138,15 +175,9 @@ module _ (d : Description) (w w′ : Words) (used since : List ℕ) (m : Machine
 
   pub passes : Holds d w′ used since (ageAll d m)
   passes = record {
-    marks = record {
-      sized = f .sized;
-      no-zero = ap (λ s. member s 0) a ∙ h .marks .no-zero;
-      present = λ k p. h .marks .present k (sym (ap (λ s. member s k) a) ∙ p);
-      awake = λ k p. ap (λ s. member s k) a ∙ h .marks .awake k p ∙ sym (ap (λ (l : List Bool). getD l (k - 1) false) (f .awake));
-      waiting = λ l. ap (λ s. inside s l) b ∙ h .marks .waiting l ∙ sym (ap (λ (i : List Bool). getD i l false) (f .waiting));
-      dropped = λ l. ap (λ s. inside s l) c ∙ h .marks .dropped l ∙ sym (ap (λ (i : List Bool). getD i l false) (f .dropped));
-    };
+    marks = marks-same d w w′ (ageAll d m) same (marks-aged d (d .«source_count») w m (ageAll d m) f (h .marks));
     same-used = h .same-used ∙ sym (f .used);
+    below = λ k o t. rw (f .used) (h .below k o t);
     ages = record {
       many = h .ages .many;
       before = λ u p. omega (arith, h .ages .before u p);
@@ -167,14 +198,8 @@ not-below peak low fastest h a u p = go (getD fastest u 0) (a u p)
 -- words that say of tempos something else hold the same record
 pub tempos-hold : (d : Description) (low peak : ℕ) (w w′ : Words) (used since : List ℕ) (m : Machine) → w′ ≡ atTempos low peak w → Holds d w used since m → Holds d w′ used since m
 tempos-hold d low peak w w′ used since m e h = subst (λ (k : Words). Holds d k used since m) (sym e) (record {
-  marks = record {
-    sized = h .marks .sized;
-    no-zero = h .marks .no-zero;
-    present = h .marks .present;
-    awake = h .marks .awake;
-    waiting = h .marks .waiting;
-    dropped = h .marks .dropped;
-  };
+  marks = marks-same d w (atTempos low peak w) m (record { woken = refl; part = refl; fresh = refl; taken = refl; dropped = refl }) (h .marks);
   same-used = h .same-used;
+  below = h .below;
   ages = h .ages;
 })

@@ -1,15 +1,9 @@
--- A record from its parts, spacings as a table, and arrivals as a mask.
+-- Arrivals as a mask.
 use Prim.Native.Nat.{ℕ, _/_, _^_, _≤_, _<_}
-use mathlib.Core.Bool.{Bool, true}
-use mathlib.Core.List.{List}
+use mathlib.Core.Bool.{true}
 use mathlib.Core.Path.{_≡_}
 use Rattle.model.specs.declared.Description.{Description}
-use Rattle.model.specs.declared.Machine.{Machine}
 use Rattle.model.specs.Run.{heard}
-
--- a record from its parts
-abbrev pub parts : List Bool → List ℕ → List Bool → List Bool → List ℕ → List ℕ → Machine
-parts awake used waiting dropped ages fastest = record { awake = awake; used = used; waiting = waiting; dropped = dropped; ages = ages; fastest = fastest }
 
 -- a mask of nothing but sources, and one of sources that exist
 abbrev pub Sourced : ℕ → Type 0

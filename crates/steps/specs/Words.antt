@@ -11,7 +11,8 @@ use Rattle.model.specs.declared.Description.{Description}
 use Rattle.model.specs.declared.Policy.{Policy}
 use Rattle.model.specs.declared.Policy.the-variants.{Preemptive, HoldOn}
 use Rattle.model.specs.declared.Machine.{Machine}
-use Rattle.model.specs.Machine.{awakeAt, waitingAt, droppedAt, ageAt, fastestAt, longestGap, setAwake, fire, arrive, choose, runTask, clearInto, endRun, ageAll}
+use Rattle.model.specs.Graph.{linkAt, runOf}
+use Rattle.model.specs.Machine.{awakeAt, usedAt, waitingAt, droppedAt, againAt, lateAt, ageAt, fastestAt, longestGap, setUsed, fire, arrive, choose, runTask, complete, clearInto, endRun, ageAll}
 use Rattle.theory.proofs.WellFormed.{WellFormed}
 use Rattle.assurance.proofs.Firing.{Sized}
 use Rattle.sets.specs.declared.wide.Wide.{Wide}
@@ -26,14 +27,40 @@ use Rattle.steps.specs.Parts.{Known}
 abbrev pub wideAt : List ℕ → ℕ → Wide
 wideAt rows i = record { w0 = getD rows i 0; w1 = getD rows (i + 1) 0; w2 = getD rows (i + 2) 0; w3 = getD rows (i + 3) 0 }
 
+-- the marks of tasks and links, by what words say: a task is awake that was woken or is part done, and again that is both; a link waits that is fresh or
+-- taken, and has been dropped, marked so or not yet, if it is both
+abbrev pub awakeIn : Words → ℕ → Bool
+awakeIn w k = member (w .woken) k || member (w .part) k
+
+abbrev pub againIn : Words → ℕ → Bool
+againIn w k = member (w .woken) k && member (w .part) k
+
+abbrev pub waitingIn : Words → ℕ → Bool
+waitingIn w l = inside (w .fresh) l || inside (w .taken) l
+
+abbrev pub droppedIn : Words → ℕ → Bool
+droppedIn w l = inside (w .dropped) l || (inside (w .fresh) l && inside (w .taken) l)
+
+-- a link into a task that is part done; it is late if it is fresh
+abbrev pub enters : Description → ℕ → ℕ → Bool
+enters d part l = ltb l (d .«link_count») && member part (linkAt d l .to)
+
+abbrev pub lateIn : Description → Words → ℕ → Bool
+lateIn d w l = inside (w .fresh) l && enters d (w .part) l
+
 -- the words hold the marks of a record, in which absent tasks sleep
 pub record Marks (d : Description) (w : Words) (m : Machine) : Type 0 where
   pub sized : Sized m
-  pub no-zero : member (w .awake) 0 ≡ false
-  pub present : (k : ℕ) → member (w .awake) k ≡ true → k ≤ d .«task_count»
-  pub awake : (k : ℕ) → 1 ≤ k → member (w .awake) k ≡ awakeAt m k
-  pub waiting : (l : ℕ) → inside (w .waiting) l ≡ waitingAt m l
-  pub dropped : (l : ℕ) → inside (w .dropped) l ≡ droppedAt m l
+  pub no-zero : awakeIn w 0 ≡ false
+  pub present : (k : ℕ) → awakeIn w k ≡ true → k ≤ d .«task_count»
+  pub part : (k : ℕ) → 1 ≤ k → member (w .part) k ≡ ltb 0 (usedAt m k)
+  pub awake : (k : ℕ) → 1 ≤ k → awakeIn w k ≡ awakeAt m k
+  pub again : (k : ℕ) → 1 ≤ k → againIn w k ≡ againAt m k
+  pub waiting : (l : ℕ) → waitingIn w l ≡ waitingAt m l
+  pub late : (l : ℕ) → lateIn d w l ≡ lateAt m l
+  pub dropped : (l : ℕ) → droppedIn w l ≡ droppedAt m l
+  -- what is taken is taken by a run in progress
+  pub held : (l : ℕ) → inside (w .taken) l ≡ true → enters d (w .part) l ≡ true
 
 -- the ages of a record are read off the ticks at which they were 0
 pub record Ages (d : Description) (now : ℕ) (since : List ℕ) (m : Machine) : Type 0 where
@@ -42,10 +69,11 @@ pub record Ages (d : Description) (now : ℕ) (since : List ℕ) (m : Machine) :
   pub here : (u : ℕ) → u < d .«source_count» → ageAt m u ≡ min (longestGap d u) (now - getD since u 0)
   pub past : (u : ℕ) → d .«source_count» ≤ u → ageAt m u ≡ 0
 
--- the words, what tasks have used and when ages were 0 hold a record but for its kept tempos
+-- the words, what tasks have used and when ages were 0 hold a record but for its kept tempos, and no task has used a whole run
 pub record Holds (d : Description) (w : Words) (used since : List ℕ) (m : Machine) : Type 0 where
   pub marks : Marks d w m
   pub same-used : used ≡ m .used
+  pub below : (k : ℕ) → 1 ≤ k → k ≤ d .«task_count» → usedAt m k < runOf d k
   pub ages : Ages d (w .tick) since m
 
 -- whether a task that is part done goes on
@@ -74,11 +102,12 @@ pub record Keeps (w : Words) (fastest : List ℕ) (m : Machine) : Type 0 where
   pub least : 200 ≤ w .peak
   pub high : w .peak ≤ 3000
 
--- the links of a set have fired, and their tasks are awake
+-- the links of a set have fired, and their tasks were woken
 pub record Sent (w : Words) (out : Wide) (wakes : ℕ) (w′ : Words) : Type 0 where
-  pub awake : (k : ℕ) → member (w′ .awake) k ≡ (member (w .awake) k || member wakes k)
-  pub waiting : (l : ℕ) → inside (w′ .waiting) l ≡ (inside (w .waiting) l || inside out l)
-  pub dropped : (l : ℕ) → inside (w′ .dropped) l ≡ (inside (w .dropped) l || (inside (w .waiting) l && inside out l))
+  pub woken : (k : ℕ) → member (w′ .woken) k ≡ (member (w .woken) k || member wakes k)
+  pub fresh : (l : ℕ) → inside (w′ .fresh) l ≡ (inside (w .fresh) l || inside out l)
+  pub dropped : (l : ℕ) → inside (w′ .dropped) l ≡ (inside (w .dropped) l || (inside (w .fresh) l && inside out l))
+  pub same : (w′ .part ≡ w .part) × (w′ .taken ≡ w .taken)
   pub then : w′ .tick ≡ w .tick
   pub knob : (w′ .low ≡ w .low) × (w′ .peak ≡ w .peak)
   pub runs : w′ .running ≡ w .running
@@ -103,7 +132,7 @@ pub record Folds (peak low : ℕ) (fastest fastest′ : List ℕ) : Type 0 where
 
 -- the words with other tempos
 abbrev pub atTempos : ℕ → ℕ → Words → Words
-atTempos low peak w = record { awake = w .awake; running = w .running; waiting = w .waiting; dropped = w .dropped; tick = w .tick; low = low; peak = peak }
+atTempos low peak w = record { woken = w .woken; part = w .part; running = w .running; fresh = w .fresh; taken = w .taken; dropped = w .dropped; tick = w .tick; low = low; peak = peak }
 
 -- the sources of a mask have arrived at tempo t, kept tempos being raised to the fastest given first
 pub record Arrives (rows : List ℕ) (t peak mask : ℕ) (w : Words) (since fastest : List ℕ) (w′ : Words) (since′ fastest′ : List ℕ) : Type 0 where
@@ -116,24 +145,49 @@ pub record Arrives (rows : List ℕ) (t peak mask : ℕ) (w : Words) (since fast
   pub knob : (w′ .low ≡ t) × (w′ .peak ≡ t)
   pub runs : w′ .running ≡ w .running
 
--- task h sleeps and nobody goes on, and the marks on links into it are clear
+-- the run of task h is over, and it has served what it took
+abbrev pub ended : Description → ℕ → Machine → Machine
+ended d h m = clearInto d h (complete h m)
+
+-- it began in this tick
 pub record Sleeps (rows : List ℕ) (h : ℕ) (w w′ : Words) : Type 0 where
-  pub slept : (d : Description) (m : Machine) → WellFormed d → RowsOf d (d .«link_count») rows → 1 ≤ h → h ≤ 32 → Marks d w m → Marks d w′ (clearInto d h (setAwake h false m))
+  pub slept : (d : Description) (m : Machine) → WellFormed d → RowsOf d (d .«link_count») rows → 1 ≤ h → h ≤ 32 → usedAt m h ≡ 0 → Marks d w m → Marks d w′ (ended d h m)
+  pub then : w′ .tick ≡ w .tick
+  pub knob : (w′ .low ≡ w .low) × (w′ .peak ≡ w .peak)
+  pub runs : w′ .running ≡ w .running
+
+-- it began before this tick
+pub record Completes (rows : List ℕ) (h : ℕ) (w w′ : Words) : Type 0 where
+  pub completed : (d : Description) (m : Machine) → WellFormed d → RowsOf d (d .«link_count») rows → 1 ≤ h → h ≤ 32 → 0 < usedAt m h → Marks d w m → Marks d w′ (ended d h m)
   pub then : w′ .tick ≡ w .tick
   pub knob : (w′ .low ≡ w .low) × (w′ .peak ≡ w .peak)
   pub runs : w′ .running ≡ 0
+
+-- it had used so many ticks before this one
+pub record Ends (rows : List ℕ) (h spent : ℕ) (w w′ : Words) : Type 0 where
+  pub over : (d : Description) (m : Machine) → WellFormed d → RowsOf d (d .«link_count») rows → 1 ≤ h → h ≤ 32 → usedAt m h ≡ spent → Marks d w m → Marks d w′ (ended d h m)
+  pub then : w′ .tick ≡ w .tick
+  pub knob : (w′ .low ≡ w .low) × (w′ .peak ≡ w .peak)
+  pub runs : w′ .running ≡ cond (eqb spent 0) (w .running) 0
 
 -- the task that a tick runs: the one that goes on, or else the highest awake
 pub record Chosen (running awake h : ℕ) : Type 0 where
   pub goes : 0 < running → h ≡ running
   pub highest : running ≡ 0 → LastIn awake h
 
--- the run of task h is not over: what goes on
-pub record GoesOn (p : Policy) (h : ℕ) (w w′ : Words) : Type 0 where
-  pub marks : (w′ .awake ≡ w .awake) × (w′ .waiting ≡ w .waiting) × (w′ .dropped ≡ w .dropped)
+-- the run of task h begins in this tick and is not over: it has taken what was fresh
+pub record Starts (p : Policy) (rows : List ℕ) (h : ℕ) (w w′ : Words) : Type 0 where
+  pub started : (d : Description) (m : Machine) (more : ℕ) → WellFormed d → RowsOf d (d .«link_count») rows → 1 ≤ h → h ≤ 32 → usedAt m h ≡ 0 → awakeAt m h ≡ true → 0 < more → Marks d w m → Marks d w′ (setUsed h more m)
   pub then : w′ .tick ≡ w .tick
   pub knob : (w′ .low ≡ w .low) × (w′ .peak ≡ w .peak)
   pub runs : w′ .running ≡ cond (holdsOn p) h 0
+
+-- it had used so many ticks before this one, and is not over
+pub record GoesOn (p : Policy) (rows : List ℕ) (h spent : ℕ) (w w′ : Words) : Type 0 where
+  pub gone : (d : Description) (m : Machine) (more : ℕ) → WellFormed d → RowsOf d (d .«link_count») rows → 1 ≤ h → h ≤ 32 → usedAt m h ≡ spent → awakeAt m h ≡ true → 0 < more → Marks d w m → Marks d w′ (setUsed h more m)
+  pub then : w′ .tick ≡ w .tick
+  pub knob : (w′ .low ≡ w .low) × (w′ .peak ≡ w .peak)
+  pub runs : w′ .running ≡ cond (eqb spent 0) (cond (holdsOn p) h 0) (w .running)
 
 -- the task that a tick runs has run in a record, and its run has ended if this tick ends it
 abbrev pub worked : Policy → Description → Bool → Machine → Machine
@@ -148,8 +202,8 @@ pub record Works (p : Policy) (rows runs : List ℕ) (finish : Bool) (w : Words)
 
 -- awake tasks have places in the tables, the one that goes on is awake, and a tick more fits what each has used
 pub record Workable (w : Words) (used : List ℕ) : Type 0 where
-  pub low : (k : ℕ) → member (w .awake) k ≡ true → (1 ≤ k) × (k ≤ 32)
-  pub going : 0 < w .running → member (w .awake) (w .running) ≡ true
+  pub low : (k : ℕ) → awakeIn w k ≡ true → (1 ≤ k) × (k ≤ 32)
+  pub going : 0 < w .running → awakeIn w (w .running) ≡ true
   pub countable : (k : ℕ) → k < 32 → getD used k 0 + 1 < 2 ^ 32
 
 -- one tick more has passed

@@ -10,13 +10,14 @@ use sets::wide;
 use sets::wide::Wide;
 ghost use mathlib.Core.Path.{_≡_};
 ghost use mathlib.Core.Bool.{true, false, cond, _||_, _&&_};
-ghost use Prim.Native.Nat.{ℕ, _+_, _-_, _≤_, _<_, min};
+ghost use mathlib.Core.List.{List};
+ghost use Prim.Native.Nat.{ℕ, _+_, _-_, _*_, _≤_, _<_, min};
 ghost use lib.ListN.{getD, length};
 ghost use lib.Dec.{eqb, ltb};
 ghost use Rattle.sets.specs.Sets.{member};
 ghost use Rattle.sets.specs.Wide.{inside};
-ghost use Rattle.steps.specs.Words.{holdsOn, Goes};
-ghost use Rattle.steps.specs.Record.{OnePart, AwakeOf, LinksOf, AgesOf, SinceOf, Unpacks, Packs, Begins, AwakeIn};
+ghost use Rattle.steps.specs.Words.{wideAt, holdsOn, Goes};
+ghost use Rattle.steps.specs.Record.{OnePart, TasksOf, TasksIn, PartIn, LinksOf, Into, AgesOf, SinceOf, Unpacks, Packs, Begins};
 
 // The words at the start: all tasks sleep and marks are clear.
 pub fn begin() -> Words
@@ -85,7 +86,7 @@ fn part_in(used: &[u32; 32]) -> u64
     let mut set: u64 = 0;
     let mut k: usize = 0;
     while k < 32 {
-        set = with_if(set, k + 1, used[k] != 0);
+        set = with_if(set, k + 1, 0 < used[k]);
         k += 1;
     }
     set

@@ -10,7 +10,7 @@ ghost use Prim.Native.Nat.{ℕ, _+_, _<_, _^_, max};
 ghost use lib.ListN.{length, getD};
 ghost use lib.Dec.{eqb};
 ghost use Rattle.steps.specs.Parts.{Sourced};
-ghost use Rattle.steps.specs.Words.{wideAt, Sent, Fires, atTempos, Arrives, Sleeps, holdsOn, Chosen, GoesOn, Works, Workable, raisedTo, Folds, Passes};
+ghost use Rattle.steps.specs.Words.{wideAt, Sent, Fires, atTempos, Arrives, Sleeps, Completes, Ends, holdsOn, Chosen, Starts, GoesOn, Works, Workable, raisedTo, Folds, Passes};
 
 // The four words from place i on.
 pub fn row(rows: &[u64; 576], i: usize) -> Wide
@@ -278,7 +278,7 @@ pub fn work<'a>(
     w: Words,
     used: &mut [u32; 32],
 ) -> Words
-    requires { ⌜ Workable w (now runs) (now used) ⌝ }
+    requires { ⌜ Workable w (now used) ⌝ }
     ensures { λ r. ⌜ Works p (now (rows .entry)) (now (runs .entry)) finish w (now (used .entry)) r (now (used .exit)) ⌝ }
 {
     let awake = sets::union(w.woken, w.part);

@@ -13,8 +13,8 @@ static HOLD_REPORTS: [&[u8]; 1] = [include_bytes!("../../crates/vectors/data/hol
 static RUNS: &[u8] = include_bytes!("../../crates/vectors/data/latched-runs.bin");
 static HOLD_RUNS: &[u8] = include_bytes!("../../crates/vectors/data/latched-hold-runs.bin");
 /// Runs recorded before C-15: with a tempo in each call (C-13), the same on the hold-on model (C-14), and
-/// document 01's, each at one tempo. These are the ones in which no event comes for a task part done:
-/// C-15 alters no other run.
+/// document 01's, each at one tempo. Kept are those in which no event comes for a task part done, which
+/// C-15 leaves as they were.
 static EARLIER_RUNS: &[u8] = include_bytes!("../../crates/vectors/data/knob-runs.bin");
 static EARLIER_HOLD_RUNS: &[u8] = include_bytes!("../../crates/vectors/data/hold-runs.bin");
 static STEADY_RUNS: &[u8] = include_bytes!("../../crates/vectors/data/steady-runs.bin");

@@ -2,7 +2,7 @@
 // their recorded outcomes, and the record after the last call; so does data/latched-hold-runs.bin, of the hold-on model. data/knob-runs.bin
 // and data/hold-runs.bin are of the machines before C-15, with a record of 768 bytes. data/steady-runs.bin has document 01's runs, each at one
 // tempo, in the same form (tools/steady-runs), with document 01's record of 736 bytes and the tempo behind it. Of these three the runs are kept in
-// which no event comes for a task part done: C-15 alters no other.
+// which no event comes for a task part done, which C-15 leaves as they were.
 
 use crate::parts::Tally;
 use crate::parts::counted;

@@ -4,6 +4,9 @@
  * has begun runs on until its run ends, and the highest awake task is chosen only when none is running: its calls are those with
  * `hold` in their names. Files are the same on both.
  *
+ * On both a task reads its inputs when its run begins: an event is taken by the run of its task that begins next, be it in the
+ * event's own tick, and never by one in progress. It is served in the tick in which that run ends, and waits until then.
+ *
  * `rt staticlib library` writes target/staticlib/liblibrary.a (x86-64), which needs memcpy and memset and nothing else.
  *
  * Answers: 0 or more is work done; below 0 is a refusal, -(10000 * number + place), in every call alike. The number is one of
@@ -33,7 +36,7 @@ extern "C" {
 #endif
 
 /* Rises when a call, a number or a layout below changes. */
-#define BENCH_VERSION 3
+#define BENCH_VERSION 4
 
 /* The refusals, as the README explains them. */
 enum bench_refusal {
@@ -66,16 +69,18 @@ enum bench_refusal {
 #define BENCH_LOWEST_TEMPO 200
 #define BENCH_HIGHEST_TEMPO 3000
 
-/* A machine's record in 768 bytes, by the offsets of its parts: a byte for each mark, 0 or 1, four for each number and two for each
+/* A machine's record in 1,056 bytes, by the offsets of its parts: a byte for each mark, 0 or 1, four for each number and two for each
  * tempo, high byte first. Task 1, link 1 and source 33 are the first of their parts. On the hold-on model the task that runs is the
  * one whose used is above 0, and there is at most one. */
-#define BENCH_RECORD 768
+#define BENCH_RECORD 1056
 #define BENCH_RECORD_AWAKE 0     /* 32 marks: the task is awake */
 #define BENCH_RECORD_USED 32     /* 32 numbers: the ticks that its run has used */
 #define BENCH_RECORD_WAITING 160 /* 256 marks: an event waits on the link */
 #define BENCH_RECORD_DROPPED 416 /* 256 marks: an event was lost on the link */
 #define BENCH_RECORD_AGES 672    /* 16 numbers: the ticks since the source's last event; at first and at most its spacing at 20.0 */
 #define BENCH_RECORD_FASTEST 736 /* 16 tempos: the fastest since the source's last event, or 0 before its first */
+#define BENCH_RECORD_AGAIN 768   /* 32 marks: an event came when the task was part done, so that it runs again when its run ends */
+#define BENCH_RECORD_LATE 800    /* 256 marks: the link's event came when its task was part done, and waits for the next run */
 
 /* The bytes of one tick call. */
 #define BENCH_CALL 6

@@ -13,8 +13,8 @@ pub mod vectors;
 use plain::Policy;
 
 /// Bytes of a machine record: 32 awake, 32 × 4 used, 256 waiting, 256 dropped, 16 × 4 ages,
-/// 16 × 2 fastest tempos.
-pub const RECORD_BYTES: usize = 768;
+/// 16 × 2 fastest tempos, 32 again, 256 late.
+pub const RECORD_BYTES: usize = 1_056;
 
 /// Bytes of one tick call: the mask of arrivals in two, high byte first, the tempo likewise,
 /// "finish", one unused.

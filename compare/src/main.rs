@@ -17,8 +17,9 @@ const DEFAULT_SEED: u64 = 1;
 const RUN_EVERY: u64 = 4;
 /// What a buffer holds before a call. A byte that a call must not touch still holds it after.
 const UNTOUCHED: u8 = 0xA5;
-/// The dropped marks of a record.
+/// The marks of a record: dropped, and again.
 const DROPPED: Range<usize> = 416..672;
+const AGAIN: Range<usize> = 768..800;
 
 fn main() -> ExitCode {
     let Some((cases, seed)) = arguments() else {
@@ -71,11 +72,15 @@ impl fmt::Display for Difference {
 /// One side against the recorded answers.
 fn check_vectors(side: &Side) -> Result<(), Difference> {
     for policy in Policy::BOTH {
-        let (reports, runs) = (vectors::reports(policy), vectors::knob_runs(policy));
+        let (reports, runs) = (vectors::reports(policy), vectors::runs(policy));
+        let earlier = vectors::earlier_runs(policy);
         reports.iter().try_for_each(|vector| check_report(policy, side, vector))?;
         runs.iter().try_for_each(|vector| check_run(policy, side, vector, |record| record))?;
-        let (name, reports, runs) = (side.name, reports.len(), runs.len());
-        println!("{name} and the recorded answers, {policy}: {reports} reports and {runs} runs agree");
+        earlier.iter().try_for_each(|vector| check_run(policy, side, vector, vectors::without_latch))?;
+        let (name, reports, runs, earlier) = (side.name, reports.len(), runs.len(), earlier.len());
+        println!(
+            "{name} and the recorded answers, {policy}: {reports} reports, {runs} runs and {earlier} from before C-15 agree"
+        );
     }
     let runs = vectors::steady_runs();
     for vector in &runs {
@@ -122,6 +127,7 @@ struct Tally {
     /// Calls of runs by their outcomes, 0 for a tick.
     calls: [u64; 17],
     runs_with_drops: u64,
+    runs_with_late: u64,
     /// On the hold-on model, ticks that leave a higher task awake than the one that is running.
     held_back: u64,
 }
@@ -243,6 +249,7 @@ impl Tally {
             self.calls[usize::from(outcome)] += 1;
         }
         self.runs_with_drops += u64::from(record[DROPPED].contains(&1));
+        self.runs_with_late += u64::from(record[AGAIN].contains(&1));
     }
 }
 
@@ -264,7 +271,11 @@ impl fmt::Display for Tally {
         for (number, count) in self.calls.iter().enumerate().skip(1).filter(|(_, count)| **count > 0) {
             write!(f, " {number} × {count},")?;
         }
-        write!(f, " and {} runs end with a dropped event", self.runs_with_drops)?;
+        write!(
+            f,
+            " and {} runs end with a dropped event, {} with a late one",
+            self.runs_with_drops, self.runs_with_late
+        )?;
         match self.held_back {
             0 => Ok(()),
             ticks => write!(f, "\n  {ticks} of the ticks leave a higher task awake than the one that runs"),

@@ -1,4 +1,4 @@
-//! Document 01 with the change requests C-11, C-13 and C-14 in plain Rust, written from their text:
+//! Document 01 with the change requests C-11 and C-13 to C-15 in plain Rust, written from their text:
 //! the baseline for answers and for speed.
 
 pub mod description;
@@ -11,7 +11,7 @@ pub mod report;
 pub mod verdicts;
 
 #[cfg(test)]
-mod definition;
+pub mod definition;
 #[cfg(test)]
 mod figures;
 #[cfg(test)]

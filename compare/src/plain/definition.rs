@@ -1,4 +1,4 @@
-//! The definitions of document 01, C-13 and C-14 word by word, slow, and only for tests: what the fast
+//! The definitions of document 01 and C-13 to C-15 word by word, slow, and only for tests: what the fast
 //! code of this module must equal on small files and in runs.
 
 use super::description::{Description, Link, TASKS};
@@ -98,9 +98,14 @@ fn verdict(policy: Policy, file: &Description, link: Link, tempo: u32) -> Verdic
     }
 }
 
-/// A node fires: for each link out, if waiting, mark dropped; set waiting; wake the task.
+/// A node fires: for each link out, if waiting, mark dropped; set waiting; wake the task. An event for
+/// a task whose used is above 0 sets late too, and "again" on its task.
 fn fire(file: &Description, record: &mut Record, node: usize) {
     for (place, link) in file.links.iter().enumerate().filter(|(_, link)| usize::from(link.from) == node) {
+        if record.used[link.to_index()] > 0 {
+            record.late[place] = true;
+            record.again[link.to_index()] = true;
+        }
         record.dropped[place] |= record.waiting[place];
         record.waiting[place] = true;
         record.awake[link.to_index()] = true;
@@ -121,44 +126,58 @@ fn chosen(policy: Policy, file: &Description, record: &Record) -> Option<usize> 
     running.or(tasks().find(|j| record.awake[j - 1]))
 }
 
-/// One call on a record that obeys the rules: 0 for a tick, or the number of its refusal.
+/// The task that ran in a tick, and whether its run began and ended in it.
+#[derive(Clone, Copy)]
+pub struct Ran {
+    pub task: usize,
+    pub began: bool,
+    pub ended: bool,
+}
+
+/// One call on a record that obeys the rules: what ran in its tick, or the number of its refusal.
 pub fn tick(
     policy: Policy,
     file: &Description,
     record: &mut Record,
     (arrivals, tempo, finish): (u16, u16, bool),
-) -> u8 {
+) -> Result<Option<Ran>, u8> {
     let arriving: Vec<usize> = (0..16).filter(|u| arrivals >> u & 1 == 1).collect();
     if !(200..=3_000).contains(&tempo) {
-        return 11;
+        return Err(11);
     }
     if arriving.iter().any(|&u| u >= file.sources.len()) {
-        return 15;
+        return Err(15);
     }
     if !arriving.iter().all(|&u| due(file, record, u, tempo)) {
-        return 14;
+        return Err(14);
     }
     for &u in &arriving {
         fire(file, record, 33 + u);
         (record.ages[u], record.fastest[u]) = (0, tempo);
     }
-    if let Some(j) = chosen(policy, file, record) {
+    let ran = chosen(policy, file, record).map(|j| {
+        let began = record.used[j - 1] == 0;
         record.used[j - 1] += 1;
-        if record.used[j - 1] == file.runs[j - 1] || finish {
-            (record.awake[j - 1], record.used[j - 1]) = (false, 0);
+        let ended = record.used[j - 1] == file.runs[j - 1] || finish;
+        if ended {
+            // Late links stay waiting and lose "late", other links into the task clear, and a task
+            // marked "again" is awake with used 0 and loses the mark.
+            (record.awake[j - 1], record.used[j - 1]) = (record.again[j - 1], 0);
+            record.again[j - 1] = false;
             for (place, _) in file.links.iter().enumerate().filter(|(_, link)| usize::from(link.to) == j) {
-                record.waiting[place] = false;
+                (record.waiting[place], record.late[place]) = (record.late[place], false);
             }
             fire(file, record, j);
         }
-    }
+        Ran { task: j, began, ended }
+    });
     for (u, source) in file.sources.iter().enumerate() {
         record.ages[u] = (record.ages[u] + 1).min(source.spacing(200));
         if record.fastest[u] != 0 {
             record.fastest[u] = record.fastest[u].max(tempo);
         }
     }
-    0
+    Ok(ran)
 }
 
 /// Accepted files with at most so many tasks.
@@ -232,7 +251,8 @@ fn assert_defined(policy: Policy, run: &Run) {
     let Ok(Plan { description: file, .. }) = Plan::read(&run.file) else { return };
     let mut defined = PreemptiveMachine::start(&file).record();
     let calls = run.calls.chunks_exact(CALL_BYTES);
-    let expected: Vec<u8> = calls.map(|call| tick(policy, &file, &mut defined, read_call(call))).collect();
+    let mut outcome = |call| tick(policy, &file, &mut defined, call).err().unwrap_or(0);
+    let expected: Vec<u8> = calls.map(|call| outcome(read_call(call))).collect();
     let mut outcomes = vec![0; expected.len()];
     let (mut left, mut record) = ([0; RECORD_BYTES], [0; RECORD_BYTES]);
     assert_eq!((SIDE.run)(policy, &run.file, &run.calls, &mut outcomes, &mut left), 0);

@@ -2,6 +2,7 @@
 //! the record's rules.
 
 use super::Policy::{self, HoldOn, Preemptive};
+use super::definition::{self, Ran};
 use super::description::Source::{self, Fixed, Paced, Swung};
 use super::machine::{Machine, PreemptiveMachine, Record, check_tempo};
 use super::refusal::{Refusal, Word};
@@ -254,6 +255,31 @@ fn rules<const HOLD_ON: bool>() {
     };
     assert!(part_done(&[0, 0]) && part_done(&[2, 0]) && part_done(&[0, 1]));
     assert_eq!(part_done(&[2, 1]), !HOLD_ON);
+    latch_rules::<HOLD_ON>();
+}
+
+/// C-15: "again" only on a task part done, with or without a late link; "late" only on a waiting link
+/// into a task marked "again".
+fn latch_rules<const HOLD_ON: bool>() {
+    let plan = scan(3);
+    let mut part_done = Machine::<HOLD_ON>::start(&plan.description).record();
+    (part_done.awake[0], part_done.used[0], part_done.waiting[0]) = (true, 1, true);
+    let foreign = |edit: fn(&mut Record)| {
+        let mut record = part_done.clone();
+        edit(&mut record);
+        Machine::<HOLD_ON>::resume(&plan.description, &record).is_err()
+    };
+    assert!(!foreign(|record| record.again[0] = true));
+    assert!(foreign(|record| (record.again[0], record.used[0]) = (true, 0)));
+    assert!(foreign(|record| record.again[1] = true));
+    assert!(foreign(|record| record.again[31] = true));
+    assert!(!foreign(|record| (record.again[0], record.late[0]) = (true, true)));
+    assert!(foreign(|record| record.late[0] = true));
+    assert!(foreign(|record| (record.again[0], record.late[1]) = (true, true)));
+    assert!(!foreign(|record| (record.again[0], record.late[1], record.waiting[1]) = (true, true, true)));
+    assert!(foreign(|record| (record.again[0], record.late[2]) = (true, true)));
+    assert!(foreign(|record| (record.again[0], record.late[2], record.waiting[2]) = (true, true, true)));
+    assert!(foreign(|record| (record.again[0], record.late[255]) = (true, true)));
 }
 
 /// A machine that goes on from its record at any tick is the machine that went on without a break.
@@ -264,16 +290,19 @@ fn resuming_changes_nothing() {
 }
 
 fn resuming<const HOLD_ON: bool>() {
-    let plan = plan(&[2; 3], &[Paced(960), Fixed(7)], &[[1, 3, 1], [2, 3, 1], [33, 1, 1], [34, 2, 1]]);
+    let plan = plan(&[2, 3, 2], &[Paced(960), Fixed(3)], &[[1, 3, 1], [2, 3, 1], [33, 1, 1], [34, 2, 1]]);
     let mut machine = Machine::<HOLD_ON>::start(&plan.description);
     let mut record = machine.record();
+    let mut late = 0;
     for now in 0..2_000u32 {
         let arrivals = u16::from(now % 50 == 0) | u16::from(now % 3 == 0) << 1;
         let (tempo, finish) = (150 + (now * 37 % 2_900) as u16, now % 11 == 0);
         let outcome = tick::<HOLD_ON>(&plan, &mut record, arrivals, tempo, finish);
         assert_eq!(machine.tick(arrivals, tempo, finish), outcome);
         assert_eq!(machine.record(), record);
+        late += u32::from(record.late[3]);
     }
+    assert!(late > 0);
 }
 
 /// C-14, Box: 33>2 has D = 500 + 200 and its run of 300 after it, 34>3 has D = 400 and 200.
@@ -323,6 +352,148 @@ fn the_task_that_runs_holds_on() {
     assert_eq!((ran::<false>(1), ran::<true>(1)), ([1, 2, 1, 1], [1, 1, 1, 2]));
     assert_eq!((ran::<false>(0), ran::<true>(0)), ([2, 1, 1, 1], [2, 1, 1, 1]));
     assert_eq!((ran::<false>(3), ran::<true>(3)), ([1, 1, 1, 2], [1, 1, 1, 2]));
+}
+
+/// What ran in each tick, from the start at 20.0 with the given arrivals.
+fn history(policy: Policy, plan: &Plan, arrivals: &[u16]) -> Vec<Option<Ran>> {
+    let file = &plan.description;
+    let mut record = PreemptiveMachine::start(file).record();
+    let calls = arrivals.iter().map(|&mask| (mask, 200, false));
+    calls.map(|call| definition::tick(policy, file, &mut record, call).unwrap()).collect()
+}
+
+/// The ticks that an event for a task waits, from its own tick to the one in which the run that begins next
+/// ends, or else to the last.
+fn wait(history: &[Option<Ran>], task: usize, event: usize) -> usize {
+    let mut taken = false;
+    let served = history[event..].iter().position(|ran| {
+        let run = ran.filter(|ran| ran.task == task);
+        taken |= run.is_some_and(|run| run.began);
+        taken && run.is_some_and(|run| run.ended)
+    });
+    served.map_or(history.len() - event, |ticks| ticks + 1)
+}
+
+/// Twin with one arrival: task 2 runs in ticks 0 and 1, task 3 in 2 and 3, task 1 in 4 and 5.
+#[test]
+fn waits_of_twin() {
+    let ran = history(Preemptive, &twin(9), &[1, 0, 0, 0, 0, 0, 0, 0, 0]);
+    assert_eq!((wait(&ran, 2, 0), wait(&ran, 1, 0), wait(&ran[..4], 1, 0)), (2, 6, 4));
+}
+
+/// A task of run 4 and a source that comes in every second tick.
+fn quick() -> Plan {
+    plan(&[4], &[Fixed(2)], &[[33, 1, 0]])
+}
+
+/// An event of tick 2 finds its task part done and waits for the run of ticks 4 to 7, which takes one of
+/// tick 4 too. One of the last tick waits one.
+#[test]
+fn an_event_is_taken_by_the_run_that_begins_next() {
+    for policy in Policy::BOTH {
+        let ran = history(policy, &quick(), &[1, 0, 1, 0, 1, 0, 1, 0, 1]);
+        assert_eq!([0, 2, 4, 6, 8].map(|event| wait(&ran, 1, event)), [4, 6, 4, 3, 1], "{policy}");
+    }
+}
+
+/// A task of some run that two sources wake.
+fn scan(run: u32) -> Plan {
+    plan(&[run], &[Fixed(10), Fixed(10)], &[[33, 1, 1], [34, 1, 1]])
+}
+
+/// A source comes at the second tick of a run of two, which has read its inputs: the event waits for the
+/// run of ticks 2 and 3.
+#[test]
+fn a_task_reads_its_inputs_when_it_begins() {
+    for policy in Policy::BOTH {
+        let ran = history(policy, &scan(2), &[1, 2, 0, 0]);
+        assert_eq!((wait(&ran, 1, 0), wait(&ran, 1, 1)), (2, 3), "{policy}");
+        assert_eq!([1, 2].map(|place| delay(policy, &scan(2), place, 200)), [Some(4), Some(4)]);
+    }
+}
+
+/// Of task 1: awake, the ticks that it has used, again. Of the first two links: waiting, late.
+type Marks = ((bool, u32, bool), [bool; 2], [bool; 2]);
+
+/// The marks after each tick at 20.0 from the start.
+fn marks<const HOLD_ON: bool>(plan: &Plan, arrivals: &[u16]) -> Vec<Marks> {
+    let mut machine = Machine::<HOLD_ON>::start(&plan.description);
+    let mut after = |&mask| {
+        machine.tick(mask, 200, false).unwrap();
+        let Record { awake, used, again, waiting, late, .. } = machine.record();
+        ((awake[0], used[0], again[0]), [waiting[0], waiting[1]], [late[0], late[1]])
+    };
+    arrivals.iter().map(&mut after).collect()
+}
+
+/// Source 34 comes at the second tick of a run of three, and in another run at its last tick.
+#[test]
+fn marks_of_late_events() {
+    let served = ((false, 0, false), [false; 2], [false; 2]);
+    let expected = [
+        ((true, 1, false), [true, false], [false; 2]),
+        ((true, 2, true), [true; 2], [false, true]),
+        ((true, 0, false), [false, true], [false; 2]),
+        ((true, 1, false), [false, true], [false; 2]),
+        ((true, 2, false), [false, true], [false; 2]),
+        served,
+    ];
+    let second = [1, 2, 0, 0, 0, 0];
+    assert_eq!(
+        (marks::<false>(&scan(3), &second), marks::<true>(&scan(3), &second)),
+        (expected.into(), expected.into())
+    );
+    // At the last tick an event is late and put right in one.
+    let last = [1, 0, 2, 0, 0, 0];
+    let expected = [
+        expected[0],
+        ((true, 2, false), [true, false], [false; 2]),
+        expected[2],
+        expected[3],
+        expected[4],
+        served,
+    ];
+    assert_eq!(
+        (marks::<false>(&scan(3), &last), marks::<true>(&scan(3), &last)),
+        (expected.into(), expected.into())
+    );
+}
+
+/// A second firing while waiting is a drop, and late where its task is part done.
+#[test]
+fn a_drop_may_be_late() {
+    a_late_drop::<false>();
+    a_late_drop::<true>();
+}
+
+fn a_late_drop<const HOLD_ON: bool>() {
+    let mut machine = Machine::<HOLD_ON>::start(&quick().description);
+    [1, 0, 1].iter().for_each(|&mask| machine.tick(mask, 200, false).unwrap());
+    let record = machine.record();
+    assert!(record.dropped[0] && record.late[0] && record.again[0] && record.used[0] == 3);
+    machine.tick(0, 200, false).unwrap();
+    let record = machine.record();
+    assert!(
+        record.waiting[0] && !record.late[0] && !record.again[0] && record.awake[0] && record.used[0] == 0
+    );
+}
+
+/// An event from a task, for one that it interrupted.
+#[test]
+fn an_interrupted_task_runs_again() {
+    let plan = plan(&[3, 1], &[Fixed(10), Fixed(10)], &[[2, 1, 0], [33, 1, 0], [34, 2, 0]]);
+    let marks = marks::<false>(&plan, &[1, 2]);
+    assert_eq!(marks[1], ((true, 1, true), [true, true], [true, false]));
+}
+
+/// "Again" without a late link breaks no rule: the task runs once more.
+#[test]
+fn again_alone_is_kept() {
+    let plan = scan(3);
+    let mut record = PreemptiveMachine::start(&plan.description).record();
+    (record.awake[0], record.used[0], record.again[0]) = (true, 2, true);
+    assert_eq!(tick::<false>(&plan, &mut record, 0, 200, false), Ok(()));
+    assert!(record.awake[0] && record.used[0] == 0 && !record.again[0]);
 }
 
 #[test]

@@ -1,4 +1,4 @@
-//! The tick machine on both models ("The tick machine", C-13 and C-14, refusals 11, 16, 15, 14).
+//! The tick machine on both models ("The tick machine", C-13 to C-15, refusals 11, 16, 15, 14).
 
 use super::description::{Description, LINKS, SOURCES, Source, Spacings, TASKS};
 use super::list::List;
@@ -17,6 +17,10 @@ pub struct Record {
     pub ages: [u32; SOURCES],
     /// The fastest tempo given since the source last fired; 0 before its first firing.
     pub fastest: [u16; SOURCES],
+    /// A task that runs once more when its run ends, for the links that came late.
+    pub again: [bool; TASKS],
+    /// A link whose event came when its task was part done: the run in progress does not take it.
+    pub late: [bool; LINKS],
 }
 
 impl Record {
@@ -28,7 +32,9 @@ impl Record {
         let marks = self.waiting.iter().chain(&self.dropped).map(|&mark| mark.into());
         let awake = self.awake.iter().map(|&awake| awake.into());
         let fastest = self.fastest.iter().flat_map(|tempo| tempo.to_be_bytes());
-        for (byte, value) in bytes.iter_mut().zip(awake.chain(used).chain(marks).chain(ages).chain(fastest)) {
+        let latched = self.again.iter().chain(&self.late).map(|&mark| mark.into());
+        let values = awake.chain(used).chain(marks).chain(ages).chain(fastest).chain(latched);
+        for (byte, value) in bytes.iter_mut().zip(values) {
             *byte = value;
         }
     }
@@ -39,6 +45,12 @@ impl Record {
 struct LinkSet([u64; LINKS / 64]);
 
 impl LinkSet {
+    fn of(marks: &[bool; LINKS]) -> LinkSet {
+        let mut set = LinkSet::default();
+        (0..LINKS).filter(|&link| marks[link]).for_each(|link| set.insert(link));
+        set
+    }
+
     fn insert(&mut self, link: usize) {
         self.0[link / 64] |= 1 << (link % 64);
     }
@@ -77,9 +89,11 @@ pub struct Machine<const HOLD_ON: bool> {
 
     awake: u32,
     used: [u32; TASKS],
-    /// On the hold-on model the task that is running: a set of one or none.
-    running: u32,
+    /// The tasks whose used is above 0. On the hold-on model that is the one that is running, or none.
+    part_done: u32,
+    again: u32,
     waiting: LinkSet,
+    late: LinkSet,
     dropped: LinkSet,
     /// Ticks made, and for each source the number of the tick in which it last fired. An age is
     /// read off these, so that a tick need not raise every one.
@@ -109,8 +123,10 @@ impl<const HOLD_ON: bool> Machine<HOLD_ON> {
             into: [LinkSet::default(); TASKS],
             awake: 0,
             used: [0; TASKS],
-            running: 0,
+            part_done: 0,
+            again: 0,
             waiting: LinkSet::default(),
+            late: LinkSet::default(),
             dropped: LinkSet::default(),
             now: 0,
             fired: widest.map(|spacing| -i64::from(spacing)),
@@ -136,17 +152,11 @@ impl<const HOLD_ON: bool> Machine<HOLD_ON> {
         let mut machine = Self::start(description);
         machine.used = record.used;
         machine.awake = task_set(|task| record.awake[task]);
-        if HOLD_ON {
-            machine.running = part_done(record);
-        }
-        for link in 0..description.links.len() {
-            if record.waiting[link] {
-                machine.waiting.insert(link);
-            }
-            if record.dropped[link] {
-                machine.dropped.insert(link);
-            }
-        }
+        machine.part_done = part_done(record);
+        machine.again = task_set(|task| record.again[task]);
+        machine.waiting = LinkSet::of(&record.waiting);
+        machine.late = LinkSet::of(&record.late);
+        machine.dropped = LinkSet::of(&record.dropped);
         machine.fired = record.ages.map(|age| -i64::from(age));
         machine.fastest = record.fastest;
         Ok(machine)
@@ -210,8 +220,8 @@ impl<const HOLD_ON: bool> Machine<HOLD_ON> {
         self.fastest.map(|fastest| if fastest == 0 { 0 } else { fastest.max(since) })
     }
 
-    /// Sends an event over each of a set of links, and wakes the tasks they lead to. Nodes share no link, so those that fire
-    /// together can be joined first.
+    /// Sends an event over each of a set of links, and wakes the tasks they lead to; one that is part done runs again. Nodes share
+    /// no link, so those that fire together can be joined first.
     #[inline]
     fn send(&mut self, fired: &LinkSet, wakes: u32) {
         let waiting = self.waiting;
@@ -220,25 +230,53 @@ impl<const HOLD_ON: bool> Machine<HOLD_ON> {
             *dropped |= waiting.0[place] & fired.0[place];
         }
         self.awake |= wakes;
+        let again = wakes & self.part_done;
+        if again != 0 {
+            self.mark_late(fired, again);
+        }
+    }
+
+    /// Marks the tasks that are part done and the links that fire into them, which few do.
+    #[cold]
+    fn mark_late(&mut self, fired: &LinkSet, again: u32) {
+        self.again |= again;
+        for task in members(again.into()) {
+            for (place, late) in self.late.0.iter_mut().enumerate() {
+                *late |= fired.0[place] & self.into[task].0[place];
+            }
+        }
     }
 
     /// Runs a task for this tick: the highest awake one, or on the hold-on model the one that is
     /// running, if any is. If that ends its run, it fires.
     #[inline]
     fn run_task(&mut self, finish: bool) {
-        let choice = if HOLD_ON && self.running != 0 { self.running } else { self.awake };
+        let choice = if HOLD_ON && self.part_done != 0 { self.part_done } else { self.awake };
         let task = choice.ilog2() as usize;
         self.used[task] += 1;
-        let ends = self.used[task] == self.runs[task] || finish;
-        if HOLD_ON {
-            self.running = if ends { 0 } else { 1 << task };
+        if self.used[task] != self.runs[task] && !finish {
+            self.part_done |= 1 << task;
+            return;
         }
-        if ends {
+        self.used[task] = 0;
+        self.part_done &= !(1 << task);
+        self.waiting.map(&self.into[task], |waiting, into| waiting & !into);
+        if self.again >> task & 1 == 0 {
             self.awake &= !(1 << task);
-            self.used[task] = 0;
-            self.waiting.map(&self.into[task], |waiting, into| waiting & !into);
-            let fired = self.out_of[task];
-            self.send(&fired, self.wakes[task]);
+        } else {
+            self.take_late(task);
+        }
+        let fired = self.out_of[task];
+        self.send(&fired, self.wakes[task]);
+    }
+
+    /// A task marked again stays awake for the links that came late.
+    #[cold]
+    fn take_late(&mut self, task: usize) {
+        self.again &= !(1 << task);
+        for (place, &into) in self.into[task].0.iter().enumerate() {
+            self.waiting.0[place] |= self.late.0[place] & into;
+            self.late.0[place] &= !into;
         }
     }
 
@@ -251,6 +289,8 @@ impl<const HOLD_ON: bool> Machine<HOLD_ON> {
             dropped: std::array::from_fn(|link| self.dropped.has(link)),
             ages: std::array::from_fn(|source| self.age(source)),
             fastest: self.fastest_kept(),
+            again: std::array::from_fn(|task| self.again >> task & 1 == 1),
+            late: std::array::from_fn(|link| self.late.has(link)),
         }
     }
 
@@ -262,7 +302,7 @@ impl<const HOLD_ON: bool> Machine<HOLD_ON> {
 impl HoldOnMachine {
     /// Whether a higher task waits for the one that is running.
     pub fn holds_back(&self) -> bool {
-        self.running != 0 && self.awake.ilog2() > self.running.ilog2()
+        self.part_done != 0 && self.awake.ilog2() > self.part_done.ilog2()
     }
 }
 
@@ -281,7 +321,8 @@ pub(super) fn check_tempo(tempo: u16) -> Result<(), Refusal> {
 
 /// The rules of the record: used is below the longest run; a sleeping task has used 0; a waiting
 /// link's task is awake; ages do not exceed the spacings at the slowest tempo; a kept tempo is one
-/// of the knob, or 0 with the age as at the start; nothing is set for absent nodes or links.
+/// of the knob, or 0 with the age as at the start; nothing is set for absent nodes or links; "again"
+/// is only on a task part done, and "late" only on a waiting link into a task marked "again".
 fn obeys_rules(record: &Record, description: &Description) -> bool {
     let tasks = (0..TASKS).all(|task| match description.runs.get(task) {
         Some(&run) if record.awake[task] => record.used[task] < run,
@@ -300,7 +341,12 @@ fn obeys_rules(record: &Record, description: &Description) -> bool {
             None => age == 0 && fastest == 0,
         }
     });
-    tasks && links && sources
+    let again = (0..TASKS).all(|task| !record.again[task] || record.used[task] > 0);
+    let late = (0..LINKS).all(|place| match description.links.get(place) {
+        Some(link) => !record.late[place] || record.waiting[place] && record.again[link.to_index()],
+        None => !record.late[place],
+    });
+    tasks && links && sources && again && late
 }
 
 /// The tasks whose used is above 0.

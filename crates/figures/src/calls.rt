@@ -185,3 +185,21 @@ pub fn tasks(t: Tally, m: Machine, used: u32, first: bool, second: bool) -> Tall
         m.used[0] == used && m.awake[0] == first && m.awake[1] == second,
     )
 }
+
+// Of a record whether the first task is awake, its used, and whether it is marked again.
+pub fn first_task(t: Tally, m: Machine, awake: bool, used: u32, again: bool) -> Tally {
+    counted(
+        t,
+        m.awake[0] == awake && m.used[0] == used && m.again[0] == again,
+    )
+}
+
+// Of a record whether the first two links wait.
+pub fn waits(t: Tally, m: Machine, first: bool, second: bool) -> Tally {
+    counted(t, m.waiting[0] == first && m.waiting[1] == second)
+}
+
+// And whether they are late.
+pub fn lates(t: Tally, m: Machine, first: bool, second: bool) -> Tally {
+    counted(t, m.late[0] == first && m.late[1] == second)
+}

@@ -915,16 +915,13 @@ fn hold_pages() -> Tally {
     cases::longest(t, 11156, 13)
 }
 
-// The pair's record after a tick at 20.0.
+// A record after a tick at 20.0 in which source 33 comes, or source 34.
+fn after(p: Policy, d: Description, m: Machine, first: bool, second: bool) -> Machine {
+    calls::later_on(p, d, 200, m, calls::arriving(first, second), false)
+}
+
 fn pair_later(p: Policy, m: Machine, first: bool, second: bool) -> Machine {
-    calls::later_on(
-        p,
-        calls::described(&PAIR),
-        200,
-        m,
-        calls::arriving(first, second),
-        false,
-    )
+    after(p, calls::described(&PAIR), m, first, second)
 }
 
 // Source 33 comes in the first of four ticks and source 34 in the second. On the hold-on model the lower task runs on to its end, and the higher one then; on the preemptive model
@@ -967,6 +964,152 @@ fn parts_done() -> Tally {
     m.used[1] = 1;
     let t = calls::ticks_once(t, d, 200, m, still, 16);
     calls::ticks_once(cases::on(Policy::Preemptive, t), d, 200, m, still, 0)
+}
+
+// A task that two fixed sources of 10 wake; both links are critical.
+fn scan(run: u8) -> [u8; 33] {
+    let mut file =
+        *b"\x01\x00\x04\x00\x00\x00\x00\x02\x00\x04\x00\x00\x00\x0a\x02\x00\x04\x00\x00\x00\x0a\x04\x00\x03\x21\x01\x01\x04\x00\x03\x22\x01\x01";
+    file[6] = run;
+    file
+}
+
+// A task of run 4, a fixed source of 2, and the link between them.
+const QUICK: [u8; 20] =
+    *b"\x01\x00\x04\x00\x00\x00\x04\x02\x00\x04\x00\x00\x00\x02\x04\x00\x03\x21\x01\x00";
+
+// Tasks of run 3 and 1, each with a fixed source of 10 of its own, and a link from the higher task to the lower one, at the first place.
+const NESTED: [u8; 46] =
+    *b"\x01\x00\x04\x00\x00\x00\x03\x01\x00\x04\x00\x00\x00\x01\x02\x00\x04\x00\x00\x00\x0a\x02\x00\x04\x00\x00\x00\x0a\x04\x00\x03\x02\x01\x00\x04\x00\x03\x21\x01\x00\x04\x00\x03\x22\x02\x00";
+
+// C-15: source 34 comes at the second and last tick of a run, which has read its inputs, and its event waits for the next run. So the first event waits two ticks and
+// this one three; each is printed with 4.
+fn reading(t: Tally) -> Tally {
+    let p = t.policy;
+    let d = calls::described(&scan(2));
+    let t = cases::held(t, &scan(2), 200, 1, 4, 10);
+    let t = cases::held(t, &scan(2), 200, 2, 4, 10);
+    let m = after(p, d, calls::idle(d), true, false);
+    let t = calls::waits(t, m, true, false);
+    let m = after(p, d, m, false, true);
+    let t = calls::waits(t, m, false, true);
+    let m = after(p, d, m, false, false);
+    let t = calls::waits(t, m, false, true);
+    let m = after(p, d, m, false, false);
+    calls::waits(t, m, false, false)
+}
+
+// The marks of a run of three ticks, of which source 34 comes at the second, and of the run that takes its event; and of a first run that finishes at its second tick.
+fn late_event(t: Tally) -> Tally {
+    let p = t.policy;
+    let d = calls::described(&scan(3));
+    let begun = after(p, d, calls::idle(d), true, false);
+    let t = calls::first_task(t, begun, true, 1, false);
+    let t = calls::waits(t, begun, true, false);
+    let t = calls::lates(t, begun, false, false);
+    let late = after(p, d, begun, false, true);
+    let t = calls::first_task(t, late, true, 2, true);
+    let t = calls::waits(t, late, true, true);
+    let t = calls::lates(t, late, false, true);
+    let ended = after(p, d, late, false, false);
+    let t = calls::first_task(t, ended, true, 0, false);
+    let t = calls::waits(t, ended, false, true);
+    let t = calls::lates(t, ended, false, false);
+    let m = after(p, d, ended, false, false);
+    let t = calls::first_task(t, m, true, 1, false);
+    let m = after(p, d, m, false, false);
+    let t = calls::waits(t, m, false, true);
+    let t = calls::lates(t, m, false, false);
+    let m = after(p, d, m, false, false);
+    let t = calls::first_task(t, m, false, 0, false);
+    let t = calls::waits(t, m, false, false);
+    let m = calls::later_on(p, d, 200, begun, calls::arriving(false, true), true);
+    let t = calls::first_task(t, m, true, 0, false);
+    let t = calls::waits(t, m, false, true);
+    calls::lates(t, m, false, false)
+}
+
+// A source that comes at the third tick of a run of four, while its event waits: that is a drop, and late.
+fn late_drop(t: Tally) -> Tally {
+    let p = t.policy;
+    let d = calls::described(&QUICK);
+    let m = after(p, d, calls::idle(d), true, false);
+    let m = after(p, d, m, false, false);
+    let m = after(p, d, m, true, false);
+    let t = cases::counted(t, m.dropped[0]);
+    let t = calls::lates(t, m, true, false);
+    let t = calls::first_task(t, m, true, 3, true);
+    let m = after(p, d, m, false, false);
+    let t = calls::first_task(t, m, true, 0, false);
+    let t = calls::waits(t, m, true, false);
+    calls::lates(t, m, false, false)
+}
+
+// An event from a task, for one that it interrupted; on the hold-on model the lower task has ended before.
+fn nested() -> Tally {
+    let d = calls::described(&NESTED);
+    let p = Policy::Preemptive;
+    let m = after(p, d, calls::idle(d), true, false);
+    let m = after(p, d, m, false, true);
+    let t = calls::first_task(cases::none(), m, true, 1, true);
+    let t = calls::waits(t, m, true, true);
+    let t = calls::lates(t, m, true, false);
+    let m = after(p, d, m, false, false);
+    let m = after(p, d, m, false, false);
+    let t = calls::first_task(t, m, true, 0, false);
+    let t = calls::waits(t, m, true, false);
+    let t = calls::lates(t, m, false, false);
+    let p = Policy::HoldOn;
+    let m = after(p, d, calls::idle(d), true, false);
+    let m = after(p, d, m, false, true);
+    let m = after(p, d, m, false, false);
+    let t = calls::first_task(t, m, false, 0, false);
+    let m = after(p, d, m, false, false);
+    let t = calls::first_task(t, m, true, 0, false);
+    let t = calls::waits(t, m, true, false);
+    calls::lates(t, m, false, false)
+}
+
+// 16 by the rules of these marks: "again" only on a task part done, with or without a late link, and "late" only on a waiting link into a task marked "again".
+fn latch_rules(t: Tally) -> Tally {
+    let p = t.policy;
+    let d = calls::described(&scan(3));
+    let still = calls::arriving(false, false);
+    let part_done = after(p, d, calls::idle(d), true, false);
+    let mut m = part_done;
+    m.late[0] = true;
+    let t = calls::ticks_once(t, d, 200, m, still, 16);
+    m.again[0] = true;
+    let t = calls::ticks_once(t, d, 200, m, still, 0);
+    m.late[1] = true;
+    let t = calls::ticks_once(t, d, 200, m, still, 16);
+    m.waiting[1] = true;
+    let t = calls::ticks_once(t, d, 200, m, still, 0);
+    m.late[2] = true;
+    let t = calls::ticks_once(t, d, 200, m, still, 16);
+    m.waiting[2] = true;
+    let t = calls::ticks_once(t, d, 200, m, still, 16);
+    let mut m = part_done;
+    m.again[0] = true;
+    let t = calls::ticks_once(t, d, 200, m, still, 0);
+    m.again[1] = true;
+    let t = calls::ticks_once(t, d, 200, m, still, 16);
+    let mut m = part_done;
+    m.again[0] = true;
+    m.used[0] = 0;
+    let t = calls::ticks_once(t, d, 200, m, still, 16);
+    let mut m = part_done;
+    m.again[31] = true;
+    let t = calls::ticks_once(t, d, 200, m, still, 16);
+    let mut m = part_done;
+    m.late[255] = true;
+    let t = calls::ticks_once(t, d, 200, m, still, 16);
+    let mut m = part_done;
+    m.again[0] = true;
+    m.used[0] = 2;
+    let last = after(p, d, m, false, false);
+    let t = calls::first_task(t, last, true, 0, false);
+    calls::waits(t, last, false, false)
 }
 
 fn print_group(name: &[u8], t: Tally) {
@@ -1026,5 +1169,22 @@ fn main() {
     print_group(
         b"C-14, Box with the knob moving",
         moving_knob(Policy::HoldOn, 1248),
+    );
+    print_group(
+        b"C-15, inputs read when a run begins",
+        reading(cases::on(Policy::HoldOn, reading(cases::none()))),
+    );
+    print_group(
+        b"C-15, a late event",
+        late_event(cases::on(Policy::HoldOn, late_event(cases::none()))),
+    );
+    print_group(
+        b"C-15, a late drop",
+        late_drop(cases::on(Policy::HoldOn, late_drop(cases::none()))),
+    );
+    print_group(b"C-15, an interrupted task", nested());
+    print_group(
+        b"C-15, rules of the record",
+        latch_rules(cases::on(Policy::HoldOn, latch_rules(cases::none()))),
     );
 }

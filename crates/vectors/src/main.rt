@@ -53,7 +53,7 @@ fn compare_all(s: &[u8], cases: Cases) -> Tally {
 
 // Compares the cases of a data file.
 fn compare_file(path: &[u8], cases: Cases, what: &[u8]) {
-    let mut data = [0u8; 262144];
+    let mut data = [0u8; 294912];
     let n = read_data(path, &mut data);
     print_tally(compare_all(&data[..n], cases), what);
 }
@@ -67,7 +67,12 @@ fn main() {
         Cases::Reports(plain),
         b" reports with swing agree\n",
     );
-    compare_file(b"knob-runs.bin", Cases::Runs(plain), b" runs agree\n");
+    compare_file(b"latched-runs.bin", Cases::Runs(plain), b" runs agree\n");
+    compare_file(
+        b"knob-runs.bin",
+        Cases::Runs(plain),
+        b" runs from before C-15 agree\n",
+    );
     compare_file(
         b"steady-runs.bin",
         Cases::Runs(plain),
@@ -79,8 +84,13 @@ fn main() {
         b" reports of the hold-on model agree\n",
     );
     compare_file(
-        b"hold-runs.bin",
+        b"latched-hold-runs.bin",
         Cases::Runs(hold),
         b" runs of the hold-on model agree\n",
+    );
+    compare_file(
+        b"hold-runs.bin",
+        Cases::Runs(hold),
+        b" runs of the hold-on model from before C-15 agree\n",
     );
 }

@@ -1,5 +1,5 @@
-// A machine's record as the vectors have it, in bytes: awake, used, waiting, dropped, ages, fastest tempos. Numbers have their high byte
-// first; a tempo has two bytes, used and an age have four.
+// A machine's record as the vectors have it, in bytes: awake, used, waiting, dropped, ages, fastest tempos, again, late. Numbers have their
+// high byte first; a tempo has two bytes, used and an age have four. Records from before C-15 end with the tempos.
 
 use model::Machine;
 ghost use Prim.Native.Nat.{_<_};
@@ -20,7 +20,7 @@ fn byte_of(x: u32, p: usize) -> u8 {
 
 // The byte at a place of a record.
 fn record_byte(m: Machine, k: usize) -> u8
-    requires { ⌜ k < 768 ⌝ }
+    requires { ⌜ k < 1056 ⌝ }
 {
     if k < 32 {
         return flag(m.awake[k]);
@@ -39,19 +39,37 @@ fn record_byte(m: Machine, k: usize) -> u8
         let i = (k - 672) / 4;
         return byte_of(m.ages[i], (k - 672) % 4);
     }
-    let i = (k - 736) / 2;
-    byte_of(m.fastest[i], 2 + (k - 736) % 2)
+    if k < 768 {
+        let i = (k - 736) / 2;
+        return byte_of(m.fastest[i], 2 + (k - 736) % 2);
+    }
+    if k < 800 {
+        return flag(m.again[k - 768]);
+    }
+    flag(m.late[k - 800])
 }
 
 // Whether a record begins with the recorded bytes.
 pub fn begins(m: Machine, recorded: &[u8]) -> bool {
     let n = recorded.len();
-    if 768 < n {
+    if 1056 < n {
         return false;
     }
     let mut k: usize = 0;
     while k < n {
         if record_byte(m, k) != recorded[k] {
+            return false;
+        }
+        k += 1;
+    }
+    true
+}
+
+// Whether no task is marked again and no link late.
+pub fn unlatched(m: Machine) -> bool {
+    let mut k: usize = 768;
+    while k < 1056 {
+        if record_byte(m, k) != 0 {
             return false;
         }
         k += 1;

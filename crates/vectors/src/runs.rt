@@ -1,11 +1,14 @@
-// data/knob-runs.bin repeats four parts, each a length in two bytes, high byte first, and its bytes: a file, its calls of six bytes each,
-// their recorded outcomes, and the record after the last call; so does data/hold-runs.bin, of the hold-on model. data/steady-runs.bin has document 01's runs, each at one tempo, in the same
-// form (tools/steady-runs), with document 01's record of 736 bytes and the tempo behind it.
+// data/latched-runs.bin repeats four parts, each a length in two bytes, high byte first, and its bytes: a file, its calls of six bytes each,
+// their recorded outcomes, and the record after the last call; so does data/latched-hold-runs.bin, of the hold-on model. data/knob-runs.bin
+// and data/hold-runs.bin are of the machines before C-15, with a record of 768 bytes. data/steady-runs.bin has document 01's runs, each at one
+// tempo, in the same form (tools/steady-runs), with document 01's record of 736 bytes and the tempo behind it. Of these three the runs are kept in
+// which no event comes for a task part done, which C-15 leaves as they were.
 
 use crate::parts::Tally;
 use crate::parts::counted;
 use crate::parts::part_at;
 use crate::records::begins;
+use crate::records::unlatched;
 use model::Machine;
 use model::Outcome;
 use model::Policy;
@@ -27,10 +30,16 @@ fn same_outcomes(outcomes: &[u8], recorded: &[u8]) -> bool {
     check::same(&outcomes[..n], recorded)
 }
 
-// Whether a record is the recorded one. Of document 01's the ages are not compared: they were counted up to the spacing at the run's tempo, and
-// are now counted up to the spacing at 20.0.
+// Whether a record is the recorded one, or one from before C-15 without its marks. Of document 01's the ages are not compared: they were counted
+// up to the spacing at the run's tempo, and are now counted up to the spacing at 20.0.
 fn same_record(m: Machine, recorded: &[u8]) -> bool {
     let n = recorded.len();
+    if n == 1056 {
+        return begins(m, recorded);
+    }
+    if !unlatched(m) {
+        return false;
+    }
     if n == 738 {
         return begins(m, &recorded[..672]);
     }

@@ -7,7 +7,7 @@ use mathlib.Core.Logic.{_⊎_, inl, inr}
 use native.Mathlib.Omega.{arith}
 use lib.ListN.{getD, set, length}
 use lib.Dec.{eqb, ltb}
-use borrow.Author.Tests.{lt-ltb, eqb-true, eq-eqb, ne-eqb}
+use borrow.Author.Tests.{lt-ltb, eqb-true, eqb-false, eq-eqb, ne-eqb}
 use Rattle.model.specs.declared.Description.{Description}
 use Rattle.model.specs.declared.Machine.{Machine}
 use Rattle.model.specs.declared.Policy.{Policy}
@@ -178,3 +178,20 @@ module _ (p : Policy) (running : ℕ) (used : List ℕ) (h : ℕ) (low : 1 ≤ h
           idle (less o) = absurd (not-both (eq-eqb h running (own o)) (is ∙ e))
           idle (same z) = sym z
           idle (more z) = absurd (omega arith)
+
+  -- once its run has ended nobody goes on, and once it has not it does
+  pub ended-running : cond (eqb (getD used (h - 1) 0) 0) running 0 ≡ 0
+  ended-running = go (eqb (getD used (h - 1) 0) 0) refl
+    where
+      go : (b : Bool) → eqb (getD used (h - 1) 0) 0 ≡ b → cond (eqb (getD used (h - 1) 0) 0) running 0 ≡ 0
+      go true e = rw e (goes-none (eqb-true (getD used (h - 1) 0) 0 e))
+      go false e = rw e refl
+
+  pub going-running : cond (eqb (getD used (h - 1) 0) 0) (cond (holdsOn p) h 0) running ≡ cond (holdsOn p) h 0
+  going-running = go (eqb (getD used (h - 1) 0) 0) refl
+    where
+      go : (b : Bool) → eqb (getD used (h - 1) 0) 0 ≡ b → cond (eqb (getD used (h - 1) 0) 0) (cond (holdsOn p) h 0) running ≡ cond (holdsOn p) h 0
+      go true e = rw e refl
+      go false e =
+          let ne : getD used (h - 1) 0 ≡ 0 → ⊥ = eqb-false (getD used (h - 1) 0) 0 e in
+          rw e (goes-same (omega arith))

@@ -226,11 +226,11 @@ done-dropped false true false x = refl
 done-dropped false false t x = refl
 
 -- or one begins that is not over
-begun-part : (k : Bool) (u more : ℕ) (p : Bool) → p ≡ ltb 0 u → 0 < more → (p || k) ≡ ltb 0 (cond k more u)
-begun-part true u more true e o = sym (lt-ltb 0 more o)
-begun-part true u more false e o = sym (lt-ltb 0 more o)
-begun-part false u more true e o = e
-begun-part false u more false e o = e
+begun-part : (k : Bool) (u n : ℕ) (p : Bool) → p ≡ ltb 0 u → 0 < n → (p || k) ≡ ltb 0 (cond k n u)
+begun-part true u n true e o = sym (lt-ltb 0 n o)
+begun-part true u n false e o = sym (lt-ltb 0 n o)
+begun-part false u n true e o = e
+begun-part false u n false e o = e
 
 begun-awake : (w p x : Bool) → (x ≡ true → (w || p) ≡ true) → ((w && not x) || (p || x)) ≡ (w || p)
 begun-awake true true true f = refl
@@ -357,12 +357,12 @@ module _ (d : Description) (rows : List ℕ) (h : ℕ) (w w′ : Words) (alone :
         }
 
   -- its run begins and is not over
-  module _ (more : ℕ) (unused : usedAt m h ≡ 0) (wakes : awakeAt m h ≡ true) (grows : 0 < more) (a : (k : ℕ) → member (w′ .woken) k ≡ (member (w .woken) k && not (member alone k))) (c : (k : ℕ) → member (w′ .part) k ≡ (member (w .part) k || eqb k h)) (b : (l : ℕ) → inside (w′ .fresh) l ≡ (inside (w .fresh) l && not (inside into l))) (t : (l : ℕ) → inside (w′ .taken) l ≡ (inside (w .taken) l || (inside (w .fresh) l && inside into l))) (same : w′ .dropped ≡ w .dropped) where
+  module _ (n : ℕ) (unused : usedAt m h ≡ 0) (wakes : awakeAt m h ≡ true) (grows : 0 < n) (a : (k : ℕ) → member (w′ .woken) k ≡ (member (w .woken) k && not (member alone k))) (c : (k : ℕ) → member (w′ .part) k ≡ (member (w .part) k || eqb k h)) (b : (l : ℕ) → inside (w′ .fresh) l ≡ (inside (w .fresh) l && not (inside into l))) (t : (l : ℕ) → inside (w′ .taken) l ≡ (inside (w .taken) l || (inside (w .fresh) l && inside into l))) (same : w′ .dropped ≡ w .dropped) where
     fresh-off : member (w .part) h ≡ false
     fresh-off = H .part h p ∙ ap (ltb 0) unused
 
-    used-now : (k : ℕ) → 1 ≤ k → usedAt (setUsed h more m) k ≡ cond (eqb k h) more (usedAt m k)
-    used-now k y = getD-task (m .used) h more 0 k y p (omega (arith, H .sized .useds))
+    used-now : (k : ℕ) → 1 ≤ k → usedAt (setUsed h n m) k ≡ cond (eqb k h) n (usedAt m k)
+    used-now k y = getD-task (m .used) h n 0 k y p (omega (arith, H .sized .useds))
 
     woken-h : (k : ℕ) → eqb k h ≡ true → awakeIn w k ≡ true
     woken-h k x = ap (awakeIn w) (eqb-true k h x) ∙ H .awake h p ∙ wakes
@@ -373,12 +373,12 @@ module _ (d : Description) (rows : List ℕ) (h : ℕ) (w w′ : Words) (alone :
     enters-more : (l : ℕ) → enters d (w′ .part) l ≡ (enters d (w .part) l || own l)
     enters-more l = rw (c (linkAt d l .to)) (begun-enters (ltb l (d .«link_count»)) (member (w .part) (linkAt d l .to)) (eqb (linkAt d l .to) h))
 
-    pub marks-started : Marks d w′ (setUsed h more m)
+    pub marks-started : Marks d w′ (setUsed h n m)
     marks-started = record {
-      sized = record { awakes = H .sized .awakes; useds = length-set (m .used) (h - 1) more ∙ H .sized .useds; waitings = H .sized .waitings; droppeds = H .sized .droppeds; ages = H .sized .ages; fastests = H .sized .fastests; agains = H .sized .agains; lates = H .sized .lates };
+      sized = record { awakes = H .sized .awakes; useds = length-set (m .used) (h - 1) n ∙ H .sized .useds; waitings = H .sized .waitings; droppeds = H .sized .droppeds; ages = H .sized .ages; fastests = H .sized .fastests; agains = H .sized .agains; lates = H .sized .lates };
       no-zero = awake-same 0 ∙ H .no-zero;
       present = λ k y. H .present k (sym (awake-same k) ∙ y);
-      part = λ k y. c k ∙ begun-part (eqb k h) (usedAt m k) more (member (w .part) k) (H .part k y) grows ∙ sym (ap (ltb 0) (used-now k y));
+      part = λ k y. c k ∙ begun-part (eqb k h) (usedAt m k) n (member (w .part) k) (H .part k y) grows ∙ sym (ap (ltb 0) (used-now k y));
       awake = λ k y. awake-same k ∙ H .awake k y;
       again = λ k y. rw (a k, only k, c k) (begun-again (member (w .woken) k) (member (w .part) k) (eqb k h) (λ x. ap (member (w .part)) (eqb-true k h x) ∙ fresh-off) ∙ H .again k y);
       waiting = λ l. rw (b l, t l, into-is l) (begun-waiting (inside (w .fresh) l) (inside (w .taken) l) (own l) ∙ H .waiting l);
@@ -388,12 +388,12 @@ module _ (d : Description) (rows : List ℕ) (h : ℕ) (w w′ : Words) (alone :
     }
 
 -- a run that began before goes on
-pub marks-more : (d : Description) (w : Words) (m : Machine) (h more : ℕ) → 1 ≤ h → h ≤ 32 → 0 < usedAt m h → 0 < more → Marks d w m → Marks d w (setUsed h more m)
-marks-more d w m h more p q some grows H = record {
-  sized = record { awakes = H .sized .awakes; useds = length-set (m .used) (h - 1) more ∙ H .sized .useds; waitings = H .sized .waitings; droppeds = H .sized .droppeds; ages = H .sized .ages; fastests = H .sized .fastests; agains = H .sized .agains; lates = H .sized .lates };
+pub marks-more : (d : Description) (w : Words) (m : Machine) (h n : ℕ) → 1 ≤ h → h ≤ 32 → 0 < usedAt m h → 0 < n → Marks d w m → Marks d w (setUsed h n m)
+marks-more d w m h n p q some grows H = record {
+  sized = record { awakes = H .sized .awakes; useds = length-set (m .used) (h - 1) n ∙ H .sized .useds; waitings = H .sized .waitings; droppeds = H .sized .droppeds; ages = H .sized .ages; fastests = H .sized .fastests; agains = H .sized .agains; lates = H .sized .lates };
   no-zero = H .no-zero;
   present = H .present;
-  part = λ k y. H .part k y ∙ by k (eqb k h) refl ∙ sym (ap (ltb 0) (getD-task (m .used) h more 0 k y p (omega (arith, H .sized .useds))));
+  part = λ k y. H .part k y ∙ by k (eqb k h) refl ∙ sym (ap (ltb 0) (getD-task (m .used) h n 0 k y p (omega (arith, H .sized .useds))));
   awake = H .awake;
   again = H .again;
   waiting = H .waiting;
@@ -402,8 +402,8 @@ marks-more d w m h more p q some grows H = record {
   held = H .held;
 }
   where
-    by : (k : ℕ) (x : Bool) → eqb k h ≡ x → ltb 0 (usedAt m k) ≡ ltb 0 (cond (eqb k h) more (usedAt m k))
-    by k true e = rw (e, eqb-true k h e) (lt-ltb 0 (usedAt m h) some ∙ sym (lt-ltb 0 more grows))
+    by : (k : ℕ) (x : Bool) → eqb k h ≡ x → ltb 0 (usedAt m k) ≡ ltb 0 (cond (eqb k h) n (usedAt m k))
+    by k true e = rw (e, eqb-true k h e) (lt-ltb 0 (usedAt m h) some ∙ sym (lt-ltb 0 n grows))
     by k false e = rw e refl
 
 -- the same marks in words that differ otherwise, and in a record that does

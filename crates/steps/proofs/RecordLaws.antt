@@ -98,25 +98,30 @@ going-none p used part e h = record {
   here = λ k o b. ne-eqb k 0 (λ z. omega arith) ∙ sym (ap (λ x. holdsOn p && x) (sym (h .1 k o) ∙ ap (λ s. member s k) e ∙ member-none k) ∙ and-off (holdsOn p));
 }
 
+pub last-low : (used : List ℕ) (part found : ℕ) → length used ≡ 32 → PartIn used part → LastIn part found → (1 ≤ found) × (found ≤ 32)
+last-low used part found z h f = (some found (f .in-set), by (decLt 32 found))
+  where
+    some : (k : ℕ) → member part k ≡ true → 1 ≤ k
+    some zero e = absurd (not-both e (h .0))
+    some (suc k) e = omega arith
+
+    by : Dec (32 < found) → found ≤ 32
+    by (yes q) =
+        let u : 0 < getD used (found - 1) 0 = ltb-true 0 (getD used (found - 1) 0) (sym (h .1 found (some found (f .in-set))) ∙ f .in-set) in
+        absurd (omega (arith, List·getD-eq-default used 0 {n = found - 1} (omega arith)))
+    by (no q) = omega arith
+
 pub going-one : (p : Policy) (used : List ℕ) (part found : ℕ) → length used ≡ 32 → PartIn used part → LastIn part found → (holdsOn p ≡ true → OnePart used) → Goes p (cond (holdsOn p) found 0) used
 going-one p used part found z h f one = go (holdsOn p) refl
   where
     some : 1 ≤ found
-    some = at found (f .in-set)
-      where
-        at : (k : ℕ) → member part k ≡ true → 1 ≤ k
-        at zero e = absurd (not-both e (h .0))
-        at (suc k) e = omega arith
+    some = last-low used part found z h f .0
 
     spent : 0 < getD used (found - 1) 0
     spent = ltb-true 0 (getD used (found - 1) 0) (sym (h .1 found some) ∙ f .in-set)
 
     most : found ≤ 32
-    most = by (decLt 32 found)
-      where
-        by : Dec (32 < found) → found ≤ 32
-        by (yes q) = absurd (omega (arith, spent, List·getD-eq-default used 0 {n = found - 1} (omega arith)))
-        by (no q) = omega arith
+    most = last-low used part found z h f .1
 
     go : (b : Bool) → holdsOn p ≡ b → Goes p (cond (holdsOn p) found 0) used
     go false e = record { low = rw e (omega arith); here = λ k o b. rw e (ne-eqb k 0 (λ y. omega arith)) }
@@ -215,7 +220,7 @@ begun d w gaps since g b s r = record {
     held = λ l p. absurd (not-both p (b .taken l));
   };
   same-used = refl;
-  below = λ k o t. rw (getD-same {A = ℕ} 32 (k - 1) 0) (omega (arith, g .fields .runs k o t));
+  below = λ k o t. rw (getD-same {A = ℕ} 32 (k - 1) 0) (omega (arith, g .fields .run-some k o t));
   ages = record {
     many = r .many;
     before = λ u p. omega (arith, b .first, at u p);
@@ -366,8 +371,8 @@ module _ (d : Description) (m : Machine) (g : WellFormed d) (l : rulesKept d m �
   }
     where
       both-awake : (a p g : Bool) → (p ≡ true → a ≡ true) → (g ≡ true → p ≡ true) → (((a && not p) || g) || p) ≡ a
-      both-awake true true g h i = refl
       both-awake true true true h i = refl
+      both-awake true true false h i = refl
       both-awake true false true h i = absurd (not-both (i refl) refl)
       both-awake true false false h i = refl
       both-awake false true g h i = absurd (not-both (h refl) refl)

@@ -7,8 +7,8 @@ use mathlib.Core.Logic.{_⊎_, inl, inr}
 use native.Mathlib.Omega.{arith}
 use native.Mathlib.Nat.{mod-eq-of-lt}
 use lib.Bits.{bitAnd, and-mask}
-use lib.ListN.{getD, set, length-set}
-use lib.Seq.{getD-set-same}
+use lib.ListN.{getD, set, length, length-set}
+use lib.Seq.{getD-set-same, ext-getD}
 use lib.Dec.{eqb}
 use borrow.Author.Tests.{eqb-true, eqb-false, eq-eqb, ne-eqb, lt-ltb, le-ltb}
 use Rattle.model.specs.declared.Description.{Description}
@@ -29,7 +29,7 @@ use Rattle.steps.proofs.MaskLaws.{mark-in}
 use Rattle.steps.proofs.MarkLaws.{SameMarks, marks-same, marks-aged}
 use Rattle.steps.proofs.ChoiceLaws.{choose-is, choose-none, chosen-awake}
 use Rattle.lemmas.proofs.Bools.{and-off}
-use Rattle.lemmas.proofs.Table.{set-twice}
+use Rattle.lemmas.proofs.Table.{getD-set, set-twice}
 
 -- steps that change nothing from a place on
 upTo-rest : {A : Type 0} (l j : ℕ) (step : ℕ → A → A) (a : A) → ((k : ℕ) → l ≤ k → k < l + j → (x : A) → x ≡ step k x) → upTo l step a ≡ upTo (l + j) step a
@@ -80,6 +80,19 @@ end-on : (d : Description) (h : ℕ) (finish : Bool) (m : Machine) → 1 ≤ h �
 unfolding endRun
 end-on d h finish m p e = rw (e, ne-eqb h 0 (λ z. omega arith)) refl
 
+-- 0 stored where it stands
+pub set-same : (l : List ℕ) (i : ℕ) → i < length l → getD l i 0 ≡ 0 → l ≡ set l i 0
+set-same l i p e = ext-getD 0 l (set l i 0) (sym (length-set l i 0)) (λ k q. sym (getD-set l i 0 0 k p ∙ at k (eqb k i) refl))
+  where
+    at : (k : ℕ) (b : Bool) → eqb k i ≡ b → cond (eqb k i) 0 (getD l k 0) ≡ getD l k 0
+    at k true f = rw (f, eqb-true k i f) (sym e)
+    at k false f = rw f refl
+
+-- a task that has used something
+pub positive : (spent x : ℕ) → x ≡ spent → (spent ≡ 0 → ⊥) → 0 < x
+positive zero x e n = absurd (n refl)
+positive (suc k) x e n = omega arith
+
 -- all bits of a task's number, or none
 pub kept-number : (b : Bool) (h : ℕ) → h < 64 → bitAnd h (cond b 63 0) ≡ cond b h 0
 kept-number true h p = and-mask h 6 ∙ mod-eq-of-lt p
@@ -97,8 +110,9 @@ ended-any d h more m = ap (λ (us : List ℕ). clearInto d h (record { awake = s
 -- h is the task that runs, which had used so much before
 module _ (pol : Policy) (d : Description) (w : Words) (used since runs : List ℕ) (finish : Bool) (m : Machine) (g : WellFormed d) (s : runs ≡ d .runs) (going : 0 < w .running → awakeIn w (w .running) ≡ true) (r : Goes pol (w .running) used) (H : Holds d w used since m) (awake : ℕ) (set-is : (k : ℕ) → member awake k ≡ awakeIn w k) (h : ℕ) (l : Chosen (w .running) awake h) (p : 1 ≤ h) (q : h ≤ 32) where
   abbrev spent : ℕ
-  abbrev more : ℕ
   spent = getD used (h - 1) 0
+
+  abbrev more : ℕ
   more = spent + 1
 
   pub spent-is : usedAt m h ≡ spent
@@ -159,7 +173,7 @@ module _ (pol : Policy) (d : Description) (w : Words) (used since runs : List �
       (record {
         marks = fires (ended d h m) over;
         same-used = e ∙ ap (λ (us : List ℕ). set us (h - 1) 0) (H .same-used) ∙ sym (f₂ .used ∙ c .used);
-        below = below-else (fire d h (ended d h m) .used) 0 (f₂ .used ∙ c .used) (omega (arith, H .below h p here));
+        below = below-else (fire d h (ended d h m) .used) 0 (f₂ .used ∙ c .used) (omega (arith, g .fields .run-some h p here));
         ages = subst (λ i. Ages d i since (fire d h (ended d h m))) (sym n) (ages-same d (w .tick) since m (fire d h (ended d h m)) (f₂ .ages ∙ c .ages) (H .ages));
       })
 

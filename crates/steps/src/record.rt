@@ -223,7 +223,8 @@ pub fn unpack<'a>(
     let dropped = links_of(wide::union(drops, wide::both(fresh, taken)));
     let ages = ages_of(gaps, sources, since, w.tick);
     let again = tasks_of(sets::both(w.woken, w.part));
-    let late = links_of(wide::both(fresh, links_into(rows, w.part)));
+    let entered = links_into(rows, w.part);
+    let late = links_of(wide::both(fresh, entered));
     Machine {
         awake,
         used,
@@ -238,7 +239,7 @@ pub fn unpack<'a>(
 
 // The task that goes on: on the hold-on model the one that is part done.
 fn running_in(p: Policy, part: u64) -> usize
-    ensures { λ r. ⌜ ((used : List ℕ) → PartIn used part → (holdsOn p ≡ true → OnePart used) → Goes p r used) ⌝ }
+    ensures { λ r. ⌜ ((used : List ℕ) → length used ≡ 32 → PartIn used part → (holdsOn p ≡ true → OnePart used) → Goes p r used) ⌝ }
 {
     if part == 0 {
         return 0;
@@ -256,15 +257,19 @@ pub struct Packed {
 pub fn pack(p: Policy, rows: &[u64; 576], m: Machine) -> Packed
     ensures { λ r. ⌜ Packs p (now (rows .entry)) m (r .words) (r .since) ⌝ }
 {
-    let ages = m.ages;
-    let part = part_in(&m.used);
     let waiting = links_in(&m.waiting);
     let late = links_in(&m.late);
     let dropped = links_in(&m.dropped);
-    let taken = wide::without(wide::both(waiting, links_into(rows, part)), late);
+    let awake = tasks_in(&m.awake);
+    let again = tasks_in(&m.again);
+    let part = part_in(&m.used);
+    let ages = m.ages;
     let since = since_of(&ages);
+    let entered = links_into(rows, part);
+    let read = wide::both(waiting, entered);
+    let taken = wide::without(read, late);
     let words = Words {
-        woken: sets::union(sets::without(tasks_in(&m.awake), part), tasks_in(&m.again)),
+        woken: sets::union(sets::without(awake, part), again),
         part,
         running: running_in(p, part),
         fresh: wide::without(waiting, taken),

@@ -19,15 +19,18 @@ union-requires-3 : tie.Need-union-requires-3
 union-requires-3 c κs = search needs
 
 returns : tie.Need-returns
-returns c = record {
-  awake = c .before .before .union .ensures;
-  waiting = c .before .union2 .ensures;
-  dropped = λ l. c .union3 .ensures l ∙ ap (λ i. inside (c .before .before .before .before .before .before .args .w .dropped) l || i) (c .before .before .before .both .ensures l);
-  then = refl;
-  knob = (refl, refl);
-  runs = refl;
-}
+returns c =
+    record {
+      woken = c .before .before .union .ensures;
+      fresh = c .before .union2 .ensures;
+      dropped = λ l. c .union3 .ensures l ∙ ap (λ i. inside (c .before .before .before .before .before .before .before .args .w .dropped) l || i) (c .before .before .before .both .ensures l);
+      same = (refl, refl);
+      then = refl;
+      knob = (refl, refl);
+      runs = refl;
+    }
 
 pub send-spec : {M : Type 1} → statement M
 send-spec =
-    tie.close (tie.spec both-requires union-requires union-requires-2 union-requires-3 returns)
+    tie.close
+    (tie.spec both-requires union-requires union-requires-2 union-requires-3 returns)

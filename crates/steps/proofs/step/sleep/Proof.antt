@@ -25,10 +25,9 @@ without-requires-2 c κs = search needs
 
 returns : tie.Need-returns
 returns c =
-    let S = c .before .before .before .before .before .before in
-    let A = S .args in
+    let A = c .before .before .before .before .before .before .before .args in
     record {
-      slept = λ d m g r p q h. marks-slept d (A .rows .now) (A .h) (A .w) _ (c .before .before .one .result) (c .before .before .before .before .before .row .result) (c .before .before .before .before .before .row .ensures) (c .before .before .one .ensures) (c .before .without .ensures) (c .without2 .ensures) refl m g r p q h;
+      slept = λ d m g r p q unused h. marks-slept d (A .rows .now) (A .h) (A .w) _ (c .before .before .one .result) (c .before .before .before .before .before .before .row .result) (c .before .before .before .before .before .before .row .ensures) (c .before .before .one .ensures) m g r p q h unused (c .before .without .ensures) (c .without2 .ensures) (refl, refl, refl);
       then = refl;
       knob = (refl, refl);
       runs = refl;
@@ -37,11 +36,4 @@ returns c =
 pub sleep-spec : {M : Type 1} → statement M
 sleep-spec =
     tie.close
-    (tie.spec
-    mul-row
-    add-row
-    row-requires
-    one-requires
-    without-requires
-    without-requires-2
-    returns)
+    (tie.spec mul-row add-row row-requires one-requires without-requires without-requires-2 returns)

@@ -9,18 +9,18 @@ use lib.ListN.{getD}
 use lib.Dec.{ltb, leb, eqb}
 use borrow.Author.Tests.{ltb-true, leb-true, le-leb, lt-ltb}
 use Rattle.model.specs.declared.Description.{Description}
+use Rattle.model.specs.declared.Machine.{Machine}
 use Rattle.model.specs.Basics.{sumN, allN, given}
 use Rattle.model.specs.Graph.{linkAt}
 use Rattle.model.specs.Verdicts.{onKnob}
-use Rattle.model.specs.Machine.{longestGap, taskRule, linkRule, sourceRule}
-use Rattle.lemmas.proofs.Tests.{same-test, false-of, not-both, both}
+use Rattle.model.specs.Machine.{longestGap, taskRule, linkRule, sourceRule, againRule, lateRule}
+use Rattle.lemmas.proofs.Tests.{same-test, false-of, not-both, both, and-false-left}
 use Rattle.lemmas.proofs.Range.{all-at}
 use Rattle.theory.proofs.Links.{to-most}
 use Rattle.wiring.specs.declared.Wiring.{Wiring}
 use Rattle.wiring.specs.Rows.{WiringOf}
 use Rattle.spacings.specs.Gaps.{GapsOf}
-use Rattle.steps.specs.Parts.{parts}
-use Rattle.rules.specs.Rules.{EntersOf, Enters}
+use Rattle.rules.specs.Rules.{EntersOf, Enters, LateLawful}
 
 -- tests over a range as a loop goes through them
 pub all-none : (p : ℕ → Bool) (a : ℕ) → allN p a 0 ≡ true
@@ -36,33 +36,53 @@ all-fails p a n k h f =
     sym (false-of (allN p a n) (λ e. not-both (all-at p a n e (a + k) (omega arith) (omega arith)) f))
 
 -- a task's rule, by its place
-pub task-is : (d : Description) (runs : List ℕ) (tasks k : ℕ) (aw wa dr : List Bool) (us ag fa : List ℕ) (r : Bool) → runs ≡ d .runs → d .«task_count» ≡ tasks → r ≡ cond (ltb k tasks) (ltb (getD us k 0) (getD runs k 0) && (getD aw k false || eqb (getD us k 0) 0)) (not (getD aw k false) && eqb (getD us k 0) 0) → taskRule d (parts aw us wa dr ag fa) (1 + k) ≡ r
-task-is d runs tasks k aw wa dr us ag fa r p q e =
+pub task-is : (d : Description) (m : Machine) (runs us : List ℕ) (aw : List Bool) (tasks k : ℕ) (r : Bool) → runs ≡ d .runs → d .«task_count» ≡ tasks → m .awake ≡ aw → m .used ≡ us → r ≡ cond (ltb k tasks) (ltb (getD us k 0) (getD runs k 0) && (getD aw k false || eqb (getD us k 0) 0)) (not (getD aw k false) && eqb (getD us k 0) 0) → taskRule d m (1 + k) ≡ r
+task-is d m runs us aw tasks k r p q a u e =
     let s : 1 + k - 1 ≡ k = omega arith in
     let f : leb (1 + k) tasks ≡ ltb k tasks = same-test (leb (1 + k) tasks) (ltb k tasks) (λ x. lt-ltb k tasks (omega (arith, leb-true (1 + k) tasks x))) (λ x. le-leb (1 + k) tasks (omega (arith, ltb-true k tasks x))) in
-    rw (e, p, q, s, f) refl
+    rw (e, ← a, ← u, p, q, s, f) refl
 
 -- a link's rule
-pub link-is : (d : Description) (to : List ℕ) (n l : ℕ) (aw wa dr : List Bool) (us ag fa : List ℕ) (y r : Bool) → EntersOf d to n → (l < n → y ≡ getD aw (linkAt d l .to - 1) false) → r ≡ cond (ltb l n) (not (getD wa l false) || y) (not (getD wa l false) && not (getD dr l false)) → linkRule d (parts aw us wa dr ag fa) l ≡ r
-link-is d to n l aw wa dr us ag fa y r p q e = rw (e, p .many) (go (ltb l n) refl)
+pub link-is : (d : Description) (m : Machine) (to : List ℕ) (aw wa dr : List Bool) (n l : ℕ) (y r : Bool) → EntersOf d to n → m .awake ≡ aw → m .waiting ≡ wa → m .dropped ≡ dr → (l < n → y ≡ getD aw (linkAt d l .to - 1) false) → r ≡ cond (ltb l n) (not (getD wa l false) || y) (not (getD wa l false) && not (getD dr l false)) → linkRule d m l ≡ r
+link-is d m to aw wa dr n l y r p a w x q e = rw (e, ← w, ← x, p .many) (go (ltb l n) refl)
   where
-    go : (b : Bool) → ltb l n ≡ b → cond (ltb l n) (not (getD wa l false) || getD aw (linkAt d l .to - 1) false) (not (getD wa l false) && not (getD dr l false)) ≡ cond (ltb l n) (not (getD wa l false) || y) (not (getD wa l false) && not (getD dr l false))
-    go true f = rw (f, q (ltb-true l n f)) refl
+    go : (b : Bool) → ltb l n ≡ b → cond (ltb l n) (not (getD (m .waiting) l false) || getD (m .awake) (linkAt d l .to - 1) false) (not (getD (m .waiting) l false) && not (getD (m .dropped) l false)) ≡ cond (ltb l n) (not (getD (m .waiting) l false) || y) (not (getD (m .waiting) l false) && not (getD (m .dropped) l false))
+    go true f = rw (f, q (ltb-true l n f), ← a) refl
     go false f = rw f refl
 
 -- a source's rule
 abbrev ruled : ℕ → ℕ → ℕ → Bool
 ruled gap age fastest = leb age gap && cond (eqb fastest 0) (eqb age gap) (onKnob fastest)
 
-pub source-is : (d : Description) (gaps : List ℕ) (n u : ℕ) (aw wa dr : List Bool) (us ag fa : List ℕ) (r : Bool) → d .«source_count» ≡ n → GapsOf d 200 gaps → r ≡ cond (ltb u n) (ruled (getD gaps u 0) (getD ag u 0) (getD fa u 0)) (eqb (getD ag u 0) 0 && eqb (getD fa u 0) 0) → sourceRule d (parts aw us wa dr ag fa) u ≡ r
-source-is d gaps n u aw wa dr us ag fa r p g e = go (ltb u (d .«source_count»)) refl ∙ sym (rw (← p) at e)
+pub source-is : (d : Description) (m : Machine) (gaps ag fa : List ℕ) (n u : ℕ) (r : Bool) → d .«source_count» ≡ n → GapsOf d 200 gaps → m .ages ≡ ag → m .fastest ≡ fa → r ≡ cond (ltb u n) (ruled (getD gaps u 0) (getD ag u 0) (getD fa u 0)) (eqb (getD ag u 0) 0 && eqb (getD fa u 0) 0) → sourceRule d m u ≡ r
+source-is d m gaps ag fa n u r p g a f e = go (ltb u (d .«source_count»)) refl ∙ sym (rw (← a, ← f, ← p) at e)
   where
-    go : (b : Bool) → ltb u (d .«source_count») ≡ b → cond (ltb u (d .«source_count»)) (ruled (longestGap d u) (getD ag u 0) (getD fa u 0)) (eqb (getD ag u 0) 0 && eqb (getD fa u 0) 0) ≡ cond (ltb u (d .«source_count»)) (ruled (getD gaps u 0) (getD ag u 0) (getD fa u 0)) (eqb (getD ag u 0) 0 && eqb (getD fa u 0) 0)
-    go true f = rw (f, g .at u (ltb-true u (d .«source_count») f)) refl
+    go : (b : Bool) → ltb u (d .«source_count») ≡ b → cond (ltb u (d .«source_count»)) (ruled (longestGap d u) (getD (m .ages) u 0) (getD (m .fastest) u 0)) (eqb (getD (m .ages) u 0) 0 && eqb (getD (m .fastest) u 0) 0) ≡ cond (ltb u (d .«source_count»)) (ruled (getD gaps u 0) (getD (m .ages) u 0) (getD (m .fastest) u 0)) (eqb (getD (m .ages) u 0) 0 && eqb (getD (m .fastest) u 0) 0)
+    go true h = rw (h, g .at u (ltb-true u (d .«source_count») h)) refl
+    go false h = rw h refl
+
+-- the rule of the mark "again", and that of the mark "late"
+pub again-is : (m : Machine) (ag : List Bool) (us : List ℕ) (k : ℕ) (r : Bool) → m .again ≡ ag → m .used ≡ us → r ≡ (not (getD ag k false) || ltb 0 (getD us k 0)) → againRule m (1 + k) ≡ r
+again-is m ag us k r a u e =
+    let s : 1 + k - 1 ≡ k = omega arith in
+    rw (e, ← a, ← u, s) refl
+
+pub late-is : (d : Description) (m : Machine) (to : List ℕ) (wa ag la : List Bool) (n l : ℕ) (r : Bool) → EntersOf d to n → m .waiting ≡ wa → m .again ≡ ag → m .late ≡ la → LateLawful to n wa ag la l r → lateRule d m l ≡ r
+late-is d m to wa ag la n l r p w a x e = rw (e, ← w, ← a, ← x, p .many) (go (ltb l n) refl)
+  where
+    go : (b : Bool) → ltb l n ≡ b → (not (getD (m .late) l false) || (ltb l n && (getD (m .waiting) l false && getD (m .again) (linkAt d l .to - 1) false))) ≡ (not (getD (m .late) l false) || (ltb l n && (getD (m .waiting) l false && getD (m .again) (getD to l 0 - 1) false)))
+    go true f = rw (f, p .enters l (ltb-true l n f)) refl
     go false f = rw f refl
 
 pub and-true : (a b : Bool) → a ≡ true → (a && b) ≡ b
 and-true a b e = rw e refl
+
+-- tests one after the other: the first that says no decides, one that says yes leaves it to the others
+pub broken : {a t : Bool} (b : Bool) → t ≡ a → t ≡ false → false ≡ (a && b)
+broken {a} {t} b e f = sym (and-false-left a b (sym e ∙ f))
+
+pub kept : {a b t r : Bool} → t ≡ a → t ≡ true → r ≡ b → r ≡ (a && b)
+kept {a} {b} {t} {r} e f h = h ∙ sym (and-true a b (sym e ∙ f))
 
 -- the wiring of a description: what its links enter
 pub enters-of : (d : Description) (w : Wiring) → WiringOf d w → EntersOf d (w .to) (w .links)

@@ -1,6 +1,6 @@
 -- What the tests of a record ensure, of every description whose tables they are given.
 use Prim.Native.Nat.{ℕ, _-_, _≤_, _<_}
-use mathlib.Core.Bool.{Bool}
+use mathlib.Core.Bool.{Bool, false, _||_, _&&_, not}
 use mathlib.Core.List.{List}
 use mathlib.Core.Path.{_≡_}
 use lib.ListN.{getD}
@@ -10,11 +10,10 @@ use Rattle.model.specs.declared.Policy.{Policy}
 use Rattle.model.specs.declared.Machine.{Machine}
 use Rattle.model.specs.Basics.{sumN, allN, given}
 use Rattle.model.specs.Graph.{linkAt}
-use Rattle.model.specs.Machine.{taskRule, linkRule, sourceRule, rulesKept, aloneRule, lawful}
+use Rattle.model.specs.Machine.{taskRule, linkRule, sourceRule, againRule, lateRule, rulesKept, aloneRule, lawful}
 use Rattle.wiring.specs.declared.Wiring.{Wiring}
 use Rattle.wiring.specs.Rows.{WiringOf}
 use Rattle.spacings.specs.Gaps.{GapsOf}
-use Rattle.steps.specs.Parts.{parts}
 
 -- the tasks that a description's links enter, of which there are n
 pub record EntersOf (d : Description) (to : List ℕ) (n : ℕ) : Type 0 where
@@ -27,21 +26,32 @@ pub record Enters (to : List ℕ) (n : ℕ) : Type 0 where
   pub some : (l : ℕ) → l < n → 1 ≤ getD to l 0
   pub most : (l : ℕ) → l < n → getD to l 0 ≤ 32
 
--- the rules, of the parts that each speaks of
+-- the rules, of every record that has the parts that each speaks of
 abbrev pub TasksLawful : List ℕ → ℕ → List Bool → List ℕ → Bool → Type 0
 TasksLawful runs tasks awake used r =
-    (d : Description) (waiting dropped : List Bool) (ages fastest : List ℕ) → runs ≡ d .runs → d .«task_count» ≡ tasks
-    → r ≡ allN (taskRule d (parts awake used waiting dropped ages fastest)) 1 32
+    (d : Description) (m : Machine) → runs ≡ d .runs → d .«task_count» ≡ tasks → m .awake ≡ awake → m .used ≡ used
+    → r ≡ allN (taskRule d m) 1 32
 
 abbrev pub LinksLawful : List ℕ → ℕ → List Bool → List Bool → List Bool → Bool → Type 0
 LinksLawful to n awake waiting dropped r =
-    (d : Description) (used ages fastest : List ℕ) → EntersOf d to n
-    → r ≡ allN (linkRule d (parts awake used waiting dropped ages fastest)) 0 256
+    (d : Description) (m : Machine) → EntersOf d to n → m .awake ≡ awake → m .waiting ≡ waiting → m .dropped ≡ dropped
+    → r ≡ allN (linkRule d m) 0 256
 
 abbrev pub SourcesLawful : List ℕ → ℕ → List ℕ → List ℕ → Bool → Type 0
 SourcesLawful gaps sources ages fastest r =
-    (d : Description) (awake waiting dropped : List Bool) (used : List ℕ) → d .«source_count» ≡ sources → GapsOf d 200 gaps
-    → r ≡ allN (sourceRule d (parts awake used waiting dropped ages fastest)) 0 16
+    (d : Description) (m : Machine) → d .«source_count» ≡ sources → GapsOf d 200 gaps → m .ages ≡ ages → m .fastest ≡ fastest
+    → r ≡ allN (sourceRule d m) 0 16
+
+abbrev pub AgainsLawful : List Bool → List ℕ → Bool → Type 0
+AgainsLawful again used r = (m : Machine) → m .again ≡ again → m .used ≡ used → r ≡ allN (againRule m) 1 32
+
+abbrev pub LateLawful : List ℕ → ℕ → List Bool → List Bool → List Bool → ℕ → Bool → Type 0
+LateLawful to n waiting again late l r = r ≡ (not (getD late l false) || (ltb l n && (getD waiting l false && getD again (getD to l 0 - 1) false)))
+
+abbrev pub LatesLawful : List ℕ → ℕ → List Bool → List Bool → List Bool → Bool → Type 0
+LatesLawful to n waiting again late r =
+    (d : Description) (m : Machine) → EntersOf d to n → m .waiting ≡ waiting → m .again ≡ again → m .late ≡ late
+    → r ≡ allN (lateRule d m) 0 256
 
 abbrev pub RulesKept : Wiring → List ℕ → Machine → Bool → Type 0
 RulesKept w gaps m r = (d : Description) → WiringOf d w → GapsOf d 200 gaps → r ≡ rulesKept d m

@@ -6,11 +6,12 @@ use numbers::index;
 use spacings::on_knob;
 use wiring::Wiring;
 ghost use mathlib.Core.Path.{_≡_};
+ghost use Prim.Native.Nat.{_<_};
 ghost use mathlib.Core.Bool.{_||_, _&&_, not, cond};
 ghost use lib.Dec.{ltb, leb, eqb};
 ghost use Rattle.model.specs.Basics.{given};
 ghost use Rattle.model.specs.Verdicts.{onKnob};
-ghost use Rattle.rules.specs.Rules.{Enters, TasksLawful, LinksLawful, SourcesLawful, RulesKept, partsIn, Alone, Lawful};
+ghost use Rattle.rules.specs.Rules.{Enters, TasksLawful, LinksLawful, SourcesLawful, AgainsLawful, LateLawful, LatesLawful, RulesKept, partsIn, Alone, Lawful};
 
 // Used is below the longest run, and 0 for a sleeping task; nothing is set for an absent one.
 fn task_lawful(here: bool, run: u32, awake: bool, used: u32) -> bool
@@ -126,6 +127,73 @@ fn sources_lawful<'a>(
     true
 }
 
+// Only a task that is part done is marked again.
+fn again_lawful(again: bool, used: u32) -> bool
+    ensures { λ r. ⌜ r ≡ (not again || ltb 0 used) ⌝ }
+{
+    if !again {
+        return true;
+    }
+    0 < used
+}
+
+fn agains_lawful<'a>(again: &'a [bool; 32], used: &'a [u32; 32]) -> bool
+    ensures { λ r. ⌜ AgainsLawful (now (again .entry)) (now (used .entry)) r ⌝ }
+{
+    let mut k: usize = 0;
+    while k < 32 {
+        if !again_lawful(again[k], used[k]) {
+            return false;
+        }
+        k += 1;
+    }
+    true
+}
+
+// A late link is there, it waits, and its task is marked again.
+fn late_lawful<'a>(
+    to: &[u8; 256],
+    links: usize,
+    waiting: &'a [bool; 256],
+    again: &'a [bool; 32],
+    late: &'a [bool; 256],
+    l: usize,
+) -> bool
+    requires { ⌜ Enters (now to) links × (l < 256) ⌝ }
+    ensures { λ r. ⌜ LateLawful (now (to .entry)) links (now (waiting .entry)) (now (again .entry)) (now (late .entry)) l r ⌝ }
+{
+    if !late[l] {
+        return true;
+    }
+    if links <= l {
+        return false;
+    }
+    if !waiting[l] {
+        return false;
+    }
+    again[index(to[l]) - 1]
+}
+
+fn lates_lawful<'a>(
+    to: &[u8; 256],
+    links: usize,
+    waiting: &'a [bool; 256],
+    again: &'a [bool; 32],
+    late: &'a [bool; 256],
+) -> bool
+    requires { ⌜ Enters (now to) links ⌝ }
+    ensures { λ r. ⌜ LatesLawful (now (to .entry)) links (now (waiting .entry)) (now (again .entry)) (now (late .entry)) r ⌝ }
+{
+    let mut l: usize = 0;
+    while l < 256 {
+        if !late_lawful(to, links, waiting, again, late, l) {
+            return false;
+        }
+        l += 1;
+    }
+    true
+}
+
 // Whether a record keeps the rules of both models, the spacings being those for 20.0.
 fn rules_kept(w: Wiring, gaps: [u32; 16], m: Machine) -> bool
     requires { ⌜ Enters (w .to) (w .links) ⌝ }
@@ -140,7 +208,13 @@ fn rules_kept(w: Wiring, gaps: [u32; 16], m: Machine) -> bool
     if !links_lawful(&w.to, links, &m.awake, &m.waiting, &m.dropped) {
         return false;
     }
-    sources_lawful(&gaps, sources, &m.ages, &m.fastest)
+    if !sources_lawful(&gaps, sources, &m.ages, &m.fastest) {
+        return false;
+    }
+    if !agains_lawful(&m.again, &m.used) {
+        return false;
+    }
+    lates_lawful(&w.to, links, &m.waiting, &m.again, &m.late)
 }
 
 // 1 for a task that is part done.

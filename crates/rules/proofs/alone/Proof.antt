@@ -1,11 +1,7 @@
 -- `alone` meets its contract. Assumes nothing.
-use mathlib.Core.Path.{_≡_, sym, ap, subst, _∙_}
-use mathlib.Core.Bool.{Bool}
-use mathlib.Core.List.{List}
-use Prim.Native.Nat.{ℕ}
+use mathlib.Core.Path.{sym, ap, _∙_}
 use lib.Dec.{leb}
 use Rattle.model.specs.declared.Policy.{Policy}
-use Rattle.model.specs.declared.Policy.the-variants.{HoldOn}
 use Rattle.model.specs.Machine.{partsDone, aloneRule}
 use Rattle.rules.specs.Rules.{partsIn}
 use borrow.Author.Needs.{needs}

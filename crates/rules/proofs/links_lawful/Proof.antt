@@ -1,17 +1,16 @@
 -- `links_lawful` meets its contract: the first l links keep their rule. Assumes nothing.
-use Prim.Native.Nat.{ℕ, _-_, _≤_}
+use Prim.Native.Nat.{_-_, _≤_}
 use mathlib.Core.Path.{_≡_, sym, ap, _∙_}
 use mathlib.Core.Bool.{true, false}
-use mathlib.Core.List.{List}
 use native.Mathlib.Omega.{arith}
 use borrow.Author.Needs.{needs}
 use borrow.Author.Tests.{not-true, not-false}
 use lib.ListN.{getD}
 use Rattle.model.specs.declared.Description.{Description}
+use Rattle.model.specs.declared.Machine.{Machine}
 use Rattle.model.specs.Basics.{allN}
 use native.Mathlib.Nat.{zero-add}
 use Rattle.model.specs.Machine.{linkRule}
-use Rattle.steps.specs.Parts.{parts}
 use Rattle.rules.specs.Rules.{EntersOf}
 use Rattle.rules.proofs.RuleLaws.{all-none, all-next, all-fails, link-is}
 use Rattle.rules.proofs.links_lawful.Statement.{statement}
@@ -19,13 +18,13 @@ use Rattle.rules.proofs.links_lawful.Tie as tie
 use Rattle.lemmas.proofs.Tests.{cases}
 
 abbrev Inv-loop : tie.InvT-loop
-Inv-loop to links awake waiting dropped l₀ l = (l ≤ 256) × ((d : Description) (us ag fa : List ℕ) → EntersOf d to links → allN (linkRule d (parts awake us waiting dropped ag fa)) 0 l ≡ true)
+Inv-loop to links awake waiting dropped l₀ l = (l ≤ 256) × ((d : Description) (m : Machine) → EntersOf d to links → m .awake ≡ awake → m .waiting ≡ waiting → m .dropped ≡ dropped → allN (linkRule d m) 0 l ≡ true)
 
 abbrev μ-loop : tie.MeasureT-loop
 μ-loop to links awake waiting dropped l₀ l = 256 - l
 
 loop-holds : tie.Need-loop-holds Inv-loop μ-loop
-loop-holds c = (omega arith, λ d us ag fa r. all-none _ 0)
+loop-holds c = (omega arith, λ d m r a w x. all-none _ 0)
 
 element-copy-out-index : tie.Need-element-copy-out-index Inv-loop μ-loop
 element-copy-out-index c = omega arith
@@ -49,10 +48,10 @@ link-lawful-requires : tie.Need-link-lawful-requires Inv-loop μ-loop
 link-lawful-requires c κs = search needs
 
 returns : tie.Need-returns Inv-loop μ-loop
-returns c = λ d us ag fa r.
+returns c = λ d m r a w x.
     let S = c .before .before .before .before .before .before .before in
     let L = c .before .before .before .before .before .before .loop in
-    all-fails (linkRule d (parts (S .args .awake .now) us (S .args .waiting .now) (S .args .dropped .now) ag fa)) 0 256 (L .l) (c .before .before .before .before .before .loop-test .taken) (rw (zero-add (L .l)) (link-is d (S .args .to .now) (S .args .links) (L .l) (S .args .awake .now) (S .args .waiting .now) (S .args .dropped .now) us ag fa (c .before .before .before .before .if1 .entered) (c .before .link-lawful .result) r (λ h. cases (c .before .before .before .before .if1 .came) (λ w. w .4 ∙ ap (λ y. getD (S .args .awake .now) (y - 1) false) (w .2 .ensures ∙ r .enters (L .l) h)) (λ w. absurd (omega (arith, w .0 .left)))) (c .before .link-lawful .ensures) ∙ not-true _ (c .if2 .taken)))
+    all-fails (linkRule d m) 0 256 (L .l) (c .before .before .before .before .before .loop-test .taken) (rw (zero-add (L .l)) (link-is d m (S .args .to .now) (S .args .awake .now) (S .args .waiting .now) (S .args .dropped .now) (S .args .links) (L .l) (c .before .before .before .before .if1 .entered) (c .before .link-lawful .result) r a w x (λ h. cases (c .before .before .before .before .if1 .came) (λ w. w .4 ∙ ap (λ y. getD (S .args .awake .now) (y - 1) false) (w .2 .ensures ∙ r .enters (L .l) h)) (λ w. absurd (omega (arith, w .0 .left)))) (c .before .link-lawful .ensures) ∙ not-true _ (c .if2 .taken)))
 
 add-l : tie.Need-add-l Inv-loop μ-loop
 add-l c = omega arith
@@ -64,14 +63,14 @@ loop-again : tie.Need-loop-again Inv-loop μ-loop
 loop-again c =
     let S = c .before .before .before .before .before .before .before in
     let L = c .before .before .before .before .before .before .loop in
-    (omega arith, λ d us ag fa r. all-next (linkRule d (parts (S .args .awake .now) us (S .args .waiting .now) (S .args .dropped .now) ag fa)) 0 (L .l) (L .inv .1 d us ag fa r) (rw (zero-add (L .l)) (link-is d (S .args .to .now) (S .args .links) (L .l) (S .args .awake .now) (S .args .waiting .now) (S .args .dropped .now) us ag fa (c .before .before .before .before .if1 .entered) (c .before .link-lawful .result) r (λ h. cases (c .before .before .before .before .if1 .came) (λ w. w .4 ∙ ap (λ y. getD (S .args .awake .now) (y - 1) false) (w .2 .ensures ∙ r .enters (L .l) h)) (λ w. absurd (omega (arith, w .0 .left)))) (c .before .link-lawful .ensures) ∙ not-false _ (c .if2 .left))))
+    (omega arith, λ d m r a w x. all-next (linkRule d m) 0 (L .l) (L .inv .1 d m r a w x) (rw (zero-add (L .l)) (link-is d m (S .args .to .now) (S .args .awake .now) (S .args .waiting .now) (S .args .dropped .now) (S .args .links) (L .l) (c .before .before .before .before .if1 .entered) (c .before .link-lawful .result) r a w x (λ h. cases (c .before .before .before .before .if1 .came) (λ w. w .4 ∙ ap (λ y. getD (S .args .awake .now) (y - 1) false) (w .2 .ensures ∙ r .enters (L .l) h)) (λ w. absurd (omega (arith, w .0 .left)))) (c .before .link-lawful .ensures) ∙ not-false _ (c .if2 .left))))
 
 returns-2 : tie.Need-returns-2 Inv-loop μ-loop
-returns-2 c = λ d us ag fa r.
+returns-2 c = λ d m r a w x.
     let S = c .before .before in
     let L = c .before .loop in
     let e : L .l ≡ 256 = omega (arith, c .loop-test .left, L .inv .0) in
-    sym (ap (allN (linkRule d (parts (S .args .awake .now) us (S .args .waiting .now) (S .args .dropped .now) ag fa)) 0) (sym e) ∙ L .inv .1 d us ag fa r)
+    sym (ap (allN (linkRule d m) 0) (sym e) ∙ L .inv .1 d m r a w x)
 
 pub links-lawful-spec : {M : Type 1} → statement M
 links-lawful-spec =

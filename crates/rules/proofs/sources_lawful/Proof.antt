@@ -1,29 +1,28 @@
 -- `sources_lawful` meets its contract: the first u sources keep their rule. Assumes nothing.
-use Prim.Native.Nat.{ℕ, _-_, _≤_}
+use Prim.Native.Nat.{_-_, _≤_}
 use mathlib.Core.Path.{_≡_, sym, ap, _∙_}
-use mathlib.Core.Bool.{Bool, true}
-use mathlib.Core.List.{List}
+use mathlib.Core.Bool.{true}
 use native.Mathlib.Omega.{arith}
 use borrow.Author.Needs.{needs}
 use borrow.Author.Tests.{not-true, not-false}
 use Rattle.model.specs.declared.Description.{Description}
+use Rattle.model.specs.declared.Machine.{Machine}
 use Rattle.model.specs.Basics.{allN}
 use native.Mathlib.Nat.{zero-add}
 use Rattle.model.specs.Machine.{sourceRule}
 use Rattle.spacings.specs.Gaps.{GapsOf}
-use Rattle.steps.specs.Parts.{parts}
 use Rattle.rules.proofs.RuleLaws.{all-none, all-next, all-fails, source-is}
 use Rattle.rules.proofs.sources_lawful.Statement.{statement}
 use Rattle.rules.proofs.sources_lawful.Tie as tie
 
 abbrev Inv-loop : tie.InvT-loop
-Inv-loop gaps sources ages fastest u₀ u = (u ≤ 16) × ((d : Description) (aw wa dr : List Bool) (us : List ℕ) → d .«source_count» ≡ sources → GapsOf d 200 gaps → allN (sourceRule d (parts aw us wa dr ages fastest)) 0 u ≡ true)
+Inv-loop gaps sources ages fastest u₀ u = (u ≤ 16) × ((d : Description) (m : Machine) → d .«source_count» ≡ sources → GapsOf d 200 gaps → m .ages ≡ ages → m .fastest ≡ fastest → allN (sourceRule d m) 0 u ≡ true)
 
 abbrev μ-loop : tie.MeasureT-loop
 μ-loop gaps sources ages fastest u₀ u = 16 - u
 
 loop-holds : tie.Need-loop-holds Inv-loop μ-loop
-loop-holds c = (omega arith, λ d aw wa dr us p g. all-none _ 0)
+loop-holds c = (omega arith, λ d m p g a f. all-none _ 0)
 
 mul-source-lawful : tie.Need-mul-source-lawful Inv-loop μ-loop
 mul-source-lawful c = omega arith
@@ -47,10 +46,10 @@ source-lawful-requires : tie.Need-source-lawful-requires Inv-loop μ-loop
 source-lawful-requires c κs = search needs
 
 returns : tie.Need-returns Inv-loop μ-loop
-returns c = λ d aw wa dr us p g.
+returns c = λ d m p g a f.
     let S = c .before .before .before .before .before .before .before in
     let L = c .before .before .before .before .before .before .loop in
-    all-fails (sourceRule d (parts aw us wa dr (S .args .ages .now) (S .args .fastest .now))) 0 16 (L .u) (c .before .before .before .before .before .loop-test .taken) (rw (zero-add (L .u)) (source-is d (S .args .gaps .now) (S .args .sources) (L .u) aw wa dr us (S .args .ages .now) (S .args .fastest .now) (c .before .source-lawful .result) p g (c .before .source-lawful .ensures) ∙ not-true _ (c .if1 .taken)))
+    all-fails (sourceRule d m) 0 16 (L .u) (c .before .before .before .before .before .loop-test .taken) (rw (zero-add (L .u)) (source-is d m (S .args .gaps .now) (S .args .ages .now) (S .args .fastest .now) (S .args .sources) (L .u) (c .before .source-lawful .result) p g a f (c .before .source-lawful .ensures) ∙ not-true _ (c .if1 .taken)))
 
 add-u : tie.Need-add-u Inv-loop μ-loop
 add-u c = omega arith
@@ -62,14 +61,14 @@ loop-again : tie.Need-loop-again Inv-loop μ-loop
 loop-again c =
     let S = c .before .before .before .before .before .before .before in
     let L = c .before .before .before .before .before .before .loop in
-    (omega arith, λ d aw wa dr us p g. all-next (sourceRule d (parts aw us wa dr (S .args .ages .now) (S .args .fastest .now))) 0 (L .u) (L .inv .1 d aw wa dr us p g) (rw (zero-add (L .u)) (source-is d (S .args .gaps .now) (S .args .sources) (L .u) aw wa dr us (S .args .ages .now) (S .args .fastest .now) (c .before .source-lawful .result) p g (c .before .source-lawful .ensures) ∙ not-false _ (c .if1 .left))))
+    (omega arith, λ d m p g a f. all-next (sourceRule d m) 0 (L .u) (L .inv .1 d m p g a f) (rw (zero-add (L .u)) (source-is d m (S .args .gaps .now) (S .args .ages .now) (S .args .fastest .now) (S .args .sources) (L .u) (c .before .source-lawful .result) p g a f (c .before .source-lawful .ensures) ∙ not-false _ (c .if1 .left))))
 
 returns-2 : tie.Need-returns-2 Inv-loop μ-loop
-returns-2 c = λ d aw wa dr us p g.
+returns-2 c = λ d m p g a f.
     let S = c .before .before in
     let L = c .before .loop in
     let e : L .u ≡ 16 = omega (arith, c .loop-test .left, L .inv .0) in
-    sym (ap (allN (sourceRule d (parts aw us wa dr (S .args .ages .now) (S .args .fastest .now))) 0) (sym e) ∙ L .inv .1 d aw wa dr us p g)
+    sym (ap (allN (sourceRule d m) 0) (sym e) ∙ L .inv .1 d m p g a f)
 
 pub sources-lawful-spec : {M : Type 1} → statement M
 sources-lawful-spec =

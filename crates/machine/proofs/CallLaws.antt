@@ -40,12 +40,13 @@ use Rattle.spacings.proofs.SourceLaws.{plain-pulses}
 use Rattle.spacings.proofs.GapLaws.{gap-of}
 use Rattle.steps.specs.declared.words.Words.{Words}
 use Rattle.steps.specs.Parts.{Known, Sourced}
-use Rattle.steps.specs.Words.{Ages, Holds, holdsOn, Goes, Keeps, Workable, worked, Above, raisedTo}
+use Rattle.steps.specs.Words.{awakeIn, Ages, Holds, holdsOn, Goes, Keeps, Workable, worked, Above, raisedTo}
 use Rattle.steps.proofs.MaskLaws.{none-above, mark-in, heard-under}
 use Rattle.steps.proofs.StepLaws.{arrive-none, ages-same}
 use Rattle.machine.specs.declared.call.Call.{Call}
 use Rattle.machine.specs.declared.call.Advanced.{Advanced}
-use Rattle.machine.specs.Calls.{TablesOf, Tracks, dueBy, Timed, KeepsAfter, arrivalsEnd, plainAnswer, Advances}
+use Rattle.model.specs.History.{isDone}
+use Rattle.machine.specs.Calls.{TablesOf, Tracks, dueBy, Timed, KeepsAfter, arrivalsEnd, plainAnswer, Heard, Hears}
 
 -- a mask with nothing left above s sources
 pub known : (d : Description) (mask s a : ℕ) → d .«source_count» ≡ s → s ≤ 16 → a ≡ mask / 2 ^ s → a ≡ 0 → Known d mask
@@ -103,7 +104,7 @@ raised-twice s t (suc n) =
 source-rule : (d : Description) (m : Machine) → WellFormed d → rulesKept d m ≡ true → (u : ℕ) → u < d .«source_count» → (leb (ageAt m u) (longestGap d u) && cond (eqb (fastestAt m u) 0) (eqb (ageAt m u) (longestGap d u)) (onKnob (fastestAt m u))) ≡ true
 unfolding rulesKept
 source-rule d m g e u p =
-    let r : sourceRule d m u ≡ true = all-at (sourceRule d m) 0 16 (and-right (allN (linkRule d m) 0 256) _ (and-right (allN (taskRule d m) 1 32) _ e)) u (omega arith) (omega (arith, g .fields .few-sources)) in
+    let r : sourceRule d m u ≡ true = all-at (sourceRule d m) 0 16 (and-left (allN (sourceRule d m) 0 16) _ (and-right (allN (linkRule d m) 0 256) _ (and-right (allN (taskRule d m) 1 32) _ e))) u (omega arith) (omega (arith, g .fields .few-sources)) in
     rw (lt-ltb u (d .«source_count») p) at r
 
 -- so that a kept tempo is 0 or at least 200
@@ -112,7 +113,7 @@ unfolding rulesKept
 kept-rule d m g e u p = go (ltb u (d .«source_count»)) refl (eqb (fastestAt m u) 0) refl
   where
     rule : sourceRule d m u ≡ true
-    rule = all-at (sourceRule d m) 0 16 (and-right (allN (linkRule d m) 0 256) _ (and-right (allN (taskRule d m) 1 32) _ e)) u (omega arith) (omega arith)
+    rule = all-at (sourceRule d m) 0 16 (and-left (allN (sourceRule d m) 0 16) _ (and-right (allN (linkRule d m) 0 256) _ (and-right (allN (taskRule d m) 1 32) _ e))) u (omega arith) (omega arith)
 
     go : (a : Bool) → ltb u (d .«source_count») ≡ a → (b : Bool) → eqb (fastestAt m u) 0 ≡ b → (fastestAt m u ≡ 0) ⊎ (200 ≤ fastestAt m u)
     go a x true y = inl (eqb-true (fastestAt m u) 0 y)
@@ -232,7 +233,7 @@ goes-awake pol d w used since m l r h o =
     let u : ltb 0 (getD used (k - 1) 0) ≡ true = and-right (holdsOn pol) _ (sym (r .here k o (r .low)) ∙ eq-eqb k k refl) in
     part-awake d m k (all-at (taskRule d m) 1 32 (and-left (allN (taskRule d m) 1 32) _ l) k o (omega (arith, r .low))) (ap (λ (us : List ℕ). ltb 0 (getD us (k - 1) 0)) (sym (h .same-used)) ∙ u)
 
-pub going-awake : (pol : Policy) (d : Description) (w : Words) (used since : List ℕ) (m : Machine) → rulesKept d m ≡ true → Goes pol (w .running) used → Holds d w used since m → 0 < w .running → member (w .awake) (w .running) ≡ true
+pub going-awake : (pol : Policy) (d : Description) (w : Words) (used since : List ℕ) (m : Machine) → rulesKept d m ≡ true → Goes pol (w .running) used → Holds d w used since m → 0 < w .running → awakeIn w (w .running) ≡ true
 going-awake pol d w used since m l r h o = h .marks .awake (w .running) o ∙ goes-awake pol d w used since m l r h o
 
 -- so that the task that runs may be worked on, other words holding some record with what tasks have used in this one, in which no fewer are awake
@@ -243,7 +244,7 @@ workable pol d w w′ used since since′ m m′ g l r e still h h′ = record {
   countable = λ k p. let q : getD used k 0 ≡ getD (m .used) k 0 = ap (λ (us : List ℕ). getD us k 0) (h .same-used) in omega (arith, lawful-low d m g l k p);
 }
   where
-    some : (k : ℕ) → member (w′ .awake) k ≡ true → 1 ≤ k
+    some : (k : ℕ) → awakeIn w′ k ≡ true → 1 ≤ k
     some zero f = absurd (not-both f (h′ .marks .no-zero))
     some (suc k) f = omega arith
 
@@ -384,11 +385,16 @@ tracked pol d t mask finish w w₁ w₂ used used′ since since′ fastest fast
       sized = T .sized;
       no-zero = h .marks .no-zero;
       present = h .marks .present;
+      part = h .marks .part;
       awake = h .marks .awake;
+      again = h .marks .again;
       waiting = h .marks .waiting;
+      late = h .marks .late;
       dropped = h .marks .dropped;
+      held = h .marks .held;
     };
     same-used = h .same-used;
+    below = h .below;
     ages = ages-same d (w₂ .tick) since′ (ageAll d (worked pol d finish (arrive d (marksIn mask) m))) (stepped pol d t (marksIn mask) finish m) refl (h .ages);
   };
   goes = r;
@@ -409,13 +415,35 @@ pub raised-same : (pol : Policy) (d : Description) (w : Words) (used since faste
 raised-same pol d w used since fastest fastest′ m R z h =
     ext-getD 0 fastest′ (m .fastest) (z ∙ sym (R .holds .marks .sized .fastests)) (λ u p. h u (omega arith) ∙ sym (R .keeps .here u (omega arith)))
 
+-- kept tempos, once this tick's is the fastest given
+pub keeps-given : (t mask : ℕ) (w w′ : Words) (fastest : List ℕ) (m : Machine) → t ≤ 3000 → w′ .low ≡ w .low → w′ .peak ≡ max (w .peak) t → KeepsAfter t mask w fastest m → KeepsAfter t mask w′ fastest m
+keeps-given t mask w w′ fastest m high a b K = record {
+  many = K .many;
+  here = λ u p. let e : max (w′ .peak) t ≡ max (w .peak) t = omega arith in ap (λ x. raisedTo x (getD fastest u 0)) e ∙ K .here u p;
+  above = λ u p. rw a (K .above u p);
+  least = omega (arith, K .least);
+  high = omega (arith, K .high);
+}
+
 -- a refused call leaves all as it was, and ends as the plain machine's
-pub refused-advances : (pol : Policy) (rows runs ticks pulses longest : List ℕ) (sources : ℕ) (call : Call) (w : Words) (used since fastest tempos gaps : List ℕ) (o : Outcome) (r : Advanced) → r ≡ record { outcome = o; words = w } → ((d : Description) (m : Machine) → TablesOf d rows runs ticks pulses longest sources → judge d ≡ Done → lawful pol d m ≡ true → Tracks pol d w used since fastest m → record { outcome = o; machine = m } ≡ plainAnswer pol d m call) → Asked ticks pulses tempos gaps
-    → Advances pol rows runs ticks pulses longest sources call w used since fastest r used since fastest tempos gaps
-refused-advances pol rows runs ticks pulses longest sources call w used since fastest tempos gaps o r e plain asked = record {
-  ends = λ d m T j l R. ap (λ (x : Advanced). x .outcome) e ∙ ap (λ (x : Ticked). x .outcome) (plain d m T j l R);
-  leaves = λ d m T j l R.
-      subst (λ (k : Machine). Tracks pol d (r .words) used since fastest k) (ap (λ (x : Ticked). x .machine) (plain d m T j l R)) (subst (λ (k : Words). Tracks pol d k used since fastest m) (sym (ap (λ (x : Advanced). x .words) e)) R);
+pub refused-hears : (rows ticks pulses longest : List ℕ) (sources : ℕ) (call : Call) (w : Words) (since fastest tempos gaps : List ℕ) (why : Refusal) (r : Advanced) → r ≡ record { outcome = Refused why 0; words = w } → ((p : Policy) (d : Description) (runs used : List ℕ) (m : Machine) → TablesOf d rows runs ticks pulses longest sources → judge d ≡ Done → lawful p d m ≡ true → Tracks p d w used since fastest m → record { outcome = Refused why 0; machine = m } ≡ plainAnswer p d m call) → Asked ticks pulses tempos gaps
+    → Hears rows ticks pulses longest sources call w since fastest r since fastest tempos gaps
+refused-hears rows ticks pulses longest sources call w since fastest tempos gaps why r e plain asked = record {
+  refuses = λ x place q p d runs used m T j l R.
+      (ap (λ (o : Outcome). record { outcome = o; machine = m }) (ap (λ (x : Advanced). x .outcome) e) ∙ plain p d runs used m T j l R, subst (λ (k : Words). Tracks p d k used since fastest m) (sym (ap (λ (x : Advanced). x .words) e)) R);
+  hears = λ q. absurd (not-both (ap isDone q) (ap isDone (ap (λ (x : Advanced). x .outcome) e)));
   asked = asked;
-  soon = let q : r .words .tick ≡ w .tick = ap (λ (x : Advanced). x .words .tick) e in omega arith;
+  then = ap (λ (x : Advanced). x .words .tick) e;
+  runs = ap (λ (x : Advanced). x .words .running) e;
+}
+
+-- one that is not refused
+pub admitted-hears : (rows ticks pulses longest : List ℕ) (sources : ℕ) (call : Call) (w w′ : Words) (since fastest since′ fastest′ tempos gaps : List ℕ) (r : Advanced) → r ≡ record { outcome = Done; words = w′ } → ((p : Policy) (d : Description) (runs used : List ℕ) (m : Machine) → TablesOf d rows runs ticks pulses longest sources → judge d ≡ Done → lawful p d m ≡ true → Tracks p d w used since fastest m → Heard d call w′ used since′ fastest′ m) → Asked ticks pulses tempos gaps → w′ .tick ≡ w .tick → w′ .running ≡ w .running
+    → Hears rows ticks pulses longest sources call w since fastest r since′ fastest′ tempos gaps
+admitted-hears rows ticks pulses longest sources call w w′ since fastest since′ fastest′ tempos gaps r e come asked then runs = record {
+  refuses = λ why place q. absurd (not-both (ap isDone (ap (λ (x : Advanced). x .outcome) e)) (ap isDone q));
+  hears = λ q p d runs used m T j l R. subst (λ (k : Words). Heard d call k used since′ fastest′ m) (sym (ap (λ (x : Advanced). x .words) e)) (come p d runs used m T j l R);
+  asked = asked;
+  then = ap (λ (x : Advanced). x .words .tick) e ∙ then;
+  runs = ap (λ (x : Advanced). x .words .running) e ∙ runs;
 }

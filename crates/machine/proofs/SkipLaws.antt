@@ -1,7 +1,7 @@
 -- Calls in which nothing comes while no task is awake: each is a tick that only counts. Assumes nothing.
 use Prim.Native.Nat.{ℕ, zero, suc, _+_, _-_, _*_, _/_, _≤_, _<_, max}
 use mathlib.Core.Path.{_≡_, refl, sym, ap, subst, _∙_}
-use mathlib.Core.Bool.{true}
+use mathlib.Core.Bool.{true, false}
 use mathlib.Core.List.{List}
 use native.Mathlib.Omega.{arith}
 use lib.ListN.{length, getD, take}
@@ -21,7 +21,7 @@ use Rattle.model.specs.Run.{marksIn, callIn, callsIn, page, codes}
 use Rattle.theory.proofs.WellFormed.{WellFormed}
 use Rattle.assurance.proofs.Replay.{callAt}
 use Rattle.steps.specs.declared.words.Words.{Words}
-use Rattle.steps.specs.Words.{Holds, worked}
+use Rattle.steps.specs.Words.{awakeIn, Holds, worked}
 use Rattle.steps.proofs.StepLaws.{work-none, passes}
 use Rattle.lemmas.proofs.Tests.{within}
 use Rattle.machine.specs.Calls.{Tracks}
@@ -37,7 +37,7 @@ module _ (pol : Policy) (d : Description) (g : WellFormed d) (j : judge d ≡ Do
   before i = left pol d (idle d) (take i cs)
 
   -- one such call
-  module _ (w : Words) (i : ℕ) (h : i < length bytes / 6) (z : w .awake ≡ 0) (e : numberIn bytes (6 * i) 2 ≡ 0) (s : 200 ≤ numberIn bytes (6 * i + 2) 2) (t : numberIn bytes (6 * i + 2) 2 ≤ w .peak) (R : Tracks pol d w used since fastest (before i)) where
+  module _ (w : Words) (i : ℕ) (h : i < length bytes / 6) (z : (k : ℕ) → awakeIn w k ≡ false) (e : numberIn bytes (6 * i) 2 ≡ 0) (s : 200 ≤ numberIn bytes (6 * i + 2) 2) (t : numberIn bytes (6 * i + 2) 2 ≤ w .peak) (R : Tracks pol d w used since fastest (before i)) where
     abbrev c : Call
     c = callIn bytes i
 
@@ -56,7 +56,7 @@ module _ (pol : Policy) (d : Description) (g : WellFormed d) (j : judge d ≡ Do
     held : Holds d (laterBy 1 w) used since (ageAll d (worked pol d (c .finish) (arrive d (marksIn mask) (before i))))
     held =
         subst (λ (k : Machine). Holds d (laterBy 1 w) used since (ageAll d (worked pol d (c .finish) k))) (silent-arrive d mask (before i) g e)
-        (passes d w (laterBy 1 w) used since (worked pol d (c .finish) (before i)) g refl refl refl refl (work-none pol d w used since (c .finish) (before i) g (going-awake pol d w used since (before i) (lawful-rules pol d (before i) (kept pol d (take i cs) (before i) g refl)) (R .goes) (R .holds)) z (R .goes) (R .holds)))
+        (passes d w (laterBy 1 w) used since (worked pol d (c .finish) (before i)) g (record { woken = refl; part = refl; fresh = refl; taken = refl; dropped = refl }) refl (work-none pol d w used since (c .finish) (before i) g (going-awake pol d w used since (before i) (lawful-rules pol d (before i) (kept pol d (take i cs) (before i) g refl)) (R .goes) (R .holds)) z (R .goes) (R .holds)))
 
     pub one-on : Tracks pol d (laterBy 1 w) used since fastest (before (i + 1))
     one-on =
@@ -68,7 +68,7 @@ module _ (pol : Policy) (d : Description) (g : WellFormed d) (j : judge d ≡ Do
         sym (ap (λ (o : Outcome). ofOutcome o .number) (ap (λ (x : Ticked). x .outcome) done) ∙ run-code pol d cs (idle d) i c inside (calls-at bytes i h))
 
   -- k of them
-  module _ (w : Words) (from : ℕ) (z : w .awake ≡ 0) (R : Tracks pol d w used since fastest (before from)) where
+  module _ (w : Words) (from : ℕ) (z : (k : ℕ) → awakeIn w k ≡ false) (R : Tracks pol d w used since fastest (before from)) where
     abbrev Quiet : ℕ → Type 0
     Quiet k = (i : ℕ) → from ≤ i → i < from + k → (numberIn bytes (6 * i) 2 ≡ 0) × (200 ≤ numberIn bytes (6 * i + 2) 2) × (numberIn bytes (6 * i + 2) 2 ≤ w .peak)
 
@@ -79,7 +79,7 @@ module _ (pol : Policy) (d : Description) (g : WellFormed d) (j : judge d ≡ Do
         subst (λ n. Tracks pol d (at n) used since fastest (before (from + 0))) b (subst (λ n. Tracks pol d w used since fastest (before n)) a R)
       where
         at : ℕ → Words
-        at n = record { awake = w .awake; running = w .running; waiting = w .waiting; dropped = w .dropped; tick = n; low = w .low; peak = w .peak }
+        at n = record { woken = w .woken; part = w .part; running = w .running; fresh = w .fresh; taken = w .taken; dropped = w .dropped; tick = n; low = w .low; peak = w .peak }
     some-on (suc k) h q =
         let a : from + k + 1 ≡ from + suc k = omega arith in
         let b : w .tick + k + 1 ≡ w .tick + suc k = omega arith in
@@ -88,7 +88,7 @@ module _ (pol : Policy) (d : Description) (g : WellFormed d) (j : judge d ≡ Do
         subst (λ n. Tracks pol d (at n) used since fastest (before (from + suc k))) b (subst (λ n. Tracks pol d (laterBy 1 (laterBy k w)) used since fastest (before n)) a (one-on (laterBy k w) (from + k) (omega arith) z (s .0) (s .1) (s .2) ih))
       where
         at : ℕ → Words
-        at n = record { awake = w .awake; running = w .running; waiting = w .waiting; dropped = w .dropped; tick = n; low = w .low; peak = w .peak }
+        at n = record { woken = w .woken; part = w .part; running = w .running; fresh = w .fresh; taken = w .taken; dropped = w .dropped; tick = n; low = w .low; peak = w .peak }
 
     pub some-code : (k : ℕ) → from + k ≤ length bytes / 6 → Quiet k → (i : ℕ) → from ≤ i → i < from + k → getD (page pol d cs) i 0 ≡ 0
     some-code k h q i x y =
@@ -98,7 +98,7 @@ module _ (pol : Policy) (d : Description) (g : WellFormed d) (j : judge d ≡ Do
         one-code (laterBy n w) i (omega arith) z (s .0) (s .1) (s .2) (subst (λ v. Tracks pol d (laterBy n w) used since fastest (before v)) a (some-on n (omega arith) (λ l u v. q l u (omega arith))))
 
 -- the calls from i + 1 up to r are passed
-pub passed-on : (pol : Policy) (d : Description) → WellFormed d → judge d ≡ Done → (bytes used since fastest : List ℕ) (w : Words) (i r : ℕ) → w .awake ≡ 0 → i + 1 ≤ r → r ≤ length bytes / 6 → ((k : ℕ) → i + 1 ≤ k → k < r → (numberIn bytes (6 * k) 2 ≡ 0) × (200 ≤ numberIn bytes (6 * k + 2) 2) × (numberIn bytes (6 * k + 2) 2 ≤ w .peak)) → Tracks pol d w used since fastest (left pol d (idle d) (take (i + 1) (callsIn bytes)))
+pub passed-on : (pol : Policy) (d : Description) → WellFormed d → judge d ≡ Done → (bytes used since fastest : List ℕ) (w : Words) (i r : ℕ) → ((k : ℕ) → awakeIn w k ≡ false) → i + 1 ≤ r → r ≤ length bytes / 6 → ((k : ℕ) → i + 1 ≤ k → k < r → (numberIn bytes (6 * k) 2 ≡ 0) × (200 ≤ numberIn bytes (6 * k + 2) 2) × (numberIn bytes (6 * k + 2) 2 ≤ w .peak)) → Tracks pol d w used since fastest (left pol d (idle d) (take (i + 1) (callsIn bytes)))
     → Tracks pol d (laterBy (r - i - 1) w) used since fastest (left pol d (idle d) (take r (callsIn bytes))) × ((k : ℕ) → i + 1 ≤ k → k < r → getD (page pol d (callsIn bytes)) k 0 ≡ 0)
 passed-on pol d g j bytes used since fastest w i r z h most q R =
     (subst (λ x. Tracks pol d (laterBy n w) used since fastest (left pol d (idle d) (take x (callsIn bytes)))) to (some-on pol d g j bytes used since fastest w (i + 1) z R n (omega (arith, to)) quiet), λ k a b. some-code pol d g j bytes used since fastest w (i + 1) z R n (omega (arith, to)) quiet k a (omega (arith, to)))

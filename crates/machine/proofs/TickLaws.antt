@@ -19,7 +19,7 @@ use Rattle.lemmas.proofs.Table.{is-tab}
 use Rattle.theory.proofs.WellFormed.{WellFormed}
 use Rattle.sets.specs.Sets.{member}
 use Rattle.wiring.specs.declared.Wiring.{Wiring}
-use Rattle.wiring.specs.Rows.{WiringOf}
+use Rattle.wiring.specs.Rows.{RowsOf, WiringOf}
 use Rattle.spacings.specs.declared.Sources.{Sources}
 use Rattle.spacings.specs.Sources.{SourcesOf}
 use Rattle.spacings.specs.Gaps.{GapsOf}
@@ -43,12 +43,12 @@ tables-of d w s longest r h g = record {
 }
 
 -- the words of a record that keeps the rules, beside its kept tempos
-pub packed-tracks : (pol : Policy) (d : Description) (m : Machine) (w : Words) (since : List ℕ) → WellFormed d → rulesKept d m ≡ true → aloneRule pol m ≡ true → Packs pol m w since → Tracks pol d w (m .used) since (m .fastest) m
-packed-tracks pol d m w since g l a p = record {
-  holds = p .holds d g l;
+pub packed-tracks : (pol : Policy) (d : Description) (rows : List ℕ) (m : Machine) (w : Words) (since : List ℕ) → WellFormed d → RowsOf d (d .«link_count») rows → rulesKept d m ≡ true → aloneRule pol m ≡ true → Packs pol rows m w since → Tracks pol d w (m .used) since (m .fastest) m
+packed-tracks pol d rows m w since g r l a p = record {
+  holds = p .holds d g r l;
   goes = p .goes a;
   keeps = record {
-    many = p .holds d g l .marks .sized .fastests;
+    many = p .holds d g r l .marks .sized .fastests;
     here = λ u h. at (fastestAt m u) (kept-rule d m g l u h);
     above = λ u h. inr (omega (arith, p .knob .0));
     least = omega (arith, p .knob .1);

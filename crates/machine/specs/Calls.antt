@@ -12,10 +12,11 @@ use Rattle.model.specs.declared.Arrivals.{Arrivals}
 use Rattle.model.specs.declared.Ticked.{Ticked}
 use Rattle.model.specs.declared.Outcome.{Outcome}
 use Rattle.model.specs.declared.Outcome.the-variants.{Done, Refused}
+use Rattle.model.specs.declared.Refusal.{Refusal}
 use Rattle.model.specs.declared.Refusal.the-variants.{Stranger, TooSoon}
 use Rattle.model.specs.File.{judge}
 use Rattle.model.specs.Verdicts.{judgeAt}
-use Rattle.model.specs.Machine.{fastestAt, ageAll, keptAfter, rulesKept, lawful, strangers, tooSoon, plainTick}
+use Rattle.model.specs.Machine.{fastestAt, arrive, ageAll, keptAfter, rulesKept, lawful, strangers, tooSoon, plainTick}
 use Rattle.model.specs.History.{plainCall}
 use Rattle.model.specs.Run.{heard, marksIn, callOf}
 use Rattle.theory.proofs.WellFormed.{WellFormed}
@@ -104,6 +105,7 @@ arrivalsEnd d t mask m =
 pub record Going (p : Policy) (rows runs ticks pulses longest : List ℕ) (sources mask : ℕ) (w : Words) (used since fastest tempos gaps : List ℕ) : Type 0 where
   pub description : Description
   pub machine : Machine
+  pub judged : judge description ≡ Done
   pub tables : TablesOf description rows runs ticks pulses longest sources
   pub tracks : Tracks p description w used since fastest machine
   pub keeps : lawful p description machine ≡ true
@@ -112,9 +114,34 @@ pub record Going (p : Policy) (rows runs ticks pulses longest : List ℕ) (sourc
   pub early : w .tick < 2 ^ 63
   pub asked : Asked ticks pulses tempos gaps
 
+-- the same with some model, longest runs and what tasks have used
+pub record Hearing (rows ticks pulses longest : List ℕ) (sources mask : ℕ) (w : Words) (since fastest tempos gaps : List ℕ) : Type 0 where
+  pub policy : Policy
+  pub runs : List ℕ
+  pub used : List ℕ
+  pub going : Going policy rows runs ticks pulses longest sources mask w used since fastest tempos gaps
+
 -- the plain machine's answer to a call
 abbrev pub plainAnswer : Policy → Description → Machine → Call → Ticked
 plainAnswer p d m call = plainCall p d m (callOf (call .mask) (call .tempo) (call .finish))
+
+-- a call is not refused, and its sources have fired
+pub record Heard (d : Description) (call : Call) (w : Words) (used since fastest : List ℕ) (m : Machine) : Type 0 where
+  pub judged : judgeAt d (call .tempo) ≡ Done
+  pub passed : arrivalsEnd d (call .tempo) (call .mask) m ≡ Done
+  pub arrived : Holds d w used since (arrive d (marksIn (call .mask)) m)
+  pub keeps : KeepsAfter (call .tempo) (call .mask) w fastest m
+  pub high : (call .tempo ≤ w .peak) × (call .tempo ≤ 3000)
+
+-- a call is refused as by the plain machine, and all is as it was; or else it is not
+pub record Hears (rows ticks pulses longest : List ℕ) (sources : ℕ) (call : Call) (w : Words) (since fastest : List ℕ) (r : Advanced) (since′ fastest′ tempos′ gaps′ : List ℕ) : Type 0 where
+  pub refuses : (why : Refusal) (place : ℕ) → r .outcome ≡ Refused why place → (p : Policy) (d : Description) (runs used : List ℕ) (m : Machine) → TablesOf d rows runs ticks pulses longest sources → judge d ≡ Done → lawful p d m ≡ true → Tracks p d w used since fastest m
+      → (record { outcome = r .outcome; machine = m } ≡ plainAnswer p d m call) × Tracks p d (r .words) used since′ fastest′ m
+  pub hears : r .outcome ≡ Done → (p : Policy) (d : Description) (runs used : List ℕ) (m : Machine) → TablesOf d rows runs ticks pulses longest sources → judge d ≡ Done → lawful p d m ≡ true → Tracks p d w used since fastest m
+      → Heard d call (r .words) used since′ fastest′ m
+  pub asked : Asked ticks pulses tempos′ gaps′
+  pub then : r .words .tick ≡ w .tick
+  pub runs : r .words .running ≡ w .running
 
 -- the call ends as the plain machine's, and its words hold the record which that leaves
 pub record Advances (p : Policy) (rows runs ticks pulses longest : List ℕ) (sources : ℕ) (call : Call) (w : Words) (used since fastest : List ℕ) (r : Advanced) (used′ since′ fastest′ tempos′ gaps′ : List ℕ) : Type 0 where

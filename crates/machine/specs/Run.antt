@@ -34,7 +34,7 @@ pub record Skips (calls : List ℕ) (from n peak : ℕ) (outcomes : List ℕ) (r
 
 -- words so many ticks later
 abbrev pub laterBy : ℕ → Words → Words
-laterBy k w = record { awake = w .awake; running = w .running; waiting = w .waiting; dropped = w .dropped; tick = w .tick + k; low = w .low; peak = w .peak }
+laterBy k w = record { woken = w .woken; part = w .part; running = w .running; fresh = w .fresh; taken = w .taken; dropped = w .dropped; tick = w .tick + k; low = w .low; peak = w .peak }
 
 -- the record after the last call, or 13; and the codes of the calls in the buffer
 abbrev pub RunOf : Policy → Description → List Call → List ℕ → List ℕ → Ticked → Type 0

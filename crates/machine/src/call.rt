@@ -15,10 +15,10 @@ use steps::words::Words;
 ghost use mathlib.Core.Path.{_≡_};
 ghost use Prim.Native.Nat.{_+_, _≤_, _<_, _/_, _^_};
 ghost use lib.Dec.{ltb};
-ghost use Rattle.model.specs.declared.Outcome.the-variants.{Refused};
+ghost use Rattle.model.specs.declared.Outcome.the-variants.{Done, Refused};
 ghost use Rattle.spacings.specs.Gaps.{Asked};
 ghost use Rattle.steps.specs.Words.{Workable};
-ghost use Rattle.machine.specs.Calls.{TimedAt, SoonAt, Timed, SoonIs, RunsOn, Going, Advances};
+ghost use Rattle.machine.specs.Calls.{TimedAt, SoonAt, Timed, SoonIs, Hearing, Hears, RunsOn, Going, Advances};
 
 // What a caller brings to a tick: the arrivals, whose bit u is source 33 + u, the tempo, and finish.
 pub struct Call {
@@ -120,6 +120,64 @@ fn refused(why: Refusal, words: Words) -> Advanced
     Advanced { outcome, words }
 }
 
+// The words of a call that is not refused.
+fn admitted(words: Words) -> Advanced
+    ensures { λ r. ⌜ r ≡ record { outcome = Done; words = words } ⌝ }
+{
+    let outcome = Outcome::Done;
+    Advanced { outcome, words }
+}
+
+// 11, 15 and 14 in this order, or else step 1: the words once the sources have fired. The record keeps the rules, so that 16 is not looked for. Whether a
+// source comes is asked first: that is what a processor foretells least.
+fn hear<'a>(
+    rows: &[u64; 576],
+    ticks: &'a [u32; 16],
+    pulses: &'a [u32; 16],
+    longest: &'a [u32; 16],
+    sources: usize,
+    call: Call,
+    w: Words,
+    since: &mut [u64; 16],
+    fastest: &mut [u32; 16],
+    tempos: &mut [u32; 16],
+    gaps: &mut [u32; 16],
+) -> Advanced
+    requires { ⌜ Hearing (now rows) (now ticks) (now pulses) (now longest) sources (call .mask) w (now since) (now fastest) (now tempos) (now gaps) ⌝ }
+    ensures { λ r. ⌜ Hears (now (rows .entry)) (now (ticks .entry)) (now (pulses .entry)) (now (longest .entry)) sources call w (now (since .entry)) (now (fastest .entry)) r (now (since .exit)) (now (fastest .exit)) (now (tempos .exit)) (now (gaps .exit)) ⌝ }
+{
+    let mask = call.mask;
+    let t = call.tempo;
+    if mask == 0 {
+        if !on_knob(t) {
+            return refused(Refusal::OffKnob, w);
+        }
+        return admitted(at_tempos(w.low, larger(w.peak, t), w));
+    }
+    if !on_knob(t) {
+        return refused(Refusal::OffKnob, w);
+    }
+    if above(mask, sources) != 0 {
+        return refused(Refusal::Stranger, w);
+    }
+    let peak = larger(w.peak, t);
+    if too_soon(
+        mask,
+        peak,
+        ticks,
+        pulses,
+        longest,
+        since,
+        fastest,
+        w.tick,
+        tempos,
+        gaps,
+    ) {
+        return refused(Refusal::TooSoon, w);
+    }
+    admitted(arrive(rows, t, peak, mask, w, since, fastest))
+}
+
 // Steps 2 to 4, once the arrivals have fired.
 fn run_on<'a>(
     p: Policy,
@@ -138,8 +196,7 @@ fn run_on<'a>(
     Advanced { outcome, words }
 }
 
-// 11, 15 and 14 in this order, or else a tick. The record keeps the rules, so that 16 is not looked for. Whether a source comes is asked first: that is what
-// a processor foretells least.
+// One call: refused, or else a tick.
 pub fn advance<'a>(
     p: Policy,
     rows: &'a [u64; 576],
@@ -159,37 +216,22 @@ pub fn advance<'a>(
     requires { ⌜ Going p (now rows) (now runs) (now ticks) (now pulses) (now longest) sources (call .mask) w (now used) (now since) (now fastest) (now tempos) (now gaps) ⌝ }
     ensures { λ r. ⌜ Advances p (now (rows .entry)) (now (runs .entry)) (now (ticks .entry)) (now (pulses .entry)) (now (longest .entry)) sources call w (now (used .entry)) (now (since .entry)) (now (fastest .entry)) r (now (used .exit)) (now (since .exit)) (now (fastest .exit)) (now (tempos .exit)) (now (gaps .exit)) ⌝ }
 {
-    let mask = call.mask;
-    let t = call.tempo;
-    let finish = call.finish;
-    let peak = larger(w.peak, t);
-    let mut words = at_tempos(w.low, peak, w);
-    if mask == 0 {
-        if !on_knob(t) {
-            return refused(Refusal::OffKnob, w);
-        }
-    } else {
-        if !on_knob(t) {
-            return refused(Refusal::OffKnob, w);
-        }
-        if above(mask, sources) != 0 {
-            return refused(Refusal::Stranger, w);
-        }
-        if too_soon(
-            mask,
-            peak,
-            ticks,
-            pulses,
-            longest,
-            since,
-            fastest,
-            w.tick,
-            tempos,
-            gaps,
-        ) {
-            return refused(Refusal::TooSoon, w);
-        }
-        words = arrive(rows, t, peak, mask, w, since, fastest);
-    }
-    run_on(p, rows, runs, finish, words, used)
+    let heard = hear(
+        rows,
+        ticks,
+        pulses,
+        longest,
+        sources,
+        call,
+        w,
+        since,
+        fastest,
+        tempos,
+        gaps,
+    );
+    let outcome = heard.outcome;
+    let Outcome::Done = outcome else {
+        return heard;
+    };
+    run_on(p, rows, runs, call.finish, heard.words, used)
 }

@@ -186,7 +186,8 @@ pub fn run_wired(
         let outcome = done.outcome;
         outcomes[i] = code(outcome);
         let next = done.words;
-        if next.woken | next.part != 0 {
+        let awake = sets::union(next.woken, next.part);
+        if awake != 0 {
             words = next;
             i += 1;
             head = ahead;

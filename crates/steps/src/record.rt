@@ -146,7 +146,13 @@ fn age_at(gap: u32, since: u64, tick: u64) -> u32
     gap
 }
 
-fn ages_of<'a>(gaps: &'a [u32; 16], sources: usize, since: &'a [u64; 16], tick: u64) -> [u32; 16]
+// The ages of the sources that exist, and 0 for the others.
+pub fn ages_of<'a>(
+    gaps: &'a [u32; 16],
+    sources: usize,
+    since: &'a [u64; 16],
+    tick: u64,
+) -> [u32; 16]
     requires { ⌜ sources ≤ 16 ⌝ }
     ensures { λ r. ⌜ AgesOf (now (gaps .entry)) sources (now (since .entry)) tick r ⌝ }
 {

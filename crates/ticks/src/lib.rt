@@ -15,6 +15,8 @@ use spacings::gaps_by;
 use spacings::gaps_of;
 use spacings::on_knob;
 use spacings::sources_of;
+use steps::record::ages_of;
+use steps::record::since_of;
 use wiring::wiring_of;
 ghost use mathlib.Core.Path.{_≡_};
 ghost use Rattle.model.specs.declared.Outcome.the-variants.{Done};
@@ -69,20 +71,22 @@ pub fn start(d: Description) -> Ticked
     if let Outcome::Refused(why, place) = judged {
         return refused_start(why, place);
     }
-    let blank = blank_machine();
-    let awake = blank.awake;
-    let used = blank.used;
-    let waiting = blank.waiting;
-    let dropped = blank.dropped;
-    let fastest = blank.fastest;
-    let again = blank.again;
-    let late = blank.late;
+    let longest = gaps_of(d, 200);
+    let since = since_of(&longest);
+    let ages = ages_of(&longest, d.source_count, &since, 4294967296);
+    let awake = [false; 32];
+    let used = [0u32; 32];
+    let waiting = [false; 256];
+    let dropped = [false; 256];
+    let fastest = [0u32; 16];
+    let again = [false; 32];
+    let late = [false; 256];
     let machine = Machine {
         awake,
         used,
         waiting,
         dropped,
-        ages: gaps_of(d, 200),
+        ages,
         fastest,
         again,
         late,

@@ -22,6 +22,8 @@ use Rattle.wiring.specs.Rows.{WiringOf}
 use Rattle.spacings.specs.Sources.{SourcesOf}
 use Rattle.spacings.specs.Gaps.{Asked, GapsOf}
 use Rattle.spacings.proofs.GapLaws.{asked-none}
+use Rattle.sets.specs.Sets.{member}
+use Rattle.sets.proofs.SetLaws.{member-none}
 use Rattle.steps.proofs.MaskLaws.{sourced}
 use Rattle.steps.proofs.RecordLaws.{begun, none-going, none-kept}
 use Rattle.steps.specs.declared.words.Words.{Words}
@@ -105,6 +107,7 @@ advance-requires c κs =
     record {
       description = d;
       machine = m;
+      judged = S .pre .judged;
       tables = tables-of d (S .args .t2) (S .args .t3) (S .args .t4) r (S .pre .same-sources) (S .pre .spaced);
       tracks = L .inv .5 d r (S .pre .same-sources) (S .pre .spaced) (S .pre .judged) .0;
       keeps = kept (S .args .p) d (take (L .i) (callsIn (S .args .calls .now))) m (r .formed) refl;
@@ -142,6 +145,9 @@ turn c d r s g j =
     let tables = tables-of d (S .args .t2) (S .args .t3) (S .args .t4) r s g in
     let l = kept (S .args .p) d (take i cs) m (r .formed) refl in
     (subst (λ (x : Machine). Tracks (S .args .p) d (v .result .words) (v .last .1 .1 .1 .1 .1 .1 .1 .1 .1 .0) (v .last .1 .1 .1 .1 .1 .1 .1 .1 .1 .1 .0) (v .last .1 .1 .1 .1 .1 .1 .1 .1 .1 .1 .1 .0) x) (run-left (S .args .p) d cs (idle d) i call T q) (v .ensures .leaves d m tables j l (I .0)), store-turn (S .args .outcomes .now) (L .outcomes) (page (S .args .p) d cs) i (c .code .result) (omega (arith, c .before .before .before .before .before .before .before .before .before .before .before .before .before .before .before .before .before .before .before .before .before .before .before .before .if1 .left, J)) (omega (arith, codes-length (S .args .p) d cs (idle d))) (I .1) (c .code .ensures ∙ ap (λ (o : Outcome). ofOutcome o .number) (v .ensures .ends d m tables j l (I .0)) ∙ run-code (S .args .p) d cs (idle d) i call T q))
+
+union-requires : tie.Need-union-requires Inv-loop μ-loop
+union-requires c κs = search needs
 
 -- a task is awake
 add-i : tie.Need-add-i Inv-loop μ-loop
@@ -208,7 +214,7 @@ loop-again-2 c =
           let since = v .last .1 .1 .1 .1 .1 .1 .1 .1 .1 .1 .0 in
           let fastest = v .last .1 .1 .1 .1 .1 .1 .1 .1 .1 .1 .1 .0 in
           let made = turn (c .before .before .before .before .before .before .before .before .before) d r s g j in
-          let n = passed-on (S .args .p) d (r .formed) j bytes used since fastest (v .result .words) i to (c .before .before .before .before .before .before .if2 .left) (k .on) (k .most) (k .quiet) (made .0) in
+          let n = passed-on (S .args .p) d (r .formed) j bytes used since fastest (v .result .words) i to (λ j. sym (c .before .before .before .before .before .before .before .union .ensures j) ∙ ap (λ x. member x j) (c .before .before .before .before .before .before .if2 .left) ∙ member-none j) (k .on) (k .most) (k .quiet) (made .0) in
           (subst (λ (x : Words). Tracks (S .args .p) d x used since fastest (left (S .args .p) d (idle d) (take to cs))) (sym (c .before .later .ensures)) (n .0), k .stored (page (S .args .p) d cs) (S .args .outcomes .now) (omega (arith, k .most, codes-length (S .args .p) d cs (idle d), calls-length bytes)) (omega (arith, k .most, c .before .before .before .before .before .before .before .before .before .before .before .before .before .before .before .before .before .before .before .before .before .before .before .before .before .before .before .before .before .before .before .before .before .if1 .left)) (n .1) (made .1)),
     )
 
@@ -216,20 +222,20 @@ raise-requires : tie.Need-raise-requires Inv-loop μ-loop
 raise-requires c κs = let p = c .before .before .before .before .before .before .before .before .before .before .pre in c .before .before .loop .inv .5 (p .description) (p .wired) (p .same-sources) (p .spaced) (p .judged) .0 .keeps .many
 
 unpack-requires : tie.Need-unpack-requires Inv-loop μ-loop
-unpack-requires c κs = omega (arith, c .before .before .before .before .before .before .before .before .before .before .before .before .before .pre .wired .as-wide, c .before .before .before .before .before .before .before .before .before .before .before .before .before .pre .wired .formed .fields .few-sources)
+unpack-requires c κs = omega (arith, c .before .before .before .before .before .before .before .before .before .before .before .before .before .before .before .pre .wired .as-wide, c .before .before .before .before .before .before .before .before .before .before .before .before .before .before .before .pre .wired .formed .fields .few-sources)
 
 same-length : tie.Need-same-length Inv-loop μ-loop
-same-length c = c .before .before .before .before .before .before .loop .inv .1
+same-length c = c .before .before .before .before .before .before .before .before .loop .inv .1
 
 returns-2 : tie.Need-returns-2 Inv-loop μ-loop
 returns-2 c = λ d r s g j.
-    let S = c .before .before .before .before .before .before .before .before .before .before .before .before .before .before in
-    let L = c .before .before .before .before .before .before .loop in
+    let S = c .before .before .before .before .before .before .before .before .before .before .before .before .before .before .before .before in
+    let L = c .before .before .before .before .before .before .before .before .loop in
     let cs = callsIn (S .args .calls .now) in
-    let e : L .i ≡ length cs = omega (arith, c .before .before .before .before .before .loop-test .left, L .inv .0, calls-length (S .args .calls .now)) in
-    let h : length cs ≤ length (S .args .outcomes .now) = omega (arith, c .before .before .before .before .before .before .before .before .before .before .before .if1 .left, calls-length (S .args .calls .now)) in
+    let e : L .i ≡ length cs = omega (arith, c .before .before .before .before .before .before .before .loop-test .left, L .inv .0, calls-length (S .args .calls .now)) in
+    let h : length cs ≤ length (S .args .outcomes .now) = omega (arith, c .before .before .before .before .before .before .before .before .before .before .before .before .before .if1 .left, calls-length (S .args .calls .now)) in
     let I = L .inv .5 d r s g j in
-    (ran-whole (S .args .p) d cs (S .args .outcomes .now) (c .unpack .result) h (c .unpack .ensures d (left (S .args .p) d (idle d) (take (L .i) cs)) (r .as-wide) g (I .0 .holds) (raised-same (S .args .p) d (L .words) (L .used) (L .since) (L .fastest) (c .before .before .before .raise .last .1 .0) (left (S .args .p) d (idle d) (take (L .i) cs)) (I .0) (c .before .before .before .raise .ensures .0) (c .before .before .before .raise .ensures .1)) ∙ ap (left (S .args .p) d (idle d)) (take-all (L .i) cs (omega arith))), I .1 ∙ ap (λ k. take k (page (S .args .p) d cs) ++ drop k (S .args .outcomes .now)) e ∙ filled-whole (S .args .p) d cs (S .args .outcomes .now) h)
+    (ran-whole (S .args .p) d cs (S .args .outcomes .now) (c .unpack .result) h (c .unpack .ensures d (left (S .args .p) d (idle d) (take (L .i) cs)) (r .formed) (r .rowed) (r .as-wide) g (I .0 .holds) (raised-same (S .args .p) d (L .words) (L .used) (L .since) (L .fastest) (c .before .before .before .before .before .raise .last .1 .0) (left (S .args .p) d (idle d) (take (L .i) cs)) (I .0) (c .before .before .before .before .before .raise .ensures .0) (c .before .before .before .before .before .raise .ensures .1)) ∙ ap (left (S .args .p) d (idle d)) (take-all (L .i) cs (omega arith))), I .1 ∙ ap (λ k. take k (page (S .args .p) d cs) ++ drop k (S .args .outcomes .now)) e ∙ filled-whole (S .args .p) d cs (S .args .outcomes .now) h)
 
 pub run-wired-spec : {M : Type 1} → statement M
 run-wired-spec =
@@ -254,6 +260,7 @@ run-wired-spec =
     advance-requires
     code-requires
     slice-write-outcomes
+    union-requires
     add-i
     loop-less
     loop-again

@@ -36,8 +36,8 @@ ReportReplied p s out out′ r = (r ≡ reply (ofFilled (reported p s out))) × 
 abbrev pub QuoteReplied : Policy → List ℕ → ℤ → Type 0
 QuoteReplied p s r = r ≡ reply (ofQuote (quotedFile p s))
 
--- a machine's record in 768 bytes: 32 awake, 32 times 4 used, 256 waiting, 256 dropped, 16 times 4 ages, 16 times 2 fastest tempos, numbers high
--- byte first
+-- a machine's record in 1,056 bytes: 32 awake, 32 times 4 used, 256 waiting, 256 dropped, 16 times 4 ages, 16 times 2 fastest tempos, 32 again and
+-- 256 late, numbers high byte first
 abbrev pub bit : Bool → ℕ
 bit b = cond b 1 0
 
@@ -52,10 +52,12 @@ recordByte m i =
     (cond (ltb i 416) (bit (getD (m .waiting) (i - 160) false))
     (cond (ltb i 672) (bit (getD (m .dropped) (i - 416) false))
     (cond (ltb i 736) (byteIn (getD (m .ages) ((i - 672) / 4) 0) ((i - 672) % 4))
-    (byteIn (getD (m .fastest) ((i - 736) / 2) 0) ((i - 736) % 2 + 2))))))
+    (cond (ltb i 768) (byteIn (getD (m .fastest) ((i - 736) / 2) 0) ((i - 736) % 2 + 2))
+    (cond (ltb i 800) (bit (getD (m .again) (i - 768) false))
+    (bit (getD (m .late) (i - 800) false))))))))
 
 unfoldable pub recordBytes : Machine → List ℕ
-recordBytes m = tab 768 (recordByte m)
+recordBytes m = tab 1056 (recordByte m)
 
 -- n bytes are put from a place on: a buffer that has a text's bytes up to there has them up to the end of the n
 pub record Puts (n : ℕ) (byte : ℕ → ℕ) (at : ℕ) (out out′ : List ℕ) : Type 0 where
@@ -66,14 +68,14 @@ pub record Puts (n : ℕ) (byte : ℕ → ℕ) (at : ℕ) (out out′ : List ℕ
 unfoldable pub runOutcome : List ℕ → List ℕ → List ℕ → List ℕ → Outcome
 runOutcome s calls outcomes out =
     onDone (readFile s .outcome)
-    (cond (ltb (length out) 768 || ltb (length outcomes) (length calls / 6)) (Refused ShortPage 0) Done)
+    (cond (ltb (length out) 1056 || ltb (length outcomes) (length calls / 6)) (Refused ShortPage 0) Done)
     Refused
 
 abbrev pub codesAfter : Policy → Outcome → Description → List ℕ → List ℕ → List ℕ
 codesAfter p o d calls outcomes = onDone o (filledBy (page p d (callsIn calls)) outcomes) (λ r place. outcomes)
 
 abbrev pub recordAfter : Policy → Outcome → Description → List ℕ → List ℕ → List ℕ
-recordAfter p o d calls out = onDone o (recordBytes (left p d (idle d) (callsIn calls)) ++ drop 768 out) (λ r place. out)
+recordAfter p o d calls out = onDone o (recordBytes (left p d (idle d) (callsIn calls)) ++ drop 1056 out) (λ r place. out)
 
 -- what a run answers, and what it leaves in the buffers of outcomes and of the record
 pub record RunReplied (p : Policy) (s calls outcomes out outcomes′ out′ : List ℕ) (r : ℤ) : Type 0 where
@@ -88,7 +90,7 @@ pub record RunAssured (p : Policy) (s : List ℕ) (q : ℕ) (calls outcomes out 
   pub machine : Machine
   pub called : Calls p (readFile s .description) (idle (readFile s .description)) (callsIn calls) answered machine
   pub told : take (length (callsIn calls)) outcomes ≡ codes answered
-  pub kept : take 768 out ≡ recordBytes machine
+  pub kept : take 1056 out ≡ recordBytes machine
   pub assured : Assured p (readFile s .description) q (callsIn calls) answered machine
 
 -- no call of a run that is answered 0 has a tempo above q, as a caller can see from the bytes

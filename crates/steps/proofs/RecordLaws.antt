@@ -19,7 +19,7 @@ use Rattle.model.specs.Graph.{linkAt, runOf}
 use Rattle.model.specs.Verdicts.{onKnob}
 use Rattle.model.specs.Machine.{awakeAt, usedAt, waitingAt, droppedAt, againAt, lateAt, ageAt, fastestAt, longestGap, idle, taskRule, linkRule, sourceRule, againRule, lateRule, rulesKept, partsDone, aloneRule}
 use Rattle.lemmas.proofs.Tests.{Cmp, less, same, more, cmp, same-test, not-both, false-of, both, and-left, and-right, and-false-left, and-false-right, or-new, or-else, or-false}
-use Rattle.lemmas.proofs.Table.{getD-tab, length-tab, getD-same}
+use Rattle.lemmas.proofs.Table.{getD-tab, length-tab, is-tab, getD-same}
 use Rattle.lemmas.proofs.Range.{any-at, any-found, all-at, one-only}
 use Rattle.theory.proofs.Links.{to-most}
 use Rattle.theory.proofs.WellFormed.{WellFormed}
@@ -242,6 +242,16 @@ begun d w gaps since g b s r = record {
     absent u p (yes q) = getD-tab 16 _ 0 u q ∙ rw (le-ltb u (d .«source_count») p) refl
     absent u p (no q) = List·getD-eq-default (idle d .ages) 0 {n = u} (omega (arith, length-tab 16 (λ u. cond (ltb u (d .«source_count»)) (longestGap d u) 0)))
 
+-- and the record of the start, by its ages
+pub idle-aged : (d : Description) (gaps since old : List ℕ) → WellFormed d → GapsOf d 200 gaps → SinceOf gaps since → AgesOf gaps (d .«source_count») since 4294967296 old → record { awake = replicate 32 false; used = replicate 32 0; waiting = replicate 256 false; dropped = replicate 256 false; ages = old; fastest = replicate 16 0; again = replicate 32 false; late = replicate 256 false } ≡ idle d
+unfolding idle
+idle-aged d gaps since old g s r a =
+    ap (λ (l : List ℕ). let m : Machine = record { awake = replicate 32 false; used = replicate 32 0; waiting = replicate 256 false; dropped = replicate 256 false; ages = l; fastest = replicate 16 0; again = replicate 32 false; late = replicate 256 false } in m) (is-tab 0 16 _ old (a .many) (λ u p. at u p (decLt u (d .«source_count»))))
+  where
+    at : (u : ℕ) → u < 16 → Dec (u < d .«source_count») → getD old u 0 ≡ cond (ltb u (d .«source_count»)) (longestGap d u) 0
+    at u p (yes q) = rw (lt-ltb u (d .«source_count») q) (omega (arith, a .here u q, r .here u p, s .at u q, s .fit .most u))
+    at u p (no q) = rw (le-ltb u (d .«source_count») (omega arith)) (a .past u (omega arith))
+
 -- nobody goes on
 pub none-going : (p : Policy) (w : Words) → Begins w → Goes p (w .running) (replicate 32 0)
 none-going p w b = record {
@@ -250,10 +260,6 @@ none-going p w b = record {
 }
 
 -- it keeps no tempo
-pub idle-fastest : (d : Description) → replicate 16 0 ≡ idle d .fastest
-unfolding idle
-idle-fastest d = refl
-
 pub none-kept : (d : Description) (w : Words) → Begins w → Keeps w (replicate 16 0) (idle d)
 unfolding idle
 none-kept d w b = record {

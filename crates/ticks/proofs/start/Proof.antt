@@ -1,8 +1,7 @@
--- `start` meets its contract: refused, or the record that the first words hold. Assumes nothing.
+-- `start` meets its contract: refused, or the idle record. Assumes nothing.
 use mathlib.Core.Path.{refl, sym, _∙_}
 use native.Mathlib.Omega.{arith}
-use Rattle.model.specs.Machine.{idle}
-use Rattle.steps.proofs.RecordLaws.{begun, idle-fastest}
+use Rattle.steps.proofs.RecordLaws.{idle-aged}
 use Rattle.theory.proofs.Typed.{typed-widths}
 use Rattle.theory.proofs.FileLaws.{judge-well-formed}
 use Rattle.ticks.proofs.Laws.{start-refused, start-done}
@@ -31,30 +30,15 @@ gaps-of-requires c κs = (judge-well-formed (c .before .before .before .args .d)
 since-of-requires : tie.Need-since-of-requires
 since-of-requires c κs = search needs
 
-begin-requires : tie.Need-begin-requires
-begin-requires c κs = search needs
-
-unpack-requires : tie.Need-unpack-requires
-unpack-requires c κs = judge-well-formed (c .before .before .before .before .before .before .before .before .before .args .d) (typed-widths (c .before .before .before .before .before .before .before .before .before .args .d) _ (c .before .before .before .before .before .before .before .before .before .good .0)) (sym (c .before .before .before .before .before .before .before .before .judge .ensures) ∙ c .before .before .before .before .before .before .enum-told .given .1) .fields .few-sources
+ages-of-requires : tie.Need-ages-of-requires
+ages-of-requires c κs = judge-well-formed (c .before .before .before .before .before .before .before .before .args .d) (typed-widths (c .before .before .before .before .before .before .before .before .args .d) _ (c .before .before .before .before .before .before .before .before .good .0)) (sym (c .before .before .before .before .before .before .before .judge .ensures) ∙ c .before .before .before .before .before .enum-told .given .1) .fields .few-sources
 
 returns-2 : tie.Need-returns-2
 returns-2 c =
-    let d = c .before .before .before .before .before .before .before .before .before .before .args .d in
-    let j = sym (c .before .before .before .before .before .before .before .before .before .judge .ensures) ∙ c .before .before .before .before .before .before .before .enum-told .given .1 in
-    let k = judge-well-formed d (typed-widths d _ (c .before .before .before .before .before .before .before .before .before .before .good .0)) j in
-    start-done d (c .unpack .result) j (c .unpack .ensures d (idle d) refl (c .before .before .before .before .before .before .gaps-of .ensures) (begun d (c .before .before .begin .result) (c .before .before .before .before .before .before .gaps-of .result) (c .before .before .before .before .since-of .result) k (c .before .before .begin .ensures) (c .before .before .before .before .before .before .gaps-of .ensures) (c .before .before .before .before .since-of .ensures)) (idle-fastest d))
+    let d = c .before .before .before .before .before .before .before .before .before .args .d in
+    start-done d _ (sym (c .before .before .before .before .before .before .before .before .judge .ensures) ∙ c .before .before .before .before .before .before .enum-told .given .1) (idle-aged d (c .before .before .before .before .before .gaps-of .result) (c .before .before .before .since-of .result) (c .ages-of .result) (judge-well-formed (c .before .before .before .before .before .before .before .before .before .args .d) (typed-widths (c .before .before .before .before .before .before .before .before .before .args .d) _ (c .before .before .before .before .before .before .before .before .before .good .0)) (sym (c .before .before .before .before .before .before .before .before .judge .ensures) ∙ c .before .before .before .before .before .before .enum-told .given .1)) (c .before .before .before .before .before .gaps-of .ensures) (c .before .before .before .since-of .ensures) (c .ages-of .ensures))
 
 pub start-spec : {M : Type 1} → statement M
 start-spec =
     tie.close
-    (tie.spec
-    judge-requires
-    enum-known-judged
-    refused-start-requires
-    returns
-    enum-told
-    gaps-of-requires
-    since-of-requires
-    begin-requires
-    unpack-requires
-    returns-2)
+    (tie.spec judge-requires enum-known-judged refused-start-requires returns enum-told gaps-of-requires since-of-requires ages-of-requires returns-2)

@@ -32,6 +32,11 @@ pub record Skips (calls : List ℕ) (from n peak : ℕ) (outcomes : List ℕ) (r
   pub stored : (text out₀ : List ℕ) → r ≤ length text → r ≤ length out₀ → ((k : ℕ) → from ≤ k → k < r → getD text k 0 ≡ 0)
       → outcomes ≡ take from text ++ drop from out₀ → outcomes′ ≡ take r text ++ drop r out₀
 
+-- and calls in which nothing ends either
+pub record RunsAlong (calls : List ℕ) (from to peak : ℕ) (outcomes : List ℕ) (r : ℕ) (outcomes′ : List ℕ) : Type 0 where
+  pub skips : Skips calls from to peak outcomes r outcomes′
+  pub unfinished : (k : ℕ) → from ≤ k → k < r → getD calls (6 * k + 4) 0 ≡ 0
+
 -- words so many ticks later
 abbrev pub laterBy : ℕ → Words → Words
 laterBy k w = record { woken = w .woken; part = w .part; running = w .running; fresh = w .fresh; taken = w .taken; dropped = w .dropped; tick = w .tick + k; low = w .low; peak = w .peak }

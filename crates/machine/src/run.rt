@@ -17,13 +17,14 @@ use spacings::sources_of;
 use steps::record::begin;
 use steps::record::since_of;
 use steps::record::unpack;
+use steps::step::chosen;
 use steps::step::raise;
 use steps::words::Words;
 use wiring::Wiring;
 use wiring::wiring_of;
 ghost use mathlib.Core.Path.{_≡_};
-ghost use mathlib.Core.Bool.{_&&_};
-ghost use Prim.Native.Nat.{_+_, _*_, _/_, _%_, _≤_, _<_, _^_};
+ghost use mathlib.Core.Bool.{_&&_, cond};
+ghost use Prim.Native.Nat.{_+_, _-_, _*_, _/_, _%_, _≤_, _<_, _^_, min};
 ghost use lib.ListN.{length};
 ghost use lib.Dec.{leb, eqb};
 ghost use Rattle.model.specs.Field.{numberIn};
@@ -33,7 +34,7 @@ ghost use Rattle.theory.proofs.WellFormed.{WellFormed};
 ghost use Rattle.machine.specs.Calls.{Accepted};
 ghost use Rattle.model.specs.Refusals.{ofOutcome};
 ghost use Rattle.model.specs.Run.{callsIn};
-ghost use Rattle.machine.specs.Run.{Head, Skips, laterBy, RunIs, RunOf};
+ghost use Rattle.machine.specs.Run.{Head, Skips, RunsAlong, laterBy, RunIs, RunOf};
 
 // A call's end as a byte: the refusal's number, or 0.
 fn code(end: Outcome) -> u8
@@ -104,6 +105,49 @@ fn skip(calls: &[u8], from: usize, n: usize, peak: u32, outcomes: &mut [u8]) -> 
     let mut i = from;
     while i < n {
         if !quiet_at(calls, 6 * i, peak) {
+            return i;
+        }
+        outcomes[i] = 0;
+        i += 1;
+    }
+    i
+}
+
+// How many ticks a run has before its last, if it has begun; else 0.
+fn room(run: u32, spent: u32) -> u32
+    requires { ⌜ spent < run ⌝ }
+    ensures { λ r. ⌜ r ≡ cond (eqb spent 0) 0 (run - spent - 1) ⌝ }
+{
+    if spent == 0 {
+        return 0;
+    }
+    run - spent - 1
+}
+
+// The place that so many calls reach from another on, n at the most.
+fn reach(from: usize, calls: u32, n: usize) -> usize
+    requires { ⌜ from ≤ n ⌝ }
+    ensures { λ r. ⌜ r ≡ min n (from + calls) ⌝ }
+{
+    let count = calls as usize;
+    if n - from <= count {
+        return n;
+    }
+    from + count
+}
+
+// Where a run that has begun goes on, passes the calls from a place up to another in which nothing comes, no faster tempo is given and nothing ends: each
+// is a tick of the run, and its code is 0. The place of the first other one.
+fn along(calls: &[u8], from: usize, to: usize, peak: u32, outcomes: &mut [u8]) -> usize
+    requires { ⌜ (from ≤ to) × (6 * to ≤ length (now calls)) × (to ≤ length (now outcomes)) × (200 ≤ peak) × (peak ≤ 3000) ⌝ }
+    ensures { λ r. ⌜ RunsAlong (now (calls .entry)) from to peak (now (outcomes .entry)) r (now (outcomes .exit)) ⌝ }
+{
+    let mut i = from;
+    while i < to {
+        if !quiet_at(calls, 6 * i, peak) {
+            return i;
+        }
+        if calls[6 * i + 4] != 0 {
             return i;
         }
         outcomes[i] = 0;
@@ -187,13 +231,36 @@ pub fn run_wired(
         outcomes[i] = code(outcome);
         let next = done.words;
         let awake = sets::union(next.woken, next.part);
-        if awake != 0 {
+        if awake == 0 {
+            let to = skip(calls, i + 1, n, next.peak, &mut *outcomes);
+            words = later(next, to - i - 1);
+            i = to;
+            head = peek(calls, to, n);
+            continue;
+        }
+        if next.part == 0 {
             words = next;
             i += 1;
             head = ahead;
             continue;
         }
-        let to = skip(calls, i + 1, n, next.peak, &mut *outcomes);
+        let h = chosen(next.running, awake);
+        let spent = used[h - 1];
+        let left = room(w.runs[h - 1], spent);
+        if left == 0 {
+            words = next;
+            i += 1;
+            head = ahead;
+            continue;
+        }
+        let to = along(
+            calls,
+            i + 1,
+            reach(i + 1, left, n),
+            next.peak,
+            &mut *outcomes,
+        );
+        used[h - 1] = spent + (to - i - 1) as u32;
         words = later(next, to - i - 1);
         i = to;
         head = peek(calls, to, n);

@@ -80,11 +80,11 @@ end-on : (d : Description) (h : ℕ) (finish : Bool) (m : Machine) → 1 ≤ h �
 unfolding endRun
 end-on d h finish m p e = rw (e, ne-eqb h 0 (λ z. omega arith)) refl
 
--- 0 stored where it stands
-pub set-same : (l : List ℕ) (i : ℕ) → i < length l → getD l i 0 ≡ 0 → l ≡ set l i 0
-set-same l i p e = ext-getD 0 l (set l i 0) (sym (length-set l i 0)) (λ k q. sym (getD-set l i 0 0 k p ∙ at k (eqb k i) refl))
+-- a number stored where it stands
+pub set-same : (l : List ℕ) (i x : ℕ) → i < length l → getD l i 0 ≡ x → l ≡ set l i x
+set-same l i x p e = ext-getD 0 l (set l i x) (sym (length-set l i x)) (λ k q. sym (getD-set l i x 0 k p ∙ at k (eqb k i) refl))
   where
-    at : (k : ℕ) (b : Bool) → eqb k i ≡ b → cond (eqb k i) 0 (getD l k 0) ≡ getD l k 0
+    at : (k : ℕ) (b : Bool) → eqb k i ≡ b → cond (eqb k i) x (getD l k 0) ≡ getD l k 0
     at k true f = rw (f, eqb-true k i f) (sym e)
     at k false f = rw f refl
 

@@ -215,7 +215,7 @@ fn ends(used: u32, run: u32, finish: bool) -> bool
 }
 
 // The task that runs: the one that goes on, or else the highest awake.
-fn chosen(running: usize, awake: u64) -> usize
+pub fn chosen(running: usize, awake: u64) -> usize
     requires { ⌜ 0 < awake ⌝ }
     ensures { λ r. ⌜ Chosen running awake r ⌝ }
 {

@@ -1,8 +1,8 @@
 -- `run_wired` meets its contract: after i calls the words hold the record that the plain machine leaves, and the buffer its codes. Assumes nothing.
-use Prim.Native.Nat.{ℕ, _+_, _*_, _-_, _/_, _≤_, _<_}
+use Prim.Native.Nat.{ℕ, zero, suc, _+_, _*_, _-_, _/_, _≤_, _<_, min}
 use mathlib.Core.Path.{_≡_, refl, sym, ap, subst, _∙_}
-use mathlib.Core.Bool.{not}
-use mathlib.Core.List.{_++_}
+use mathlib.Core.Bool.{true, false, not, cond}
+use mathlib.Core.List.{List, _++_}
 use native.Mathlib.Omega.{arith}
 use native.Mathlib.Nat.{div-mul-le-self}
 use lib.ListN.{length, getD, take, drop, set, length-set}
@@ -14,6 +14,7 @@ use Rattle.model.specs.declared.Outcome.{Outcome}
 use Rattle.model.specs.declared.Outcome.the-variants.{Done}
 use Rattle.model.specs.Refusals.{ofOutcome}
 use Rattle.model.specs.Field.{numberIn}
+use Rattle.model.specs.Graph.{runOf}
 use Rattle.model.specs.File.{judge}
 use Rattle.model.specs.Machine.{idle}
 use Rattle.model.specs.History.{Call, left}
@@ -26,16 +27,32 @@ use Rattle.sets.specs.Sets.{member}
 use Rattle.sets.proofs.SetLaws.{member-none}
 use Rattle.steps.proofs.MaskLaws.{sourced}
 use Rattle.steps.proofs.RecordLaws.{begun, none-going, none-kept}
+use borrow.Author.Tests.{ne-eqb}
+use Rattle.lemmas.proofs.Tests.{not-both}
+use Rattle.steps.specs.Words.{awakeIn}
+use Rattle.steps.proofs.ChoiceLaws.{chosen-awake}
 use Rattle.steps.specs.declared.words.Words.{Words}
 use Rattle.machine.specs.Calls.{Tracks}
 use Rattle.machine.specs.Run.{Head}
 use Rattle.machine.proofs.RunLaws.{calls-length, calls-at, codes-length, run-left, run-code, store-turn, ran-short, ran-whole, filled-short, filled-whole, kept}
-use Rattle.machine.proofs.CallLaws.{raised-same}
-use Rattle.machine.proofs.SkipLaws.{passed-on}
+use Rattle.machine.proofs.CallLaws.{raised-same, lawful-rules, going-awake}
+use Rattle.machine.proofs.SkipLaws.{passed-on, passed-along}
 use Rattle.machine.proofs.TickLaws.{tables-of}
 use borrow.Author.Needs.{needs}
 use Rattle.machine.proofs.run.run_wired.Statement.{statement}
 use Rattle.machine.proofs.run.run_wired.Tie as tie
+
+-- a task that is awake has a number
+some-task : (w : Words) (h : ℕ) → awakeIn w 0 ≡ false → awakeIn w h ≡ true → 1 ≤ h
+some-task w zero z e = absurd (not-both e z)
+some-task w (suc h) z e = omega arith
+
+-- room is left in a run: it has begun
+roomy : (spent run room : ℕ) → room ≡ cond (eqb spent 0) 0 (run - spent - 1) → (room ≡ 0 → ⊥) → spent < run → (0 < spent) × (spent + room + 1 ≡ run)
+roomy zero run room e n p = absurd (n e)
+roomy (suc k) run room e n p =
+    let f : room ≡ run - suc k - 1 = e ∙ rw (ne-eqb (suc k) 0 (λ z. omega arith)) refl in
+    (omega arith, omega arith)
 
 abbrev Inv-loop : tie.InvT-loop
 Inv-loop p calls outcomes₀ w s longest n sources words₀ used₀ since₀ fastest₀ tempos₀ gaps₀ i₀ head₀ outcomes words used since fastest tempos gaps i head =
@@ -149,25 +166,7 @@ turn c d r s g j =
 union-requires : tie.Need-union-requires Inv-loop μ-loop
 union-requires c κs = search needs
 
--- a task is awake
-add-i : tie.Need-add-i Inv-loop μ-loop
-add-i c = omega (arith, c .before .before .before .before .before .before .before .before .before .before .before .before .before .before .before .before .before .before .before .before .before .before .before .before .before .before .before .before .before .before, c .before .before .before .before .before .before .before .before .before .before .before .before .before .before .before .before .before .before .before .before .before .loop-test .taken, div-mul-le-self (length (c .before .before .before .before .before .before .before .before .before .before .before .before .before .before .before .before .before .before .before .before .before .before .before .before .before .before .before .before .before .before .args .calls .now)) 6)
-
-loop-less : tie.Need-loop-less Inv-loop μ-loop
-loop-less c = omega (arith, c .before .before .before .before .before .before .before .before .before .before .before .before .before .before .before .before .before .before .before .before .before .loop-test .taken)
-
-loop-again : tie.Need-loop-again Inv-loop μ-loop
-loop-again c =
-    let L = c .before .before .before .before .before .before .before .before .before .before .before .before .before .before .before .before .before .before .before .before .before .before .loop in (
-      omega (arith, c .before .before .before .before .before .before .before .before .before .before .before .before .before .before .before .before .before .before .before .before .before .loop-test .taken),
-      length-set (L .outcomes) (L .i) (c .before .before .before .code .result) ∙ L .inv .1,
-      omega (arith, c .before .before .before .before .advance .ensures .soon, L .inv .2),
-      c .before .before .before .before .advance .ensures .asked,
-      c .before .before .before .before .before .before .before .before .before .before .before .before .before .before .before .before .before .before .before .before .peek2 .ensures,
-      turn (c .before .before .before),
-    )
-
--- none is
+-- no task is awake
 add-skip : tie.Need-add-skip Inv-loop μ-loop
 add-skip c = omega (arith, c .before .before .before .before .before .before .before .before .before .before .before .before .before .before .before .before .before .before .before .before .before .before .before .before .before .before .before .before .before .before, c .before .before .before .before .before .before .before .before .before .before .before .before .before .before .before .before .before .before .before .before .before .loop-test .taken, div-mul-le-self (length (c .before .before .before .before .before .before .before .before .before .before .before .before .before .before .before .before .before .before .before .before .before .before .before .before .before .before .before .before .before .before .args .calls .now)) 6)
 
@@ -191,11 +190,11 @@ later-requires c κs = omega (arith, c .before .before .before .before .before .
 peek-requires-3 : tie.Need-peek-requires-3 Inv-loop μ-loop
 peek-requires-3 c κs = omega (arith, div-mul-le-self (length (c .before .before .before .before .before .before .before .before .before .before .before .before .before .before .before .before .before .before .before .before .before .before .before .before .before .before .before .before .before .before .before .before .before .before .before .args .calls .now)) 6)
 
-loop-less-2 : tie.Need-loop-less-2 Inv-loop μ-loop
-loop-less-2 c = omega (arith, c .before .before .before .before .before .before .before .before .before .before .before .before .before .before .before .before .before .before .before .before .before .before .before .before .before .before .before .loop-test .taken, c .before .before .before .before .skip .ensures .on, c .before .before .before .before .skip .ensures .most)
+loop-less : tie.Need-loop-less Inv-loop μ-loop
+loop-less c = omega (arith, c .before .before .before .before .before .before .before .before .before .before .before .before .before .before .before .before .before .before .before .before .before .before .before .before .before .before .before .loop-test .taken, c .before .before .before .before .skip .ensures .on, c .before .before .before .before .skip .ensures .most)
 
-loop-again-2 : tie.Need-loop-again-2 Inv-loop μ-loop
-loop-again-2 c =
+loop-again : tie.Need-loop-again Inv-loop μ-loop
+loop-again c =
     let S = c .before .before .before .before .before .before .before .before .before .before .before .before .before .before .before .before .before .before .before .before .before .before .before .before .before .before .before .before .before .before .before .before .before .before .before .before in
     let L = c .before .before .before .before .before .before .before .before .before .before .before .before .before .before .before .before .before .before .before .before .before .before .before .before .before .before .before .before .loop in
     let i = L .i in
@@ -214,8 +213,172 @@ loop-again-2 c =
           let since = v .last .1 .1 .1 .1 .1 .1 .1 .1 .1 .1 .0 in
           let fastest = v .last .1 .1 .1 .1 .1 .1 .1 .1 .1 .1 .1 .0 in
           let made = turn (c .before .before .before .before .before .before .before .before .before) d r s g j in
-          let n = passed-on (S .args .p) d (r .formed) j bytes used since fastest (v .result .words) i to (λ j. sym (c .before .before .before .before .before .before .before .union .ensures j) ∙ ap (λ x. member x j) (c .before .before .before .before .before .before .if2 .left) ∙ member-none j) (k .on) (k .most) (k .quiet) (made .0) in
+          let n = passed-on (S .args .p) d (r .formed) j bytes used since fastest (v .result .words) i to (λ j. sym (c .before .before .before .before .before .before .before .union .ensures j) ∙ ap (λ x. member x j) (c .before .before .before .before .before .before .if2 .taken) ∙ member-none j) (k .on) (k .most) (k .quiet) (made .0) in
           (subst (λ (x : Words). Tracks (S .args .p) d x used since fastest (left (S .args .p) d (idle d) (take to cs))) (sym (c .before .later .ensures)) (n .0), k .stored (page (S .args .p) d cs) (S .args .outcomes .now) (omega (arith, k .most, codes-length (S .args .p) d cs (idle d), calls-length bytes)) (omega (arith, k .most, c .before .before .before .before .before .before .before .before .before .before .before .before .before .before .before .before .before .before .before .before .before .before .before .before .before .before .before .before .before .before .before .before .before .if1 .left)) (n .1) (made .1)),
+    )
+
+-- none is part done
+add-i : tie.Need-add-i Inv-loop μ-loop
+add-i c = omega (arith, c .before .before .before .before .before .before .before .before .before .before .before .before .before .before .before .before .before .before .before .before .before .before .before .before .before .before .before .before .before .before .before .before, c .before .before .before .before .before .before .before .before .before .before .before .before .before .before .before .before .before .before .before .before .before .before .before .loop-test .taken, div-mul-le-self (length (c .before .before .before .before .before .before .before .before .before .before .before .before .before .before .before .before .before .before .before .before .before .before .before .before .before .before .before .before .before .before .before .before .args .calls .now)) 6)
+
+loop-less-2 : tie.Need-loop-less-2 Inv-loop μ-loop
+loop-less-2 c = omega (arith, c .before .before .before .before .before .before .before .before .before .before .before .before .before .before .before .before .before .before .before .before .before .before .before .loop-test .taken)
+
+loop-again-2 : tie.Need-loop-again-2 Inv-loop μ-loop
+loop-again-2 c =
+    let L = c .before .before .before .before .before .before .before .before .before .before .before .before .before .before .before .before .before .before .before .before .before .before .before .before .loop in (
+      omega (arith, c .before .before .before .before .before .before .before .before .before .before .before .before .before .before .before .before .before .before .before .before .before .before .before .loop-test .taken),
+      length-set (L .outcomes) (L .i) (c .before .before .before .before .before .code .result) ∙ L .inv .1,
+      omega (arith, c .before .before .before .before .before .before .advance .ensures .soon, L .inv .2),
+      c .before .before .before .before .before .before .advance .ensures .asked,
+      c .before .before .before .before .before .before .before .before .before .before .before .before .before .before .before .before .before .before .before .before .before .before .peek2 .ensures,
+      turn (c .before .before .before .before .before),
+    )
+
+chosen-requires : tie.Need-chosen-requires Inv-loop μ-loop
+chosen-requires c κs = omega (arith, c .before .before .if2 .left)
+
+-- the task that runs next is awake, and has not used its run
+runs : (c : tie.After-chosen Inv-loop μ-loop) (d : Description) → WiringOf d (c .before .before .before .before .before .before .before .before .before .before .before .before .before .before .before .before .before .before .before .before .before .before .before .before .before .before .before .before .before .before .before .before .before .args .t2) → SourcesOf d (c .before .before .before .before .before .before .before .before .before .before .before .before .before .before .before .before .before .before .before .before .before .before .before .before .before .before .before .before .before .before .before .before .before .args .t3) → GapsOf d 200 (c .before .before .before .before .before .before .before .before .before .before .before .before .before .before .before .before .before .before .before .before .before .before .before .before .before .before .before .before .before .before .before .before .before .args .t4) → judge d ≡ Done → (1 ≤ c .chosen .result) × (c .chosen .result ≤ 32) × (getD (c .before .before .before .before .before .before .before .advance .last .1 .1 .1 .1 .1 .1 .1 .1 .1 .0) (c .chosen .result - 1) 0 < runOf d (c .chosen .result)) × (getD (c .before .before .before .before .before .before .before .before .before .before .before .before .before .before .before .before .before .before .before .before .before .before .before .before .before .before .before .before .before .before .before .before .before .args .t2 .runs) (c .chosen .result - 1) 0 ≡ runOf d (c .chosen .result)) × (c .chosen .result ≤ d .«task_count»)
+runs c d r s g j =
+    let S = c .before .before .before .before .before .before .before .before .before .before .before .before .before .before .before .before .before .before .before .before .before .before .before .before .before .before .before .before .before .before .before .before .before in
+    let cs = callsIn (S .args .calls .now) in
+    let w = c .before .before .before .before .before .before .before .advance .result .words in
+    let h = c .chosen .result in
+    let m = left (S .args .p) d (idle d) (take (c .before .before .before .before .before .before .before .before .before .before .before .before .before .before .before .before .before .before .before .before .before .before .before .before .before .loop .i + 1) cs) in
+    let R = turn (c .before .before .before .before .before .before) d r s g j .0 in
+    let going = going-awake (S .args .p) d w _ _ m (lawful-rules (S .args .p) d m (kept (S .args .p) d (take (c .before .before .before .before .before .before .before .before .before .before .before .before .before .before .before .before .before .before .before .before .before .before .before .before .before .loop .i + 1) cs) m (r .formed) refl)) (R .goes) (R .holds) in
+    let on : awakeIn w h ≡ true = sym (c .before .before .before .before .union .ensures h) ∙ chosen-awake (w .running) (c .before .before .before .before .union .result) h (λ o. c .before .before .before .before .union .ensures (w .running) ∙ going o) (c .chosen .ensures) in
+    let p : 1 ≤ h = some-task w h (R .holds .marks .no-zero) on in
+    let t : h ≤ d .«task_count» = R .holds .marks .present h on in
+    (p, omega (arith, r .formed .fields .few-tasks), subst (λ (us : List ℕ). getD us (h - 1) 0 < runOf d h) (sym (R .holds .same-used)) (R .holds .below h p t), ap (λ (l : List ℕ). getD l (h - 1) 0) (r .same-runs), t)
+
+own : (c : tie.After-chosen Inv-loop μ-loop) → (1 ≤ c .chosen .result) × (c .chosen .result ≤ 32) × (getD (c .before .before .before .before .before .before .before .advance .last .1 .1 .1 .1 .1 .1 .1 .1 .1 .0) (c .chosen .result - 1) 0 < runOf (c .before .before .before .before .before .before .before .before .before .before .before .before .before .before .before .before .before .before .before .before .before .before .before .before .before .before .before .before .before .before .before .before .before .pre .description) (c .chosen .result)) × (getD (c .before .before .before .before .before .before .before .before .before .before .before .before .before .before .before .before .before .before .before .before .before .before .before .before .before .before .before .before .before .before .before .before .before .args .t2 .runs) (c .chosen .result - 1) 0 ≡ runOf (c .before .before .before .before .before .before .before .before .before .before .before .before .before .before .before .before .before .before .before .before .before .before .before .before .before .before .before .before .before .before .before .before .before .pre .description) (c .chosen .result)) × (c .chosen .result ≤ c .before .before .before .before .before .before .before .before .before .before .before .before .before .before .before .before .before .before .before .before .before .before .before .before .before .before .before .before .before .before .before .before .before .pre .description .«task_count»)
+own c = runs c (c .before .before .before .before .before .before .before .before .before .before .before .before .before .before .before .before .before .before .before .before .before .before .before .before .before .before .before .before .before .before .before .before .before .pre .description) (c .before .before .before .before .before .before .before .before .before .before .before .before .before .before .before .before .before .before .before .before .before .before .before .before .before .before .before .before .before .before .before .before .before .pre .wired) (c .before .before .before .before .before .before .before .before .before .before .before .before .before .before .before .before .before .before .before .before .before .before .before .before .before .before .before .before .before .before .before .before .before .pre .same-sources) (c .before .before .before .before .before .before .before .before .before .before .before .before .before .before .before .before .before .before .before .before .before .before .before .before .before .before .before .before .before .before .before .before .before .pre .spaced) (c .before .before .before .before .before .before .before .before .before .before .before .before .before .before .before .before .before .before .before .before .before .before .before .before .before .before .before .before .before .before .before .before .before .pre .judged)
+
+-- its run has begun, and so many ticks of it are left before the last
+begun-left : (c : tie.After-room Inv-loop μ-loop) → (c .room .result ≡ 0 → ⊥) → (0 < getD (c .before .before .before .before .before .before .before .before .before .advance .last .1 .1 .1 .1 .1 .1 .1 .1 .1 .0) (c .before .before .chosen .result - 1) 0) × (getD (c .before .before .before .before .before .before .before .before .before .advance .last .1 .1 .1 .1 .1 .1 .1 .1 .1 .0) (c .before .before .chosen .result - 1) 0 + c .room .result + 1 ≡ getD (c .before .before .before .before .before .before .before .before .before .before .before .before .before .before .before .before .before .before .before .before .before .before .before .before .before .before .before .before .before .before .before .before .before .before .before .args .t2 .runs) (c .before .before .chosen .result - 1) 0)
+begun-left c some = roomy _ _ (c .room .result) (c .room .ensures) some (omega (arith, own (c .before .before)))
+
+sub-spent : tie.Need-sub-spent Inv-loop μ-loop
+sub-spent c = omega (arith, own (c))
+
+mul-spent : tie.Need-mul-spent Inv-loop μ-loop
+mul-spent c = omega (arith, own (c))
+
+array-read-spent : tie.Need-array-read-spent Inv-loop μ-loop
+array-read-spent c = omega (arith, own (c))
+
+sub-room : tie.Need-sub-room Inv-loop μ-loop
+sub-room c = omega (arith, own (c))
+
+mul-room : tie.Need-mul-room Inv-loop μ-loop
+mul-room c = omega (arith, own (c))
+
+element-copy-out-room : tie.Need-element-copy-out-room Inv-loop μ-loop
+element-copy-out-room c = omega (arith, own (c))
+
+room-requires : tie.Need-room-requires Inv-loop μ-loop
+room-requires c κs = omega (arith, own (c .before))
+
+-- its run begins next, or is at its last tick
+add-i-2 : tie.Need-add-i-2 Inv-loop μ-loop
+add-i-2 c = omega (arith, c .before .before .before .before .before .before .before .before .before .before .before .before .before .before .before .before .before .before .before .before .before .before .before .before .before .before .before .before .before .before .before .before .before .before .before .before, c .before .before .before .before .before .before .before .before .before .before .before .before .before .before .before .before .before .before .before .before .before .before .before .before .before .before .before .loop-test .taken, div-mul-le-self (length (c .before .before .before .before .before .before .before .before .before .before .before .before .before .before .before .before .before .before .before .before .before .before .before .before .before .before .before .before .before .before .before .before .before .before .before .before .args .calls .now)) 6)
+
+loop-less-3 : tie.Need-loop-less-3 Inv-loop μ-loop
+loop-less-3 c = omega (arith, c .before .before .before .before .before .before .before .before .before .before .before .before .before .before .before .before .before .before .before .before .before .before .before .before .before .before .before .loop-test .taken)
+
+loop-again-3 : tie.Need-loop-again-3 Inv-loop μ-loop
+loop-again-3 c =
+    let L = c .before .before .before .before .before .before .before .before .before .before .before .before .before .before .before .before .before .before .before .before .before .before .before .before .before .before .before .before .loop in (
+      omega (arith, c .before .before .before .before .before .before .before .before .before .before .before .before .before .before .before .before .before .before .before .before .before .before .before .before .before .before .before .loop-test .taken),
+      length-set (L .outcomes) (L .i) (c .before .before .before .before .before .before .before .before .before .code .result) ∙ L .inv .1,
+      omega (arith, c .before .before .before .before .before .before .before .before .before .before .advance .ensures .soon, L .inv .2),
+      c .before .before .before .before .before .before .before .before .before .before .advance .ensures .asked,
+      c .before .before .before .before .before .before .before .before .before .before .before .before .before .before .before .before .before .before .before .before .before .before .before .before .before .before .peek2 .ensures,
+      turn (c .before .before .before .before .before .before .before .before .before),
+    )
+
+-- it goes on
+add-along : tie.Need-add-along Inv-loop μ-loop
+add-along c = omega (arith, c .before .before .before .before .before .before .before .before .before .before .before .before .before .before .before .before .before .before .before .before .before .before .before .before .before .before .before .before .before .before .before .before .before .before .before .before, c .before .before .before .before .before .before .before .before .before .before .before .before .before .before .before .before .before .before .before .before .before .before .before .before .before .before .before .loop-test .taken, div-mul-le-self (length (c .before .before .before .before .before .before .before .before .before .before .before .before .before .before .before .before .before .before .before .before .before .before .before .before .before .before .before .before .before .before .before .before .before .before .before .before .args .calls .now)) 6)
+
+add-reach : tie.Need-add-reach Inv-loop μ-loop
+add-reach c = omega (arith, c .before .before .before .before .before .before .before .before .before .before .before .before .before .before .before .before .before .before .before .before .before .before .before .before .before .before .before .before .before .before .before .before .before .before .before .before, c .before .before .before .before .before .before .before .before .before .before .before .before .before .before .before .before .before .before .before .before .before .before .before .before .before .before .before .loop-test .taken, div-mul-le-self (length (c .before .before .before .before .before .before .before .before .before .before .before .before .before .before .before .before .before .before .before .before .before .before .before .before .before .before .before .before .before .before .before .before .before .before .before .before .args .calls .now)) 6)
+
+reach-requires : tie.Need-reach-requires Inv-loop μ-loop
+reach-requires c κs = omega (arith, c .before .before .before .before .before .before .before .before .before .before .before .before .before .before .before .before .before .before .before .before .before .before .before .before .before .before .before .loop-test .taken)
+
+along-requires : tie.Need-along-requires Inv-loop μ-loop
+along-requires c κs =
+    let S = c .before .before .before .before .before .before .before .before .before .before .before .before .before .before .before .before .before .before .before .before .before .before .before .before .before .before .before .before .before .before .before .before .before .before .before .before .before .before in
+    let L = c .before .before .before .before .before .before .before .before .before .before .before .before .before .before .before .before .before .before .before .before .before .before .before .before .before .before .before .before .before .before .loop in
+    let p = S .pre in
+    let R = turn (c .before .before .before .before .before .before .before .before .before .before .before) (p .description) (p .wired) (p .same-sources) (p .spaced) (p .judged) .0 in
+    (omega (arith, c .before .before .before .before .before .before .before .before .before .before .before .before .before .before .before .before .before .before .before .before .before .before .before .before .before .before .before .before .before .loop-test .taken, c .before .reach .ensures), omega (arith, c .before .reach .ensures, div-mul-le-self (length (S .args .calls .now)) 6), omega (arith, c .before .reach .ensures, c .before .before .before .before .before .before .before .before .before .before .before .before .before .before .before .before .before .before .before .before .before .before .before .before .before .before .before .before .before .before .before .before .before .before .before .if1 .left, L .inv .1, length-set (L .outcomes) (L .i) (c .before .before .before .before .before .before .before .before .before .before .before .code .result)), R .keeps .least, R .keeps .high)
+
+sub-used : tie.Need-sub-used Inv-loop μ-loop
+sub-used c = omega (arith, c .before .before .along .ensures .skips .on)
+
+sub-used-2 : tie.Need-sub-used-2 Inv-loop μ-loop
+sub-used-2 c = omega (arith, c .before .before .along .ensures .skips .on)
+
+cast-used : tie.Need-cast-used Inv-loop μ-loop
+cast-used c = omega (arith, c .before .before .along .ensures .skips .most, c .before .before .before .before .reach .ensures, c .before .before .before .before .before .before .room .ok)
+
+add-used : tie.Need-add-used Inv-loop μ-loop
+add-used c = omega (arith, c .before .before .along .ensures .skips .most, c .before .before .along .ensures .skips .on, c .before .before .before .before .reach .ensures, begun-left (c .before .before .before .before .before .before) (c .before .before .before .before .before .if4 .left), own (c .before .before .before .before .before .before .before .before), c .before .before .before .before .before .before .before .before .before .before .before .before .before .before .before .before .before .before .before .before .before .before .before .before .before .before .before .before .before .before .before .before .before .before .before .before .before .before .before .before .before .pre .wired .formed .fields .run-most (c .before .before .before .before .before .before .before .before .chosen .result) (own (c .before .before .before .before .before .before .before .before) .0) (own (c .before .before .before .before .before .before .before .before) .4))
+
+sub-used-3 : tie.Need-sub-used-3 Inv-loop μ-loop
+sub-used-3 c = omega (arith, own (c .before .before .before .before .before .before .before .before))
+
+mul-used : tie.Need-mul-used Inv-loop μ-loop
+mul-used c = omega (arith, own (c .before .before .before .before .before .before .before .before))
+
+array-write-used : tie.Need-array-write-used Inv-loop μ-loop
+array-write-used c = omega (arith, own (c .before .before .before .before .before .before .before .before))
+
+sub-later-3 : tie.Need-sub-later-3 Inv-loop μ-loop
+sub-later-3 c = omega (arith, c .before .before .along .ensures .skips .on)
+
+sub-later-4 : tie.Need-sub-later-4 Inv-loop μ-loop
+sub-later-4 c = omega (arith, c .before .before .along .ensures .skips .on)
+
+later-requires-2 : tie.Need-later-requires-2 Inv-loop μ-loop
+later-requires-2 c κs = omega (arith, c .before .before .before .before .before .before .before .before .before .before .before .before .before .before .before .before .before .before .before .before .before .before .before .before .before .before .before .before .before .before .before .before .before .before .before .before .before .before .before .before .before, c .before .before .before .before .before .before .before .before .before .before .before .before .before .before .before .advance .ensures .soon, c .before .before .before .before .before .before .before .before .before .before .before .before .before .before .before .before .before .before .before .before .before .before .before .before .before .before .before .before .before .before .before .before .before .loop .inv .2, c .before .before .along .ensures .skips .on, c .before .before .along .ensures .skips .most, c .before .before .before .before .reach .ensures, div-mul-le-self (length (c .before .before .before .before .before .before .before .before .before .before .before .before .before .before .before .before .before .before .before .before .before .before .before .before .before .before .before .before .before .before .before .before .before .before .before .before .before .before .before .before .before .args .calls .now)) 6)
+
+peek-requires-4 : tie.Need-peek-requires-4 Inv-loop μ-loop
+peek-requires-4 c κs = omega (arith, div-mul-le-self (length (c .before .before .before .before .before .before .before .before .before .before .before .before .before .before .before .before .before .before .before .before .before .before .before .before .before .before .before .before .before .before .before .before .before .before .before .before .before .before .before .before .before .before .args .calls .now)) 6)
+
+loop-less-4 : tie.Need-loop-less-4 Inv-loop μ-loop
+loop-less-4 c = omega (arith, c .before .before .before .before .before .before .before .before .before .before .before .before .before .before .before .before .before .before .before .before .before .before .before .before .before .before .before .before .before .before .before .before .before .before .loop-test .taken, c .before .before .before .before .along .ensures .skips .on, c .before .before .before .before .along .ensures .skips .most, c .before .before .before .before .before .before .reach .ensures)
+
+loop-again-4 : tie.Need-loop-again-4 Inv-loop μ-loop
+loop-again-4 c =
+    let S = c .before .before .before .before .before .before .before .before .before .before .before .before .before .before .before .before .before .before .before .before .before .before .before .before .before .before .before .before .before .before .before .before .before .before .before .before .before .before .before .before .before .before .before in
+    let L = c .before .before .before .before .before .before .before .before .before .before .before .before .before .before .before .before .before .before .before .before .before .before .before .before .before .before .before .before .before .before .before .before .before .before .before .loop in
+    let i = L .i in
+    let bytes = S .args .calls .now in
+    let cs = callsIn bytes in
+    let v = c .before .before .before .before .before .before .before .before .before .before .before .before .before .before .before .before .before .advance in
+    let k = c .before .before .before .before .along .ensures .skips in
+    let to = c .before .before .before .before .along .result in
+    let most : to ≤ length bytes / 6 = omega (arith, k .most, c .before .before .before .before .before .before .reach .ensures) in (
+      most,
+      k .sized ∙ (length-set (L .outcomes) i (c .before .before .before .before .before .before .before .before .before .before .before .before .before .before .before .before .code .result) ∙ L .inv .1),
+      omega (arith, ap (λ (x : Words). x .tick) (c .before .later2 .ensures), v .ensures .soon, L .inv .2, k .on),
+      v .ensures .asked,
+      c .peek4 .ensures,
+      λ d r s g j.
+          let h = c .before .before .before .before .before .before .before .before .before .before .chosen .result in
+          let used = v .last .1 .1 .1 .1 .1 .1 .1 .1 .1 .0 in
+          let since = v .last .1 .1 .1 .1 .1 .1 .1 .1 .1 .1 .0 in
+          let fastest = v .last .1 .1 .1 .1 .1 .1 .1 .1 .1 .1 .1 .0 in
+          let made = turn (c .before .before .before .before .before .before .before .before .before .before .before .before .before .before .before .before) d r s g j in
+          let u = runs (c .before .before .before .before .before .before .before .before .before .before) d r s g j in
+          let b = begun-left (c .before .before .before .before .before .before .before .before) (c .before .before .before .before .before .before .before .if4 .left) in
+          let n = passed-along (S .args .p) d (r .formed) j bytes used since fastest (v .result .words) (c .before .before .before .before .before .before .before .before .before .before .before .before .before .before .union .result) h i to (c .before .before .before .before .before .before .before .before .before .before .before .before .before .before .union .ensures) (c .before .before .before .before .before .before .before .before .before .before .chosen .ensures) (u .0) (u .1) (b .0) (omega (arith, b .1, u .3, k .on, k .most, c .before .before .before .before .before .before .reach .ensures)) (k .on) most (k .quiet) (c .before .before .before .before .along .ensures .unfinished) (made .0) in
+          (subst (λ (x : Words). Tracks (S .args .p) d x (set used (h - 1) (getD used (h - 1) 0 + (to - i - 1))) since fastest (left (S .args .p) d (idle d) (take to cs))) (sym (c .before .later2 .ensures)) (n .0), k .stored (page (S .args .p) d cs) (S .args .outcomes .now) (omega (arith, most, codes-length (S .args .p) d cs (idle d), calls-length bytes)) (omega (arith, most, c .before .before .before .before .before .before .before .before .before .before .before .before .before .before .before .before .before .before .before .before .before .before .before .before .before .before .before .before .before .before .before .before .before .before .before .before .before .before .before .before .if1 .left)) (n .1) (made .1)),
     )
 
 raise-requires : tie.Need-raise-requires Inv-loop μ-loop
@@ -240,39 +403,4 @@ returns-2 c = λ d r s g j.
 pub run-wired-spec : {M : Type 1} → statement M
 run-wired-spec =
     tie.close
-    (tie.spec
-    Inv-loop
-    μ-loop
-    blank-machine-requires
-    refused-requires
-    returns
-    begin-requires
-    since-of-requires
-    peek-requires
-    loop-holds
-    add-peek
-    peek-requires-2
-    mask-in-requires
-    tempo-in-requires
-    mul-if2
-    add-if2
-    shared-slice-read-if2
-    advance-requires
-    code-requires
-    slice-write-outcomes
-    union-requires
-    add-i
-    loop-less
-    loop-again
-    add-skip
-    skip-requires
-    sub-later
-    sub-later-2
-    later-requires
-    peek-requires-3
-    loop-less-2
-    loop-again-2
-    raise-requires
-    unpack-requires
-    same-length
-    returns-2)
+    (tie.spec Inv-loop μ-loop blank-machine-requires refused-requires returns begin-requires since-of-requires peek-requires loop-holds add-peek peek-requires-2 mask-in-requires tempo-in-requires mul-if2 add-if2 shared-slice-read-if2 advance-requires code-requires slice-write-outcomes union-requires add-skip skip-requires sub-later sub-later-2 later-requires peek-requires-3 loop-less loop-again add-i loop-less-2 loop-again-2 chosen-requires sub-spent mul-spent array-read-spent sub-room mul-room element-copy-out-room room-requires add-i-2 loop-less-3 loop-again-3 add-along add-reach reach-requires along-requires sub-used sub-used-2 cast-used add-used sub-used-3 mul-used array-write-used sub-later-3 sub-later-4 later-requires-2 peek-requires-4 loop-less-4 loop-again-4 raise-requires unpack-requires same-length returns-2)

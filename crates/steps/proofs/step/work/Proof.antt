@@ -60,7 +60,7 @@ returns-2 c =
     record {
       worked-on = λ d since m g r s e H.
           let spent = single-spent (A .p) d (A .w) (A .used .now) since (A .runs .now) (A .finish) m g s (c .before .before .before .before .before .before .before .pre .going) e H (c .before .before .before .before .before .before .union .result) (c .before .before .before .before .before .before .union .ensures) h (c .before .before .before .before .chosen .ensures) (b .0) (b .1) single in
-          work-over (A .p) d (A .w) (A .used .now) since (A .runs .now) (A .finish) m g s (c .before .before .before .before .before .before .before .pre .going) e H (c .before .before .before .before .before .before .union .result) (c .before .before .before .before .before .before .union .ensures) h (c .before .before .before .before .chosen .ensures) (b .0) (b .1) (c .before .sleep .result) (c .fire .result) (A .used .now) (set-same (A .used .now) (h - 1) (omega (arith, ap length (H .same-used), H .marks .sized .useds, b)) spent) (single-ends (A .p) d (A .w) (A .used .now) since (A .runs .now) (A .finish) m g s (c .before .before .before .before .before .before .before .pre .going) e H (c .before .before .before .before .before .before .union .result) (c .before .before .before .before .before .before .union .ensures) h (c .before .before .before .before .chosen .ensures) (b .0) (b .1) single) (c .before .sleep .ensures .slept d m g r (b .0) (b .1) (spent-is (A .p) d (A .w) (A .used .now) since (A .runs .now) (A .finish) m g s (c .before .before .before .before .before .before .before .pre .going) e H (c .before .before .before .before .before .before .union .result) (c .before .before .before .before .before .before .union .ensures) h (c .before .before .before .before .chosen .ensures) (b .0) (b .1) ∙ spent) (H .marks)) (λ k. c .fire .ensures .fired d k g r) (c .fire .ensures .then ∙ c .before .sleep .ensures .then);
+          work-over (A .p) d (A .w) (A .used .now) since (A .runs .now) (A .finish) m g s (c .before .before .before .before .before .before .before .pre .going) e H (c .before .before .before .before .before .before .union .result) (c .before .before .before .before .before .before .union .ensures) h (c .before .before .before .before .chosen .ensures) (b .0) (b .1) (c .before .sleep .result) (c .fire .result) (A .used .now) (set-same (A .used .now) (h - 1) 0 (omega (arith, ap length (H .same-used), H .marks .sized .useds, b)) spent) (single-ends (A .p) d (A .w) (A .used .now) since (A .runs .now) (A .finish) m g s (c .before .before .before .before .before .before .before .pre .going) e H (c .before .before .before .before .before .before .union .result) (c .before .before .before .before .before .before .union .ensures) h (c .before .before .before .before .chosen .ensures) (b .0) (b .1) single) (c .before .sleep .ensures .slept d m g r (b .0) (b .1) (spent-is (A .p) d (A .w) (A .used .now) since (A .runs .now) (A .finish) m g s (c .before .before .before .before .before .before .before .pre .going) e H (c .before .before .before .before .before .before .union .result) (c .before .before .before .before .before .before .union .ensures) h (c .before .before .before .before .chosen .ensures) (b .0) (b .1) ∙ spent) (H .marks)) (λ k. c .fire .ensures .fired d k g r) (c .fire .ensures .then ∙ c .before .sleep .ensures .then);
       goes = λ z e. subst (λ n. Goes (A .p) n (A .used .now)) (sym (c .fire .ensures .runs ∙ c .before .sleep .ensures .runs)) e;
       then = c .fire .ensures .then ∙ c .before .sleep .ensures .then;
       knob = (c .fire .ensures .knob .0 ∙ c .before .sleep .ensures .knob .0, c .fire .ensures .knob .1 ∙ c .before .sleep .ensures .knob .1);

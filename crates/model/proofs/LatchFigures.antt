@@ -8,7 +8,7 @@ use Rattle.model.specs.declared.Machine.{Machine}
 use Rattle.model.specs.declared.Policy.the-variants.{Preemptive, HoldOn}
 use Rattle.model.specs.Machine.{droppedAt, lateAt}
 use Rattle.model.specs.Figures.{quick, callsWhere, history}
-use Rattle.model.specs.History.{Tick, waitOf}
+use Rattle.model.specs.History.{Tick, servedBefore, waitOf}
 use Rattle.model.specs.LatchFigures.{scan, scanCalls, nested, leftBy, taskMarks, linkMarks, LatchFigures}
 use Rattle.model.proofs.Figures.{computing}
 
@@ -16,7 +16,10 @@ use Rattle.model.proofs.Figures.{computing}
 abbrev asked-waits : List Tick → ℕ × ℕ
 asked-waits h = (waitOf h 1 0, waitOf h 1 1)
 
-waits : asked-waits (history Preemptive (scan 2) (scanCalls 4 1)) ≡ (2, 3)
+abbrev asked-served : List Tick → ℕ × ℕ × Bool × Bool
+asked-served h = (waitOf h 1 0, waitOf h 1 1, servedBefore h 1 1 2, servedBefore h 1 1 4)
+
+waits : asked-served (history Preemptive (scan 2) (scanCalls 4 1)) ≡ (2, 3, false, true)
 unfolding computing
 waits = refl
 
@@ -57,6 +60,8 @@ latch-figures = record {
   reads-later = ap (λ x. x .1) waits;
   hold-reads-first = ap (λ x. x .0) hold-waits;
   hold-reads-later = ap (λ x. x .1) hold-waits;
+  not-served-by-run = ap (λ x. x .2) waits;
+  served-by-next = ap (λ x. x .3) waits;
   delay = refl;
   hold-delay = refl;
   begun-task = ap (λ x. x .0) begun;

@@ -14,7 +14,7 @@ use Rattle.model.specs.Basics.{tab}
 use Rattle.model.specs.Refusals.{ofOutcome}
 use Rattle.model.specs.Verdicts.{verdictAt}
 use Rattle.model.specs.Machine.{awakeAt, usedAt, waitingAt, droppedAt, againAt, lateAt, idle, setAwake, setUsed, setWaiting, setAgain, setLate, againRule, lateRule, judgeTick}
-use Rattle.model.specs.History.{Call, left, waitOf}
+use Rattle.model.specs.History.{Call, left, servedBefore, waitOf}
 use Rattle.model.specs.Figures.{describe, critical, free, quick, upToLength, arriving, callsWhere, history}
 
 -- a task of some run that two sources wake
@@ -53,6 +53,9 @@ pub record LatchFigures : Type 0 where
   pub reads-later : waitOf (history Preemptive (scan 2) (scanCalls 4 1)) 1 1 ≡ 3
   pub hold-reads-first : waitOf (history HoldOn (scan 2) (scanCalls 4 1)) 1 0 ≡ 2
   pub hold-reads-later : waitOf (history HoldOn (scan 2) (scanCalls 4 1)) 1 1 ≡ 3
+  -- so the second's event is not served in tick 1, where the run in progress ends, but in tick 3
+  pub not-served-by-run : servedBefore (history Preemptive (scan 2) (scanCalls 4 1)) 1 1 2 ≡ false
+  pub served-by-next : servedBefore (history Preemptive (scan 2) (scanCalls 4 1)) 1 1 4 ≡ true
   pub delay : verdictAt Preemptive (scan 2) 200 1 ≡ Held 4 10
   pub hold-delay : verdictAt HoldOn (scan 2) 200 1 ≡ Held 4 10
   -- the same with a run of 3 ticks, record by record. The run begins in the tick of its event: nothing is late

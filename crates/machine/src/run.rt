@@ -142,18 +142,18 @@ fn along(calls: &[u8], from: usize, to: usize, peak: u32, outcomes: &mut [u8]) -
     requires { ⌜ (from ≤ to) × (6 * to ≤ length (now calls)) × (to ≤ length (now outcomes)) × (200 ≤ peak) × (peak ≤ 3000) ⌝ }
     ensures { λ r. ⌜ RunsAlong (now (calls .entry)) from to peak (now (outcomes .entry)) r (now (outcomes .exit)) ⌝ }
 {
-    let mut i = from;
-    while i < to {
-        if !quiet_at(calls, 6 * i, peak) {
-            return i;
+    let mut k = from;
+    while k < to {
+        if !quiet_at(calls, 6 * k, peak) {
+            return k;
         }
-        if calls[6 * i + 4] != 0 {
-            return i;
+        if calls[6 * k + 4] != 0 {
+            return k;
         }
-        outcomes[i] = 0;
-        i += 1;
+        outcomes[k] = 0;
+        k += 1;
     }
-    i
+    k
 }
 
 // The words so many ticks later, in which nothing happened.

@@ -30,10 +30,10 @@ more-last calls from i q h k a b (same r) = rw r h
 more-last calls from i q h k a b (more r) = absurd (omega arith)
 
 abbrev Inv-loop : tie.InvT-loop
-Inv-loop calls from to peak outcomes₀ i₀ outcomes i = RunsAlong calls from to peak outcomes₀ i outcomes
+Inv-loop calls from to peak outcomes₀ k₀ outcomes k = RunsAlong calls from to peak outcomes₀ k outcomes
 
 abbrev μ-loop : tie.MeasureT-loop
-μ-loop calls from to peak outcomes₀ i₀ outcomes i = to - i
+μ-loop calls from to peak outcomes₀ k₀ outcomes k = to - k
 
 loop-holds : tie.Need-loop-holds Inv-loop μ-loop
 loop-holds c = record {
@@ -62,8 +62,8 @@ returns c = c .before .before .before .loop .inv
 slice-write-outcomes : tie.Need-slice-write-outcomes Inv-loop μ-loop
 slice-write-outcomes c = omega (arith, c .before .before .before .before .before .before .before .before .pre .2, c .before .before .before .before .loop-test .taken, c .before .before .before .before .before .loop .inv .skips .sized)
 
-add-i : tie.Need-add-i Inv-loop μ-loop
-add-i c = omega (arith, c .before .before .before .before .before .before .before .before .pre .1, c .before .before .before .before .loop-test .taken, c .before .before .before .before .before .before .before .before)
+add-k : tie.Need-add-k Inv-loop μ-loop
+add-k c = omega (arith, c .before .before .before .before .before .before .before .before .pre .1, c .before .before .before .before .loop-test .taken, c .before .before .before .before .before .before .before .before)
 
 loop-less : tie.Need-loop-less Inv-loop μ-loop
 loop-less c = omega (arith, c .before .before .before .before .loop-test .taken)
@@ -72,7 +72,7 @@ loop-again : tie.Need-loop-again Inv-loop μ-loop
 loop-again c =
     let A = c .before .before .before .before .before .before .before .before .args in
     let L = c .before .before .before .before .before .loop in
-    let i = L .i in
+    let i = L .k in
     let t = numberIn (A .calls .now) (6 * i + 2) 2 in
     let both : (eqb (numberIn (A .calls .now) (6 * i) 2) 0 && (leb t (A .peak) && leb 200 t)) ≡ true = sym (c .before .before .before .quiet-at .ensures) ∙ not-false _ (c .before .before .if1 .left) in
     let on : (leb t (A .peak) && leb 200 t) ≡ true = and-right (eqb (numberIn (A .calls .now) (6 * i) 2) 0) _ both in
@@ -113,4 +113,4 @@ returns-3 c = c .before .loop .inv
 pub along-spec : {M : Type 1} → statement M
 along-spec =
     tie.close
-    (tie.spec Inv-loop μ-loop loop-holds mul-quiet-at quiet-at-requires same-length returns mul-if2 add-if2 shared-slice-read-if2 same-length-2 returns-2 slice-write-outcomes add-i loop-less loop-again same-length-3 returns-3)
+    (tie.spec Inv-loop μ-loop loop-holds mul-quiet-at quiet-at-requires same-length returns mul-if2 add-if2 shared-slice-read-if2 same-length-2 returns-2 slice-write-outcomes add-k loop-less loop-again same-length-3 returns-3)

@@ -20,7 +20,7 @@
  * No call allocates, keeps a pointer, reads or writes anything but its arguments, or fails otherwise than by its number. There is
  * no state outside the arguments, so calls may run at once in several threads and in a handler that interrupts another call.
  *
- * Stack: the most that was seen is 160,720 bytes in bench_report, 144,608 in bench_quote and 27,552 in bench_run, the same on both
+ * Stack: the most that was seen is 160,720 bytes in bench_report, 144,608 in bench_quote and 27,936 in bench_run, the same on both
  * models, on a thread whose stack was filled with a pattern beforehand: over the samples, where a level that takes more than 256
  * rounds needs a table of 131,072 bytes. No recursion is deeper than the file has tasks. Allow 256 KB.
  *

@@ -8,7 +8,8 @@ use lib.ListN.{length, length-set}
 use lib.Dec.{eqb, leb}
 use borrow.Author.Tests.{eqb-true, leb-true, not-false}
 use Rattle.model.specs.Field.{numberIn}
-use Rattle.lemmas.proofs.Tests.{Cmp, less, same, more, cmp, and-left, and-right}
+use Rattle.lemmas.proofs.Tests.{and-left, and-right}
+use Rattle.lemmas.proofs.Table.{under}
 use Rattle.machine.specs.Run.{Skips}
 use Rattle.machine.proofs.RunLaws.{store-turn}
 use borrow.Author.Needs.{needs}
@@ -18,11 +19,6 @@ use Rattle.machine.proofs.run.skip.Tie as tie
 -- a call that is passed
 abbrev Quiet : List ℕ → ℕ → ℕ → Type 0
 Quiet calls peak k = (numberIn calls (6 * k) 2 ≡ 0) × (200 ≤ numberIn calls (6 * k + 2) 2) × (numberIn calls (6 * k + 2) 2 ≤ peak)
-
-more-quiet : (calls : List ℕ) (from peak i : ℕ) → ((k : ℕ) → from ≤ k → k < i → Quiet calls peak k) → Quiet calls peak i → (k : ℕ) → from ≤ k → k < i + 1 → Cmp k i → Quiet calls peak k
-more-quiet calls from peak i q h k a b (less r) = q k a r
-more-quiet calls from peak i q h k a b (same r) = rw r h
-more-quiet calls from peak i q h k a b (more r) = absurd (omega arith)
 
 abbrev Inv-loop : tie.InvT-loop
 Inv-loop calls from n peak outcomes₀ i₀ outcomes i = Skips calls from n peak outcomes₀ i outcomes
@@ -73,7 +69,7 @@ loop-again c =
       on = omega (arith, L .inv .on);
       most = omega (arith, c .before .before .loop-test .taken);
       sized = length-set (L .outcomes) i 0 ∙ L .inv .sized;
-      quiet = λ k a b. more-quiet (A .calls .now) (A .from) (A .peak) i (L .inv .quiet) here k a b (cmp k i);
+      quiet = λ k a b. under (λ x. A .from ≤ x → Quiet (A .calls .now) (A .peak) x) i (λ x y z. L .inv .quiet x z y) (λ z. here) k b a;
       stored = λ text out a b f e. store-turn out (L .outcomes) text i 0 (omega arith) (omega arith) (L .inv .stored text out (omega arith) (omega arith) (λ k x y. f k x (omega arith)) e) (sym (f i (L .inv .on) (omega arith)));
     }
 

@@ -19,11 +19,11 @@ use Rattle.model.specs.Basics.{allN}
 use Rattle.model.specs.Graph.{system, linkAt, linked, runOf}
 use Rattle.model.specs.Delays.{spacingOf}
 use Rattle.model.specs.Verdicts.{onKnob, judgeAt}
-use Rattle.model.specs.Machine.{awakeAt, usedAt, waitingAt, droppedAt, ageAt, fastestAt, againAt, lateAt, longestGap, idle, arrive, taskRule, linkRule, sourceRule, againRule, lateRule, rulesKept, partsDone, aloneRule, lawful, keptAfter, strangers, tooSoon, judgeTick}
+use Rattle.model.specs.Machine.{awakeAt, usedAt, waitingAt, droppedAt, ageAt, fastestAt, againAt, lateAt, longestGap, idle, arrive, taskRule, linkRule, sourceRule, againRule, lateRule, absentRule, linksRule, rulesKept, partsDone, aloneRule, lawful, keptAfter, strangers, tooSoon, judgeTick}
 use Rattle.model.specs.History.{Call, left}
 use Rattle.lemmas.proofs.Tests.{Cmp, less, same, more, cmp, not-both, false-of, and-right, both, or-left, or-right, or-false}
 use Rattle.lemmas.proofs.Range.{any-none, none-any, all-of, at-most-one}
-use Rattle.lemmas.proofs.Table.{getD-tab, getD-same}
+use Rattle.lemmas.proofs.Table.{getD-tab, getD-same, unset-of}
 use Rattle.theory.proofs.WellFormed.{WellFormed, Loaded, Shaped}
 use Rattle.theory.proofs.Fielded.{shaped}
 use Rattle.theory.proofs.FileLaws.{knob-known}
@@ -224,18 +224,12 @@ module _ (pol : Policy) (d : Description) (wf : WellFormed d) (L : Loaded (syste
         go true e = rw e (here (leb-true k (d .«task_count») e))
         go false e = rw e (absent (leb-false k (d .«task_count») e))
 
-    link-kept : (x l : ℕ) → linkRule d (st x) l ≡ true
-    link-kept x l = go (ltb l (d .«link_count»)) refl
+    link-kept : (x l : ℕ) → l < d .«link_count» → linkRule d (st x) l ≡ true
+    link-kept x l p = here (waitingAt (st x) l) refl
       where
-        here : l < d .«link_count» → (b : Bool) → waitingAt (st x) l ≡ b → (not (waitingAt (st x) l) || awakeAt (st x) (linkAt d l .to)) ≡ true
-        here p true e = or-right (not (waitingAt (st x) l)) _ (waiting-awake l p x e)
-        here p false e = rw e refl
-
-        go : (b : Bool) → ltb l (d .«link_count») ≡ b → linkRule d (st x) l ≡ true
-        go true e = rw e (here (ltb-true l (d .«link_count») e) (waitingAt (st x) l) refl)
-        go false e =
-            let c = absent-clear l (ltb-false l (d .«link_count») e) x in
-            rw e (both (not (waitingAt (st x) l)) (not (droppedAt (st x) l)) (rw (c .0) refl) (rw (c .1) refl))
+        here : (b : Bool) → waitingAt (st x) l ≡ b → linkRule d (st x) l ≡ true
+        here true e = or-right (not (waitingAt (st x) l)) _ (waiting-awake l p x e)
+        here false e = rw e refl
 
     source-kept : (x u : ℕ) → u < 16 → sourceRule d (st x) u ≡ true
     source-kept x u q = go (ltb u (d .«source_count»)) refl
@@ -261,23 +255,26 @@ module _ (pol : Policy) (d : Description) (wf : WellFormed d) (L : Loaded (syste
             or-right (not (againAt (st x) k)) _ (lt-ltb 0 (usedAt (st x) k) (at-again pol d wf ks x k o e))
         go false e = rw e refl
 
-    late-kept : (x l : ℕ) → lateRule d (st x) l ≡ true
-    late-kept x l = go (lateAt (st x) l) refl (ltb l (d .«link_count»)) refl
+    late-kept : (x l : ℕ) → l < d .«link_count» → lateRule d (st x) l ≡ true
+    late-kept x l p = go (lateAt (st x) l) refl
       where
-        go : (b : Bool) → lateAt (st x) l ≡ b → (c : Bool) → ltb l (d .«link_count») ≡ c → lateRule d (st x) l ≡ true
-        go false e c f = rw e refl
-        go true e true f =
-            let p : l < d .«link_count» = ltb-true l (d .«link_count») f in
-            or-right (not (lateAt (st x) l)) _ (both (ltb l (d .«link_count»)) _ f (both (waitingAt (st x) l) _ (late-waiting l p x e) (late-again l p x e)))
-        go true e false f = absurd (not-both e (absent-clear l (ltb-false l (d .«link_count») f) x .2))
+        go : (b : Bool) → lateAt (st x) l ≡ b → lateRule d (st x) l ≡ true
+        go false e = rw e refl
+        go true e =
+            or-right (not (lateAt (st x) l)) _ (both (waitingAt (st x) l) _ (late-waiting l p x e) (late-again l p x e))
+
+    absent-kept : (x : ℕ) → (absentRule d (st x .waiting) ≡ true) × (absentRule d (st x .dropped) ≡ true) × (absentRule d (st x .late) ≡ true)
+    absent-kept x =
+        (unset-of (d .«link_count») _ (λ l p. absent-clear l p x .0), unset-of (d .«link_count») _ (λ l p. absent-clear l p x .1), unset-of (d .«link_count») _ (λ l p. absent-clear l p x .2))
 
     kept-at : (x : ℕ) → rulesKept d (st x) ≡ true
     unfolding rulesKept
     kept-at x =
         both (allN (taskRule d (st x)) 1 32) _ (all-of _ 1 32 (λ k a b. task-kept x k a))
-        (both (allN (linkRule d (st x)) 0 256) _ (all-of _ 0 256 (λ l a b. link-kept x l))
+        (both (linksRule d (st x)) _ (both (allN (linkRule d (st x)) 0 (d .«link_count»)) _ (all-of _ 0 (d .«link_count») (λ l a b. link-kept x l (omega arith))) (both (absentRule d (st x .waiting)) _ (absent-kept x .0) (absent-kept x .1)))
         (both (allN (sourceRule d (st x)) 0 16) _ (all-of _ 0 16 (λ u a b. source-kept x u b))
-        (both (allN (againRule (st x)) 1 32) _ (all-of _ 1 32 (λ k a b. again-kept x k a)) (all-of _ 0 256 (λ l a b. late-kept x l)))))
+        (both (allN (againRule (st x)) 1 32) _ (all-of _ 1 32 (λ k a b. again-kept x k a))
+        (both (allN (lateRule d (st x)) 0 (d .«link_count»)) _ (all-of _ 0 (d .«link_count») (λ l a b. late-kept x l (omega arith))) (absent-kept x .2)))))
 
     -- on the hold-on model at most one task is part done
     part-here : (x k : ℕ) → 1 ≤ k → ltb 0 (usedAt (st x) k) ≡ true → (k ≤ d .«task_count») × (0 < usedAt (st x) k)

@@ -23,7 +23,7 @@ use Rattle.model.specs.Graph.{linkAt, runOf}
 use Rattle.model.specs.Refusals.{onDone}
 use Rattle.model.specs.File.{SameTo, Widths, filledBy, judge}
 use Rattle.model.specs.Verdicts.{onKnob, judgeAt}
-use Rattle.model.specs.Machine.{awakeAt, usedAt, waitingAt, ageAt, fastestAt, againAt, lateAt, setAwake, setWaiting, setAge, setAgain, setLate, markDropped, complete, idle, unstarted, started, taskRule, linkRule, sourceRule, lateRule, rulesKept, lawful, fireLink, fire, arriveOne, arrive, highestIn, choose, runTask, clearLink, clearInto, endRun, ageOne, ageAll, keep, stepped, strangers, tooSoon, judgeTick, plainTick}
+use Rattle.model.specs.Machine.{awakeAt, usedAt, waitingAt, ageAt, fastestAt, againAt, lateAt, setAwake, setWaiting, setAge, setAgain, setLate, markDropped, complete, idle, unstarted, started, taskRule, absentRule, linksRule, sourceRule, latesRule, rulesKept, lawful, fireLink, fire, arriveOne, arrive, highestIn, choose, runTask, clearLink, clearInto, endRun, ageOne, ageAll, keep, stepped, strangers, tooSoon, judgeTick, plainTick}
 use Rattle.model.specs.History.{Call, plainCall, answers, left}
 use Rattle.model.specs.Run.{codes, page, ranFrom, ran, pageRan}
 use Rattle.lemmas.proofs.Range.{any-cong, all-cong, upTo-alike}
@@ -61,11 +61,9 @@ module _ (d e : Description) (s : SameTo d e) where
           (λ b. ap (λ (r : ℕ). ltb (usedAt m k) r && (awakeAt m k || eqb (usedAt m k) 0)) (same-run d e s k (omega (arith, leb-true k (d .«task_count») b))))
           (λ b. refl))
 
-      links : allN (linkRule d m) 0 256 ≡ allN (linkRule e m) 0 256
-      links = all-cong _ _ 0 256 (λ l p q.
-          cond-same (ltb l (d .«link_count»)) (ltb l (e .«link_count»)) _ _ _ _ (ap (ltb l) (s .links))
-          (λ b. ap (λ (x : Link). not (waitingAt m l) || awakeAt m (x .to)) (s .link l (ltb-true l (d .«link_count») b)))
-          (λ b. refl))
+      links : linksRule d m ≡ linksRule e m
+      links = rw (← s .links) (ap (λ b. b && (absentRule d (m .waiting) && absentRule d (m .dropped)))
+          (all-cong _ _ 0 (d .«link_count») (λ l p q. ap (λ (x : Link). not (waitingAt m l) || awakeAt m (x .to)) (s .link l (omega arith)))))
 
       sources : allN (sourceRule d m) 0 16 ≡ allN (sourceRule e m) 0 16
       sources = all-cong _ _ 0 16 (λ u p q.
@@ -73,15 +71,9 @@ module _ (d e : Description) (s : SameTo d e) where
           (λ b. ap (λ (g : ℕ). leb (ageAt m u) g && cond (eqb (fastestAt m u) 0) (eqb (ageAt m u) g) (onKnob (fastestAt m u))) (gap-same 200 u b))
           (λ b. refl))
 
-      lates : allN (lateRule d m) 0 256 ≡ allN (lateRule e m) 0 256
-      lates = all-cong _ _ 0 256 (λ l p q. ap (λ (b : Bool). not (lateAt m l) || b) (here l))
-        where
-          here : (l : ℕ) → (ltb l (d .«link_count») && (waitingAt m l && againAt m (linkAt d l .to))) ≡ (ltb l (e .«link_count») && (waitingAt m l && againAt m (linkAt e l .to)))
-          here l = go (ltb l (d .«link_count»)) refl
-            where
-              go : (b : Bool) → ltb l (d .«link_count») ≡ b → (ltb l (d .«link_count») && (waitingAt m l && againAt m (linkAt d l .to))) ≡ (ltb l (e .«link_count») && (waitingAt m l && againAt m (linkAt e l .to)))
-              go true b = rw (← s .links, b) (ap (λ (x : Link). waitingAt m l && againAt m (x .to)) (s .link l (ltb-true l (d .«link_count») b)))
-              go false b = rw (← s .links, b) refl
+      lates : latesRule d m ≡ latesRule e m
+      lates = rw (← s .links) (ap (λ b. b && absentRule d (m .late))
+          (all-cong _ _ 0 (d .«link_count») (λ l p q. ap (λ (x : Link). not (lateAt m l) || (waitingAt m l && againAt m (x .to))) (s .link l (omega arith)))))
 
   -- the refusals of a tick
   same-strangers : (marks : List Bool) → strangers d marks ≡ strangers e marks

@@ -7,11 +7,11 @@ use native.Mathlib.Omega.{arith}
 use native.Mathlib.Numerals.{add-one}
 use lib.ListN.{length, getD, set, take, drop, replicate, length-append, length-replicate, getD-replicate, List·getD-append, List·getD-eq-default}
 use lib.Seq.{ext-getD, getD-at, getD-set-same, getD-set-other}
-use Rattle.model.specs.Basics.{tab, joined}
-use Rattle.lemmas.proofs.Tests.{Cmp, less, same, more, cmp}
-use mathlib.Core.Bool.{Bool, true, false, cond}
+use Rattle.model.specs.Basics.{unset, tab, joined}
+use Rattle.lemmas.proofs.Tests.{Cmp, less, same, more, cmp, and-left, and-right, both}
+use mathlib.Core.Bool.{Bool, true, false, not, cond}
 use lib.Dec.{eqb}
-use borrow.Author.Tests.{eqb-true, eqb-false}
+use borrow.Author.Tests.{eqb-true, eqb-false, not-true}
 
 pub length-tab : {A : Type 0} (n : ℕ) (f : ℕ → A) → length (tab n f) ≡ n
 unfolding tab
@@ -106,3 +106,28 @@ pub set-twice : {A : Type 0} (l : List A) (i : ℕ) (a b : A) → set (set l i a
 set-twice [] i a b = refl
 set-twice (x ∷ l) zero a b = refl
 set-twice {A} (x ∷ l) (suc i) a b = ap (λ (k : List A). x ∷ k) (set-twice l i a b)
+
+-- marks that are unset from a place on, place by place
+all-unset : (bs : List Bool) → ((k : ℕ) → getD bs k false ≡ false) → unset bs ≡ true
+unfolding unset
+all-unset [] h = refl
+all-unset (b ∷ bs) h = both (not b) (unset bs) (ap not (h 0)) (all-unset bs (λ k. h (suc k)))
+
+pub unset-of : (n : ℕ) (bs : List Bool) → ((k : ℕ) → n ≤ k → getD bs k false ≡ false) → unset (drop n bs) ≡ true
+unfolding unset
+unset-of zero bs h = all-unset bs (λ k. h k (omega arith))
+unset-of (suc n) [] h = refl
+unset-of (suc n) (b ∷ bs) h = unset-of n bs (λ k p. h (suc k) (omega arith))
+
+none-set : (bs : List Bool) → unset bs ≡ true → (k : ℕ) → getD bs k false ≡ false
+unfolding unset
+none-set [] e k = refl
+none-set (b ∷ bs) e zero = not-true b (and-left (not b) (unset bs) e)
+none-set (b ∷ bs) e (suc k) = none-set bs (and-right (not b) (unset bs) e) k
+
+pub unset-at : (n : ℕ) (bs : List Bool) → unset (drop n bs) ≡ true → (k : ℕ) → n ≤ k → getD bs k false ≡ false
+unfolding unset
+unset-at zero bs e k p = none-set bs e k
+unset-at (suc n) [] e k p = refl
+unset-at (suc n) (b ∷ bs) e zero p = absurd (omega arith)
+unset-at (suc n) (b ∷ bs) e (suc k) p = unset-at n bs e k (omega arith)

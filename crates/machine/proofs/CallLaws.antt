@@ -25,7 +25,7 @@ use Rattle.model.specs.Graph.{runOf}
 use Rattle.model.specs.Delays.{spacingOf}
 use Rattle.model.specs.File.{judge}
 use Rattle.model.specs.Verdicts.{onKnob, judgeAt}
-use Rattle.model.specs.Machine.{awakeAt, usedAt, ageAt, fastestAt, longestGap, taskRule, linkRule, sourceRule, rulesKept, aloneRule, lawful, arrive, choose, ageAll, keptAfter, keep, stepped, strangers, tooSoon, judgeTick, plainTick}
+use Rattle.model.specs.Machine.{awakeAt, usedAt, ageAt, fastestAt, longestGap, taskRule, linksRule, sourceRule, rulesKept, aloneRule, lawful, arrive, choose, ageAll, keptAfter, keep, stepped, strangers, tooSoon, judgeTick, plainTick}
 use Rattle.model.specs.Run.{heard, marksIn}
 use Rattle.lemmas.proofs.Tests.{not-both, true-of, false-of, both, or-left, or-else, and-left, and-right, and-false-left, and-false-right, within}
 use Rattle.lemmas.proofs.Range.{all-at, any-at, any-none, none-any}
@@ -104,7 +104,7 @@ raised-twice s t (suc n) =
 source-rule : (d : Description) (m : Machine) → WellFormed d → rulesKept d m ≡ true → (u : ℕ) → u < d .«source_count» → (leb (ageAt m u) (longestGap d u) && cond (eqb (fastestAt m u) 0) (eqb (ageAt m u) (longestGap d u)) (onKnob (fastestAt m u))) ≡ true
 unfolding rulesKept
 source-rule d m g e u p =
-    let r : sourceRule d m u ≡ true = all-at (sourceRule d m) 0 16 (and-left (allN (sourceRule d m) 0 16) _ (and-right (allN (linkRule d m) 0 256) _ (and-right (allN (taskRule d m) 1 32) _ e))) u (omega arith) (omega (arith, g .fields .few-sources)) in
+    let r : sourceRule d m u ≡ true = all-at (sourceRule d m) 0 16 (and-left (allN (sourceRule d m) 0 16) _ (and-right (linksRule d m) _ (and-right (allN (taskRule d m) 1 32) _ e))) u (omega arith) (omega (arith, g .fields .few-sources)) in
     rw (lt-ltb u (d .«source_count») p) at r
 
 -- so that a kept tempo is 0 or at least 200
@@ -113,7 +113,7 @@ unfolding rulesKept
 kept-rule d m g e u p = go (ltb u (d .«source_count»)) refl (eqb (fastestAt m u) 0) refl
   where
     rule : sourceRule d m u ≡ true
-    rule = all-at (sourceRule d m) 0 16 (and-left (allN (sourceRule d m) 0 16) _ (and-right (allN (linkRule d m) 0 256) _ (and-right (allN (taskRule d m) 1 32) _ e))) u (omega arith) (omega arith)
+    rule = all-at (sourceRule d m) 0 16 (and-left (allN (sourceRule d m) 0 16) _ (and-right (linksRule d m) _ (and-right (allN (taskRule d m) 1 32) _ e))) u (omega arith) (omega arith)
 
     go : (a : Bool) → ltb u (d .«source_count») ≡ a → (b : Bool) → eqb (fastestAt m u) 0 ≡ b → (fastestAt m u ≡ 0) ⊎ (200 ≤ fastestAt m u)
     go a x true y = inl (eqb-true (fastestAt m u) 0 y)

@@ -81,4 +81,7 @@ latch-figures = record {
   rule-late-not-again = refl;
   rule-late-not-waiting = refl;
   rule-late-absent = refl;
+  rule-waiting-absent = refl;
+  rule-dropped-absent = refl;
+  rule-dropped = refl;
 }

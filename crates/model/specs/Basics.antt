@@ -1,6 +1,6 @@
 -- Ranges: sums, largest values, tests, repeated steps and tables over a range of numbers. Nothing here is about firmware.
 use Prim.Native.Nat.{ℕ, zero, suc, _+_, _-_, max}
-use mathlib.Core.Bool.{Bool, true, false, _&&_, _||_}
+use mathlib.Core.Bool.{Bool, true, false, _&&_, _||_, not}
 use mathlib.Core.List.{List, [], _∷_, _++_}
 
 -- f a + f (a + 1) + .. , n terms
@@ -29,6 +29,11 @@ anyN p a (suc n) = anyN p a n || p (a + n)
 unfoldable pub allN : (ℕ → Bool) → ℕ → ℕ → Bool
 allN p a zero = true
 allN p a (suc n) = allN p a n && p (a + n)
+
+-- whether no mark of a list is set
+unfoldable pub unset : List Bool → Bool
+unset [] = true
+unset (b ∷ bs) = not b && unset bs
 
 -- a value where a test passes, 0 where it fails
 abbrev pub given : Bool → ℕ → ℕ

@@ -13,7 +13,7 @@ use Rattle.model.specs.declared.Verdict.the-variants.{Held}
 use Rattle.model.specs.Basics.{tab}
 use Rattle.model.specs.Refusals.{ofOutcome}
 use Rattle.model.specs.Verdicts.{verdictAt}
-use Rattle.model.specs.Machine.{awakeAt, usedAt, waitingAt, droppedAt, againAt, lateAt, idle, setAwake, setUsed, setWaiting, setAgain, setLate, againRule, lateRule, judgeTick}
+use Rattle.model.specs.Machine.{awakeAt, usedAt, waitingAt, droppedAt, againAt, lateAt, idle, setAwake, setUsed, setWaiting, setDropped, setAgain, setLate, againRule, judgeTick}
 use Rattle.model.specs.History.{Call, left, servedBefore, waitOf}
 use Rattle.model.specs.Figures.{describe, critical, free, quick, upToLength, arriving, callsWhere, history}
 
@@ -81,4 +81,8 @@ pub record LatchFigures : Type 0 where
   pub rule-late : refusedAs (setLate 0 true (setAgain 1 true partDone)) ≡ 0
   pub rule-late-not-again : refusedAs (setLate 0 true partDone) ≡ 16
   pub rule-late-not-waiting : refusedAs (setLate 1 true (setAgain 1 true partDone)) ≡ 16
-  pub rule-late-absent : lateRule (scan 3) (setLate 2 true (setWaiting 2 true (setAgain 1 true partDone))) 2 ≡ false
+  pub rule-late-absent : refusedAs (setLate 2 true partDone) ≡ 16
+  -- "nothing is set for absent nodes or links"
+  pub rule-waiting-absent : refusedAs (setWaiting 2 true partDone) ≡ 16
+  pub rule-dropped-absent : refusedAs (setDropped 2 true partDone) ≡ 16
+  pub rule-dropped : refusedAs (setDropped 1 true partDone) ≡ 0

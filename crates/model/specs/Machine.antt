@@ -3,7 +3,7 @@
 use Prim.Native.Nat.{ℕ, zero, suc, _+_, _-_, min, max}
 use mathlib.Core.Bool.{Bool, true, false, _||_, _&&_, not, cond}
 use mathlib.Core.List.{List}
-use lib.ListN.{getD, set, replicate}
+use lib.ListN.{getD, set, drop, replicate}
 use lib.Dec.{ltb, leb, eqb}
 use Rattle.model.specs.declared.Description.{Description}
 use Rattle.model.specs.declared.Machine.{Machine}
@@ -15,7 +15,7 @@ use Rattle.model.specs.declared.Refusal.{Refusal}
 use Rattle.model.specs.declared.Refusal.the-variants.{TooSoon, Stranger, ForeignState}
 use Rattle.model.specs.declared.Policy.{Policy}
 use Rattle.model.specs.declared.Policy.the-variants.{Preemptive, HoldOn}
-use Rattle.model.specs.Basics.{sumN, upTo, tab, allN, anyN, given}
+use Rattle.model.specs.Basics.{sumN, upTo, tab, allN, anyN, unset, given}
 use Rattle.model.specs.Refusals.{onDone}
 use Rattle.model.specs.File.{judge}
 use Rattle.model.specs.Graph.{linkAt, runOf}
@@ -110,9 +110,7 @@ taskRule d m k = cond (leb k (d .«task_count»))
     (not (awakeAt m k) && eqb (usedAt m k) 0)
 
 abbrev pub linkRule : Description → Machine → ℕ → Bool
-linkRule d m l = cond (ltb l (d .«link_count»))
-    (not (waitingAt m l) || awakeAt m (linkAt d l .to))
-    (not (waitingAt m l) && not (droppedAt m l))
+linkRule d m l = not (waitingAt m l) || awakeAt m (linkAt d l .to)
 
 abbrev pub sourceRule : Description → Machine → ℕ → Bool
 sourceRule d m u = cond (ltb u (d .«source_count»))
@@ -124,11 +122,22 @@ abbrev pub againRule : Machine → ℕ → Bool
 againRule m k = not (againAt m k) || ltb 0 (usedAt m k)
 
 abbrev pub lateRule : Description → Machine → ℕ → Bool
-lateRule d m l = not (lateAt m l) || (ltb l (d .«link_count») && (waitingAt m l && againAt m (linkAt d l .to)))
+lateRule d m l = not (lateAt m l) || (waitingAt m l && againAt m (linkAt d l .to))
+
+-- "nothing is set for absent .. links": the marks from the link count on
+abbrev pub absentRule : Description → List Bool → Bool
+absentRule d marks = unset (drop (d .«link_count») marks)
+
+-- of the marks of links: waiting and dropped, and late
+abbrev pub linksRule : Description → Machine → Bool
+linksRule d m = allN (linkRule d m) 0 (d .«link_count») && (absentRule d (m .waiting) && absentRule d (m .dropped))
+
+abbrev pub latesRule : Description → Machine → Bool
+latesRule d m = allN (lateRule d m) 0 (d .«link_count») && absentRule d (m .late)
 
 -- these are the rules of both models
 unfoldable pub rulesKept : Description → Machine → Bool
-rulesKept d m = allN (taskRule d m) 1 32 && (allN (linkRule d m) 0 256 && (allN (sourceRule d m) 0 16 && (allN (againRule m) 1 32 && allN (lateRule d m) 0 256)))
+rulesKept d m = allN (taskRule d m) 1 32 && (linksRule d m && (allN (sourceRule d m) 0 16 && (allN (againRule m) 1 32 && latesRule d m)))
 
 -- how many tasks are part done; on the hold-on model "the task that runs is the one whose used is above 0, and the state rule allows only one such"
 unfoldable pub partsDone : Machine → ℕ

@@ -5,22 +5,22 @@ use mathlib.Core.Bool.{Bool, true, false, _||_, _&&_, not, cond}
 use mathlib.Core.List.{List}
 use native.Mathlib.Omega.{arith}
 use native.Mathlib.Numerals.{add-one}
-use lib.ListN.{getD}
+use lib.ListN.{length, getD, drop}
 use lib.Dec.{ltb, leb, eqb}
 use borrow.Author.Tests.{ltb-true, leb-true, le-leb, lt-ltb}
 use Rattle.model.specs.declared.Description.{Description}
 use Rattle.model.specs.declared.Machine.{Machine}
-use Rattle.model.specs.Basics.{sumN, allN, given}
+use Rattle.model.specs.Basics.{sumN, allN, unset, given}
 use Rattle.model.specs.Graph.{linkAt}
 use Rattle.model.specs.Verdicts.{onKnob}
-use Rattle.model.specs.Machine.{longestGap, taskRule, linkRule, sourceRule, againRule, lateRule}
+use Rattle.model.specs.Machine.{longestGap, taskRule, linkRule, sourceRule, againRule, lateRule, absentRule}
 use Rattle.lemmas.proofs.Tests.{same-test, false-of, not-both, both, and-false-left}
 use Rattle.lemmas.proofs.Range.{all-at}
 use Rattle.theory.proofs.Links.{to-most}
 use Rattle.wiring.specs.declared.Wiring.{Wiring}
 use Rattle.wiring.specs.Rows.{WiringOf}
 use Rattle.spacings.specs.Gaps.{GapsOf}
-use Rattle.rules.specs.Rules.{EntersOf, Enters, LateLawful}
+use Rattle.rules.specs.Rules.{EntersOf, Enters, EntersAt, LinkLawful, LateLawful}
 
 -- tests over a range as a loop goes through them
 pub all-none : (p : ℕ → Bool) (a : ℕ) → allN p a 0 ≡ true
@@ -43,12 +43,20 @@ task-is d m runs us aw tasks k r p q a u e =
     rw (e, ← a, ← u, p, q, s, f) refl
 
 -- a link's rule
-pub link-is : (d : Description) (m : Machine) (to : List ℕ) (aw wa dr : List Bool) (n l : ℕ) (y r : Bool) → EntersOf d to n → m .awake ≡ aw → m .waiting ≡ wa → m .dropped ≡ dr → (l < n → y ≡ getD aw (linkAt d l .to - 1) false) → r ≡ cond (ltb l n) (not (getD wa l false) || y) (not (getD wa l false) && not (getD dr l false)) → linkRule d m l ≡ r
-link-is d m to aw wa dr n l y r p a w x q e = rw (e, ← w, ← x, p .many) (go (ltb l n) refl)
-  where
-    go : (b : Bool) → ltb l n ≡ b → cond (ltb l n) (not (getD (m .waiting) l false) || getD (m .awake) (linkAt d l .to - 1) false) (not (getD (m .waiting) l false) && not (getD (m .dropped) l false)) ≡ cond (ltb l n) (not (getD (m .waiting) l false) || y) (not (getD (m .waiting) l false) && not (getD (m .dropped) l false))
-    go true f = rw (f, q (ltb-true l n f), ← a) refl
-    go false f = rw f refl
+pub enters-at : {to : List ℕ} {n : ℕ} → Enters to n → (l : ℕ) → l < n → EntersAt to l
+enters-at e l p = record { place = omega (arith, e .few); some = e .some l p; most = e .most l p }
+
+pub link-is : (d : Description) (m : Machine) (to : List ℕ) (aw wa : List Bool) (n l : ℕ) (r : Bool) → EntersOf d to n → m .awake ≡ aw → m .waiting ≡ wa → l < n → LinkLawful to aw wa l r → linkRule d m l ≡ r
+link-is d m to aw wa n l r p a w h e = rw (e, ← a, ← w, p .enters l h) refl
+
+-- absent links, in arrays of the type's length
+pub record Lengths (m : Machine) : Type 0 where
+  pub waitings : length (m .waiting) ≡ 256
+  pub droppeds : length (m .dropped) ≡ 256
+  pub lates : length (m .late) ≡ 256
+
+pub absent-is : (d : Description) (to : List ℕ) (marks lent : List Bool) (n : ℕ) (r : Bool) → EntersOf d to n → marks ≡ lent → r ≡ unset (drop n lent) → r ≡ absentRule d marks
+absent-is d to marks lent n r p w e = rw (p .many, w) e
 
 -- a source's rule
 abbrev ruled : ℕ → ℕ → ℕ → Bool
@@ -67,12 +75,8 @@ again-is m ag us k r a u e =
     let s : 1 + k - 1 ≡ k = omega arith in
     rw (e, ← a, ← u, s) refl
 
-pub late-is : (d : Description) (m : Machine) (to : List ℕ) (wa ag la : List Bool) (n l : ℕ) (r : Bool) → EntersOf d to n → m .waiting ≡ wa → m .again ≡ ag → m .late ≡ la → LateLawful to n wa ag la l r → lateRule d m l ≡ r
-late-is d m to wa ag la n l r p w a x e = rw (e, ← w, ← a, ← x, p .many) (go (ltb l n) refl)
-  where
-    go : (b : Bool) → ltb l n ≡ b → (not (getD (m .late) l false) || (ltb l n && (getD (m .waiting) l false && getD (m .again) (linkAt d l .to - 1) false))) ≡ (not (getD (m .late) l false) || (ltb l n && (getD (m .waiting) l false && getD (m .again) (getD to l 0 - 1) false)))
-    go true f = rw (f, p .enters l (ltb-true l n f)) refl
-    go false f = rw f refl
+pub late-is : (d : Description) (m : Machine) (to : List ℕ) (wa ag la : List Bool) (n l : ℕ) (r : Bool) → EntersOf d to n → m .waiting ≡ wa → m .again ≡ ag → m .late ≡ la → l < n → LateLawful to wa ag la l r → lateRule d m l ≡ r
+late-is d m to wa ag la n l r p w a x h e = rw (e, ← w, ← a, ← x, p .enters l h) refl
 
 pub and-true : (a b : Bool) → a ≡ true → (a && b) ≡ b
 and-true a b e = rw e refl

@@ -6,12 +6,11 @@ use numbers::index;
 use spacings::on_knob;
 use wiring::Wiring;
 ghost use mathlib.Core.Path.{_≡_};
-ghost use Prim.Native.Nat.{_<_};
 ghost use mathlib.Core.Bool.{_||_, _&&_, not, cond};
 ghost use lib.Dec.{ltb, leb, eqb};
 ghost use Rattle.model.specs.Basics.{given};
 ghost use Rattle.model.specs.Verdicts.{onKnob};
-ghost use Rattle.rules.specs.Rules.{Enters, TasksLawful, LinksLawful, SourcesLawful, AgainsLawful, LateLawful, LatesLawful, RulesKept, partsIn, Alone, Lawful};
+ghost use Rattle.rules.specs.Rules.{Enters, EntersAt, TasksLawful, AbsentLawful, LinkLawful, EachLinkLawful, LinksLawful, SourcesLawful, AgainsLawful, LateLawful, EachLateLawful, LatesLawful, RulesKept, partsIn, Alone, Lawful};
 
 // Used is below the longest run, and 0 for a sleeping task; nothing is set for an absent one.
 fn task_lawful(here: bool, run: u32, awake: bool, used: u32) -> bool
@@ -50,20 +49,53 @@ fn tasks_lawful<'a>(
     true
 }
 
-// A waiting link's task is awake; nothing is set for an absent link.
-fn link_lawful(here: bool, waiting: bool, dropped: bool, awake: bool) -> bool
-    ensures { λ r. ⌜ r ≡ cond here (not waiting || awake) (not waiting && not dropped) ⌝ }
+// Nothing is set for an absent link.
+fn absent_lawful(marks: &[bool; 256], links: usize) -> bool
+    ensures { λ r. ⌜ AbsentLawful (now (marks .entry)) links r ⌝ }
 {
-    if waiting {
-        if here {
-            return awake;
+    let mut l = links;
+    while l < 256 {
+        if marks[l] {
+            return false;
         }
-        return false;
+        l += 1;
     }
-    if here {
+    true
+}
+
+// A waiting link's task is awake.
+fn link_lawful<'a>(
+    to: &[u8; 256],
+    awake: &'a [bool; 32],
+    waiting: &'a [bool; 256],
+    l: usize,
+) -> bool
+    requires { ⌜ EntersAt (now to) l ⌝ }
+    ensures { λ r. ⌜ LinkLawful (now (to .entry)) (now (awake .entry)) (now (waiting .entry)) l r ⌝ }
+{
+    if !waiting[l] {
         return true;
     }
-    !dropped
+    awake[index(to[l]) - 1]
+}
+
+fn each_link_lawful<'a>(
+    to: &[u8; 256],
+    links: usize,
+    awake: &'a [bool; 32],
+    waiting: &'a [bool; 256],
+) -> bool
+    requires { ⌜ Enters (now to) links ⌝ }
+    ensures { λ r. ⌜ EachLinkLawful (now (to .entry)) links (now (awake .entry)) (now (waiting .entry)) r ⌝ }
+{
+    let mut l: usize = 0;
+    while l < links {
+        if !link_lawful(to, awake, waiting, l) {
+            return false;
+        }
+        l += 1;
+    }
+    true
 }
 
 fn links_lawful<'a>(
@@ -76,18 +108,13 @@ fn links_lawful<'a>(
     requires { ⌜ Enters (now to) links ⌝ }
     ensures { λ r. ⌜ LinksLawful (now (to .entry)) links (now (awake .entry)) (now (waiting .entry)) (now (dropped .entry)) r ⌝ }
 {
-    let mut l: usize = 0;
-    while l < 256 {
-        let mut entered = false;
-        if l < links {
-            entered = awake[index(to[l]) - 1];
-        }
-        if !link_lawful(l < links, waiting[l], dropped[l], entered) {
-            return false;
-        }
-        l += 1;
+    if !each_link_lawful(to, links, awake, waiting) {
+        return false;
     }
-    true
+    if !absent_lawful(waiting, links) {
+        return false;
+    }
+    absent_lawful(dropped, links)
 }
 
 // Ages do not exceed the spacings for 20.0; a kept tempo is 0, with the age as at the start, or on the knob; nothing is set for an absent source.
@@ -150,28 +177,44 @@ fn agains_lawful<'a>(again: &'a [bool; 32], used: &'a [u32; 32]) -> bool
     true
 }
 
-// A late link is there, it waits, and its task is marked again.
+// A late link waits, and its task is marked again.
 fn late_lawful<'a>(
     to: &[u8; 256],
-    links: usize,
     waiting: &'a [bool; 256],
     again: &'a [bool; 32],
     late: &'a [bool; 256],
     l: usize,
 ) -> bool
-    requires { ⌜ Enters (now to) links × (l < 256) ⌝ }
-    ensures { λ r. ⌜ LateLawful (now (to .entry)) links (now (waiting .entry)) (now (again .entry)) (now (late .entry)) l r ⌝ }
+    requires { ⌜ EntersAt (now to) l ⌝ }
+    ensures { λ r. ⌜ LateLawful (now (to .entry)) (now (waiting .entry)) (now (again .entry)) (now (late .entry)) l r ⌝ }
 {
     if !late[l] {
         return true;
-    }
-    if links <= l {
-        return false;
     }
     if !waiting[l] {
         return false;
     }
     again[index(to[l]) - 1]
+}
+
+fn each_late_lawful<'a>(
+    to: &[u8; 256],
+    links: usize,
+    waiting: &'a [bool; 256],
+    again: &'a [bool; 32],
+    late: &'a [bool; 256],
+) -> bool
+    requires { ⌜ Enters (now to) links ⌝ }
+    ensures { λ r. ⌜ EachLateLawful (now (to .entry)) links (now (waiting .entry)) (now (again .entry)) (now (late .entry)) r ⌝ }
+{
+    let mut l: usize = 0;
+    while l < links {
+        if !late_lawful(to, waiting, again, late, l) {
+            return false;
+        }
+        l += 1;
+    }
+    true
 }
 
 fn lates_lawful<'a>(
@@ -184,14 +227,10 @@ fn lates_lawful<'a>(
     requires { ⌜ Enters (now to) links ⌝ }
     ensures { λ r. ⌜ LatesLawful (now (to .entry)) links (now (waiting .entry)) (now (again .entry)) (now (late .entry)) r ⌝ }
 {
-    let mut l: usize = 0;
-    while l < 256 {
-        if !late_lawful(to, links, waiting, again, late, l) {
-            return false;
-        }
-        l += 1;
+    if !each_late_lawful(to, links, waiting, again, late) {
+        return false;
     }
-    true
+    absent_lawful(late, links)
 }
 
 // Whether a record keeps the rules of both models, the spacings being those for 20.0.

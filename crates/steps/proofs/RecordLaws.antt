@@ -17,9 +17,9 @@ use Rattle.model.specs.declared.Machine.{Machine}
 use Rattle.model.specs.Basics.{allN, anyN}
 use Rattle.model.specs.Graph.{linkAt, runOf}
 use Rattle.model.specs.Verdicts.{onKnob}
-use Rattle.model.specs.Machine.{awakeAt, usedAt, waitingAt, droppedAt, againAt, lateAt, ageAt, fastestAt, longestGap, idle, taskRule, linkRule, sourceRule, againRule, lateRule, rulesKept, partsDone, aloneRule}
+use Rattle.model.specs.Machine.{awakeAt, usedAt, waitingAt, droppedAt, againAt, lateAt, ageAt, fastestAt, longestGap, idle, taskRule, linksRule, sourceRule, againRule, lateRule, latesRule, rulesKept, partsDone, aloneRule}
 use Rattle.lemmas.proofs.Tests.{Cmp, less, same, more, cmp, same-test, not-both, false-of, both, and-left, and-right, and-false-left, and-false-right, or-new, or-else, or-false}
-use Rattle.lemmas.proofs.Table.{getD-tab, length-tab, is-tab, getD-same}
+use Rattle.lemmas.proofs.Table.{getD-tab, length-tab, is-tab, getD-same, unset-at}
 use Rattle.lemmas.proofs.Range.{any-at, any-found, all-at, one-only}
 use Rattle.theory.proofs.Links.{to-most}
 use Rattle.theory.proofs.WellFormed.{WellFormed}
@@ -276,9 +276,9 @@ module _ (d : Description) (m : Machine) (g : WellFormed d) (l : rulesKept d m �
   unfolding rulesKept
   task-rule k p q = all-at (taskRule d m) 1 32 (and-left (allN (taskRule d m) 1 32) _ l) k p (omega arith)
 
-  rules : allN (sourceRule d m) 0 16 && (allN (againRule m) 1 32 && allN (lateRule d m) 0 256) ≡ true
+  rules : allN (sourceRule d m) 0 16 && (allN (againRule m) 1 32 && latesRule d m) ≡ true
   unfolding rulesKept
-  rules = and-right (allN (linkRule d m) 0 256) _ (and-right (allN (taskRule d m) 1 32) _ l)
+  rules = and-right (linksRule d m) _ (and-right (allN (taskRule d m) 1 32) _ l)
 
   source-rule : (u : ℕ) → u < 16 → sourceRule d m u ≡ true
   source-rule u p = all-at (sourceRule d m) 0 16 (and-left (allN (sourceRule d m) 0 16) _ rules) u (omega arith) (omega arith)
@@ -286,8 +286,11 @@ module _ (d : Description) (m : Machine) (g : WellFormed d) (l : rulesKept d m �
   again-rule : (k : ℕ) → 1 ≤ k → k ≤ 32 → againRule m k ≡ true
   again-rule k p q = all-at (againRule m) 1 32 (and-left (allN (againRule m) 1 32) _ (and-right (allN (sourceRule d m) 0 16) _ rules)) k p (omega arith)
 
-  late-rule : (i : ℕ) → i < 256 → lateRule d m i ≡ true
-  late-rule i p = all-at (lateRule d m) 0 256 (and-right (allN (againRule m) 1 32) _ (and-right (allN (sourceRule d m) 0 16) _ rules)) i (omega arith) (omega arith)
+  lates-rule : latesRule d m ≡ true
+  lates-rule = and-right (allN (againRule m) 1 32) _ (and-right (allN (sourceRule d m) 0 16) _ rules)
+
+  late-rule : (i : ℕ) → i < d .«link_count» → lateRule d m i ≡ true
+  late-rule i p = all-at (lateRule d m) 0 (d .«link_count») (and-left (allN (lateRule d m) 0 (d .«link_count»)) _ lates-rule) i (omega arith) (omega arith)
 
   absent : (k : ℕ) → 1 ≤ k → d .«task_count» < k → awakeAt m k ≡ true → ⊥
   absent k p q e = go (decLt 32 k)
@@ -343,14 +346,13 @@ module _ (d : Description) (m : Machine) (g : WellFormed d) (l : rulesKept d m �
 
   -- a late link waits, for a task that is part done
   late-waits : (i : ℕ) → lateAt m i ≡ true → (i < d .«link_count») × (waitingAt m i ≡ true) × (againAt m (linkAt d i .to) ≡ true)
-  late-waits i e = go (decLt i 256)
+  late-waits i e = go (decLt i (d .«link_count»))
     where
-      go : Dec (i < 256) → (i < d .«link_count») × (waitingAt m i ≡ true) × (againAt m (linkAt d i .to) ≡ true)
-      go (no h) = absurd (not-both e (List·getD-eq-default (m .late) false {n = i} (omega (arith, z .lates))))
+      go : Dec (i < d .«link_count») → (i < d .«link_count») × (waitingAt m i ≡ true) × (againAt m (linkAt d i .to) ≡ true)
+      go (no h) = absurd (not-both e (unset-at (d .«link_count») (m .late) (and-right (allN (lateRule d m) 0 (d .«link_count»)) _ lates-rule) i (omega arith)))
       go (yes h) =
-          let r : (ltb i (d .«link_count») && (waitingAt m i && againAt m (linkAt d i .to))) ≡ true = or-new (not (lateAt m i)) _ (ap not e) (late-rule i h) in
-          let q : (waitingAt m i && againAt m (linkAt d i .to)) ≡ true = and-right (ltb i (d .«link_count»)) _ r in
-          (ltb-true i (d .«link_count») (and-left (ltb i (d .«link_count»)) _ r), and-left (waitingAt m i) _ q, and-right (waitingAt m i) _ q)
+          let q : (waitingAt m i && againAt m (linkAt d i .to)) ≡ true = or-new (not (lateAt m i)) _ (ap not e) (late-rule i h) in
+          (h, and-left (waitingAt m i) _ q, and-right (waitingAt m i) _ q)
 
   pub packed : (since : List ℕ) (w : Words) (awake again : ℕ) (waiting late into : Wide) → TasksIn (m .awake) awake → TasksIn (m .again) again → PartIn (m .used) (w .part) → ((k : ℕ) → member (w .woken) k ≡ ((member awake k && not (member (w .part) k)) || member again k)) → ((i : ℕ) → inside waiting i ≡ waitingAt m i) → ((i : ℕ) → inside late i ≡ lateAt m i) → ((i : ℕ) → inside into i ≡ enters d (w .part) i) → ((i : ℕ) → inside (w .taken) i ≡ ((inside waiting i && inside into i) && not (inside late i))) → ((i : ℕ) → inside (w .fresh) i ≡ (inside waiting i && not (inside (w .taken) i))) → ((i : ℕ) → inside (w .dropped) i ≡ droppedAt m i) → SinceOf (m .ages) since → w .tick ≡ 4294967296 → Holds d w (m .used) since m
   packed since w awake again waiting late into a b part woken c e f taken fresh drops r n = record {

@@ -1,62 +1,31 @@
--- `lates_lawful` meets its contract: the first l links keep the rule of the mark. Assumes nothing.
-use Prim.Native.Nat.{_+_, _-_, _≤_}
+-- `lates_lawful` meets its contract. Assumes nothing.
 use mathlib.Core.Path.{_≡_, sym, ap, _∙_}
-use mathlib.Core.Bool.{true}
-use native.Mathlib.Omega.{arith}
-use native.Mathlib.Nat.{zero-add}
 use borrow.Author.Tests.{not-true, not-false}
 use Rattle.model.specs.declared.Description.{Description}
 use Rattle.model.specs.declared.Machine.{Machine}
-use Rattle.model.specs.Basics.{allN}
-use Rattle.model.specs.Machine.{lateRule}
 use Rattle.rules.specs.Rules.{EntersOf}
-use Rattle.rules.proofs.RuleLaws.{all-none, all-next, all-fails, late-is}
+use Rattle.rules.proofs.RuleLaws.{broken, kept, absent-is}
 use Rattle.rules.proofs.lates_lawful.Statement.{statement}
 use Rattle.rules.proofs.lates_lawful.Tie as tie
 
-abbrev Inv-loop : tie.InvT-loop
-Inv-loop to links waiting again late l₀ l = (l ≤ 256) × ((d : Description) (m : Machine) → EntersOf d to links → m .waiting ≡ waiting → m .again ≡ again → m .late ≡ late → allN (lateRule d m) 0 l ≡ true)
+each-late-lawful-requires : tie.Need-each-late-lawful-requires
+each-late-lawful-requires c κs = c .pre
 
-abbrev μ-loop : tie.MeasureT-loop
-μ-loop to links waiting again late l₀ l = 256 - l
+returns : tie.Need-returns
+returns c = λ d m r w a x z. broken _ (c .before .each-late-lawful .ensures d m r w a x) (not-true _ (c .if1 .taken))
 
-loop-holds : tie.Need-loop-holds Inv-loop μ-loop
-loop-holds c = (omega arith, λ d m r w a x. all-none _ 0)
+absent-lawful-requires : tie.Need-absent-lawful-requires
+absent-lawful-requires c κs = tt
 
-late-lawful-requires : tie.Need-late-lawful-requires Inv-loop μ-loop
-late-lawful-requires c κs = (c .before .before .pre, c .loop-test .taken)
-
--- the rule at the link that the turn looks at
-kept : (c : tie.After-late-lawful Inv-loop μ-loop) (d : Description) (m : Machine) → EntersOf d (c .before .before .before .args .to .now) (c .before .before .before .args .links) → m .waiting ≡ c .before .before .before .args .waiting .now → m .again ≡ c .before .before .before .args .again .now → m .late ≡ c .before .before .before .args .late .now → lateRule d m (0 + c .before .before .loop .l) ≡ c .late-lawful .result
-kept c d m r w a x = rw (zero-add (c .before .before .loop .l)) (late-is d m (c .before .before .before .args .to .now) (c .before .before .before .args .waiting .now) (c .before .before .before .args .again .now) (c .before .before .before .args .late .now) (c .before .before .before .args .links) (c .before .before .loop .l) (c .late-lawful .result) r w a x (c .late-lawful .ensures))
-
-returns : tie.Need-returns Inv-loop μ-loop
-returns c = λ d m r w a x. all-fails (lateRule d m) 0 256 (c .before .before .before .loop .l) (c .before .before .loop-test .taken) (kept (c .before) d m r w a x ∙ not-true _ (c .if1 .taken))
-
-add-l : tie.Need-add-l Inv-loop μ-loop
-add-l c = omega arith
-
-loop-less : tie.Need-loop-less Inv-loop μ-loop
-loop-less c = omega arith
-
-loop-again : tie.Need-loop-again Inv-loop μ-loop
-loop-again c = (omega arith, λ d m r w a x. all-next (lateRule d m) 0 (c .before .before .before .loop .l) (c .before .before .before .loop .inv .1 d m r w a x) (kept (c .before) d m r w a x ∙ not-false _ (c .if1 .left)))
-
-returns-2 : tie.Need-returns-2 Inv-loop μ-loop
-returns-2 c = λ d m r w a x.
-    let e : c .before .loop .l ≡ 256 = omega (arith, c .loop-test .left, c .before .loop .inv .0) in
-    sym (ap (allN (lateRule d m) 0) (sym e) ∙ c .before .loop .inv .1 d m r w a x)
+returns-2 : tie.Need-returns-2
+returns-2 c = λ d m r w a x z.
+    kept (c .before .before .each-late-lawful .ensures d m r w a x) (not-false _ (c .before .if1 .left)) (absent-is d (c .before .before .before .args .to .now) (m .late) _ _ _ r x (c .absent-lawful .ensures z))
 
 pub lates-lawful-spec : {M : Type 1} → statement M
 lates-lawful-spec =
     tie.close
     (tie.spec
-    Inv-loop
-    μ-loop
-    loop-holds
-    late-lawful-requires
+    each-late-lawful-requires
     returns
-    add-l
-    loop-less
-    loop-again
+    absent-lawful-requires
     returns-2)

@@ -3,20 +3,23 @@ use mathlib.Core.Path.{_≡_, refl}
 use borrow.Author.Tests.{not-true, not-false}
 use Rattle.model.specs.declared.Description.{Description}
 use Rattle.model.specs.Basics.{allN}
-use Rattle.model.specs.Machine.{taskRule, linkRule, sourceRule, againRule, lateRule, rulesKept}
+use Rattle.model.specs.Machine.{taskRule, linksRule, sourceRule, againRule, latesRule, rulesKept}
 use Rattle.wiring.specs.Rows.{WiringOf}
 use Rattle.spacings.specs.Gaps.{GapsOf}
-use Rattle.rules.proofs.RuleLaws.{broken, kept, enters-of}
+use Rattle.rules.proofs.RuleLaws.{Lengths, broken, kept, enters-of}
 use borrow.Author.Needs.{needs}
 use Rattle.rules.proofs.rules_kept.Statement.{statement}
 use Rattle.rules.proofs.rules_kept.Tie as tie
+
+sizes : (c : tie.Start) → Lengths (c .args .t3)
+sizes c = record { waitings = search needs; droppeds = search needs; lates = search needs }
 
 -- what each test has told, of a description whose wiring it is
 tasks : (c : tie.After-tasks-lawful) (d : Description) → WiringOf d (c .before .before .before .before .before .before .args .t1) → c .tasks-lawful .result ≡ allN (taskRule d (c .before .before .before .before .before .before .args .t3)) 1 32
 tasks c d r = c .tasks-lawful .ensures d (c .before .before .before .before .before .before .args .t3) (r .same-runs) (r .as-many) refl refl
 
-links : (c : tie.After-links-lawful) (d : Description) → WiringOf d (c .before .before .before .before .before .before .before .before .before .before .before .before .before .before .args .t1) → c .links-lawful .result ≡ allN (linkRule d (c .before .before .before .before .before .before .before .before .before .before .before .before .before .before .args .t3)) 0 256
-links c d r = c .links-lawful .ensures d (c .before .before .before .before .before .before .before .before .before .before .before .before .before .before .args .t3) (enters-of d (c .before .before .before .before .before .before .before .before .before .before .before .before .before .before .args .t1) r) refl refl refl
+links : (c : tie.After-links-lawful) (d : Description) → WiringOf d (c .before .before .before .before .before .before .before .before .before .before .before .before .before .before .args .t1) → c .links-lawful .result ≡ linksRule d (c .before .before .before .before .before .before .before .before .before .before .before .before .before .before .args .t3)
+links c d r = c .links-lawful .ensures d (c .before .before .before .before .before .before .before .before .before .before .before .before .before .before .args .t3) (enters-of d (c .before .before .before .before .before .before .before .before .before .before .before .before .before .before .args .t1) r) refl refl refl (sizes (c .before .before .before .before .before .before .before .before .before .before .before .before .before .before) .waitings) (sizes (c .before .before .before .before .before .before .before .before .before .before .before .before .before .before) .droppeds)
 
 sources : (c : tie.After-sources-lawful) (d : Description) → WiringOf d (c .before .before .before .before .before .before .before .before .before .before .before .before .before .before .before .before .before .before .before .before .args .t1) → GapsOf d 200 (c .before .before .before .before .before .before .before .before .before .before .before .before .before .before .before .before .before .before .before .before .args .t2) → c .sources-lawful .result ≡ allN (sourceRule d (c .before .before .before .before .before .before .before .before .before .before .before .before .before .before .before .before .before .before .before .before .args .t3)) 0 16
 sources c d r g = c .sources-lawful .ensures d (c .before .before .before .before .before .before .before .before .before .before .before .before .before .before .before .before .before .before .before .before .args .t3) (r .as-wide) g refl refl
@@ -24,8 +27,8 @@ sources c d r g = c .sources-lawful .ensures d (c .before .before .before .befor
 agains : (c : tie.After-agains-lawful) → c .agains-lawful .result ≡ allN (againRule (c .before .before .before .before .before .before .before .before .before .before .before .before .before .before .before .before .before .before .before .before .before .before .before .before .before .args .t3)) 1 32
 agains c = c .agains-lawful .ensures (c .before .before .before .before .before .before .before .before .before .before .before .before .before .before .before .before .before .before .before .before .before .before .before .before .before .args .t3) refl refl
 
-lates : (c : tie.After-lates-lawful) (d : Description) → WiringOf d (c .before .before .before .before .before .before .before .before .before .before .before .before .before .before .before .before .before .before .before .before .before .before .before .before .before .before .before .before .before .before .before .before .before .args .t1) → c .lates-lawful .result ≡ allN (lateRule d (c .before .before .before .before .before .before .before .before .before .before .before .before .before .before .before .before .before .before .before .before .before .before .before .before .before .before .before .before .before .before .before .before .before .args .t3)) 0 256
-lates c d r = c .lates-lawful .ensures d (c .before .before .before .before .before .before .before .before .before .before .before .before .before .before .before .before .before .before .before .before .before .before .before .before .before .before .before .before .before .before .before .before .before .args .t3) (enters-of d (c .before .before .before .before .before .before .before .before .before .before .before .before .before .before .before .before .before .before .before .before .before .before .before .before .before .before .before .before .before .before .before .before .before .args .t1) r) refl refl refl
+lates : (c : tie.After-lates-lawful) (d : Description) → WiringOf d (c .before .before .before .before .before .before .before .before .before .before .before .before .before .before .before .before .before .before .before .before .before .before .before .before .before .before .before .before .before .before .before .before .before .args .t1) → c .lates-lawful .result ≡ latesRule d (c .before .before .before .before .before .before .before .before .before .before .before .before .before .before .before .before .before .before .before .before .before .before .before .before .before .before .before .before .before .before .before .before .before .args .t3)
+lates c d r = c .lates-lawful .ensures d (c .before .before .before .before .before .before .before .before .before .before .before .before .before .before .before .before .before .before .before .before .before .before .before .before .before .before .before .before .before .before .before .before .before .args .t3) (enters-of d (c .before .before .before .before .before .before .before .before .before .before .before .before .before .before .before .before .before .before .before .before .before .before .before .before .before .before .before .before .before .before .before .before .before .args .t1) r) refl refl refl (sizes (c .before .before .before .before .before .before .before .before .before .before .before .before .before .before .before .before .before .before .before .before .before .before .before .before .before .before .before .before .before .before .before .before .before) .lates)
 
 tasks-lawful-requires : tie.Need-tasks-lawful-requires
 tasks-lawful-requires c κs = search needs

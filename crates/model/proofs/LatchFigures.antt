@@ -66,6 +66,8 @@ latch-figures = record {
   hold-delay = refl;
   begun-task = ap (λ x. x .0) begun;
   begun-links = ap (λ x. x .1) begun;
+  finished-task = refl;
+  finished-wait = refl;
   late-task = ap (λ x. x .0) late;
   late-links = ap (λ x. x .1) late;
   ended-task = ap (λ x. x .0) ended;
@@ -81,7 +83,4 @@ latch-figures = record {
   rule-late-not-again = refl;
   rule-late-not-waiting = refl;
   rule-late-absent = refl;
-  rule-waiting-absent = refl;
-  rule-dropped-absent = refl;
-  rule-dropped = refl;
 }

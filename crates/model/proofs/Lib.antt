@@ -5,4 +5,5 @@ pub mod SpacingFigures
 pub mod KnobFigures
 pub mod HoldFigures
 pub mod LatchFigures
+pub mod RuleFigures
 pub mod Steps

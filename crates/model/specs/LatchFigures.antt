@@ -13,7 +13,7 @@ use Rattle.model.specs.declared.Verdict.the-variants.{Held}
 use Rattle.model.specs.Basics.{tab}
 use Rattle.model.specs.Refusals.{ofOutcome}
 use Rattle.model.specs.Verdicts.{verdictAt}
-use Rattle.model.specs.Machine.{awakeAt, usedAt, waitingAt, droppedAt, againAt, lateAt, idle, setAwake, setUsed, setWaiting, setDropped, setAgain, setLate, againRule, judgeTick}
+use Rattle.model.specs.Machine.{awakeAt, usedAt, waitingAt, droppedAt, againAt, lateAt, idle, setAwake, setUsed, setWaiting, setAgain, setLate, againRule, judgeTick}
 use Rattle.model.specs.History.{Call, left, servedBefore, waitOf}
 use Rattle.model.specs.Figures.{describe, critical, free, quick, upToLength, arriving, callsWhere, history}
 
@@ -24,6 +24,10 @@ scan e = describe (e ∷ []) (Fixed 10 ∷ Fixed 10 ∷ []) (critical 33 1 ∷ c
 -- n calls at 20.0 with no "finish": source 33 comes in the first, 34 in call x
 abbrev pub scanCalls : ℕ → ℕ → List Call
 scanCalls n x = tab n (λ y. record { tempo = 200; arrivals = record { marks = upToLength 16 false (eqb y 0 ∷ eqb y x ∷ []) }; finish = false })
+
+-- source 33 comes, and the caller says finish in the same tick
+abbrev pub finished : List Call
+finished = record { tempo = 200; arrivals = record { marks = arriving 1 }; finish = true } ∷ []
 
 -- a task that is interrupted by a higher one, which has a link to it
 abbrev pub nested : Description
@@ -61,6 +65,9 @@ pub record LatchFigures : Type 0 where
   -- the same with a run of 3 ticks, record by record. The run begins in the tick of its event: nothing is late
   pub begun-task : taskMarks (leftBy Preemptive (scan 3) (scanCalls 1 1)) ≡ (true, 1, false)
   pub begun-links : linkMarks (leftBy Preemptive (scan 3) (scanCalls 1 1)) ≡ ((true, false), (false, false))
+  -- "or the caller says finish": the task sleeps, nothing waits, and the event was served within its tick
+  pub finished-task : taskMarks (leftBy Preemptive (scan 3) finished) ≡ (false, 0, false)
+  pub finished-wait : waitOf (history Preemptive (scan 3) finished) 1 0 ≡ 1
   -- "an event for a task whose used is above 0 sets waiting and late, and 'again' on its task"
   pub late-task : taskMarks (leftBy Preemptive (scan 3) (scanCalls 2 1)) ≡ (true, 2, true)
   pub late-links : linkMarks (leftBy Preemptive (scan 3) (scanCalls 2 1)) ≡ ((true, true), (false, true))
@@ -82,7 +89,3 @@ pub record LatchFigures : Type 0 where
   pub rule-late-not-again : refusedAs (setLate 0 true partDone) ≡ 16
   pub rule-late-not-waiting : refusedAs (setLate 1 true (setAgain 1 true partDone)) ≡ 16
   pub rule-late-absent : refusedAs (setLate 2 true partDone) ≡ 16
-  -- "nothing is set for absent nodes or links"
-  pub rule-waiting-absent : refusedAs (setWaiting 2 true partDone) ≡ 16
-  pub rule-dropped-absent : refusedAs (setDropped 2 true partDone) ≡ 16
-  pub rule-dropped : refusedAs (setDropped 1 true partDone) ≡ 0

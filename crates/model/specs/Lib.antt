@@ -20,3 +20,4 @@ pub mod SpacingFigures
 pub mod KnobFigures
 pub mod HoldFigures
 pub mod LatchFigures
+pub mod RuleFigures

@@ -1,5 +1,5 @@
 -- Calls in which nothing comes, while no task is awake or while a run that has begun goes on: each is a tick that only counts. Assumes nothing.
-use Prim.Native.Nat.{ℕ, zero, suc, _+_, _-_, _*_, _/_, _≤_, _<_, max}
+use Prim.Native.Nat.{ℕ, zero, suc, _+_, _-_, _*_, _/_, _≤_, _<_}
 use mathlib.Core.Path.{_≡_, refl, sym, ap, subst, _∙_}
 use mathlib.Core.Bool.{true, false}
 use lib.Dec.{eqb}
@@ -20,13 +20,13 @@ use Rattle.model.specs.Refusals.{ofOutcome}
 use Rattle.model.specs.File.{judge}
 use Rattle.model.specs.Verdicts.{onKnob}
 use Rattle.model.specs.Machine.{idle, arrive, ageAll, stepped, plainTick, lawful}
-use Rattle.model.specs.History.{Call, left, answers}
-use Rattle.model.specs.Run.{marksIn, callIn, callsIn, page, codes}
+use Rattle.model.specs.History.{Call, left}
+use Rattle.model.specs.Run.{marksIn, callIn, callsIn, page}
 use Rattle.theory.proofs.WellFormed.{WellFormed}
-use Rattle.assurance.proofs.Replay.{callAt}
-use Rattle.steps.specs.declared.words.Words.{Words}
+use Rattle.words.specs.declared.Words.{Words}
 use Rattle.sets.specs.Sets.{member}
-use Rattle.steps.specs.Words.{awakeIn, Holds, Goes, Chosen, worked}
+use Rattle.words.specs.Words.{awakeIn, Holds, Goes}
+use Rattle.steps.specs.Steps.{Chosen, worked}
 use Rattle.steps.proofs.MarkLaws.{SameMarks, marks-more}
 use Rattle.steps.proofs.ChoiceLaws.{goes-more, goes-same}
 use Rattle.steps.proofs.StepLaws.{work-none, work-on, passes, set-same}

@@ -12,7 +12,7 @@ use Rattle.model.specs.File.{filledBy, judge}
 use Rattle.model.specs.History.{Call}
 use Rattle.model.specs.Run.{page, ranFrom}
 use Rattle.wiring.specs.declared.Wiring.{Wiring}
-use Rattle.steps.specs.declared.words.Words.{Words}
+use Rattle.words.specs.declared.Words.{Words}
 use Rattle.wiring.specs.Rows.{WiringOf}
 use Rattle.spacings.specs.declared.Sources.{Sources}
 use Rattle.spacings.specs.Sources.{SourcesOf}

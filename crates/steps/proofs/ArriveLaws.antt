@@ -22,12 +22,14 @@ use Rattle.sets.specs.declared.wide.Wide.{Wide}
 use Rattle.sets.specs.Sets.{member}
 use Rattle.sets.specs.Wide.{inside}
 use Rattle.wiring.specs.Rows.{RowsOf}
-use Rattle.steps.specs.declared.words.Words.{Words}
+use Rattle.words.specs.declared.Words.{Words}
 use Rattle.model.specs.Run.{heard, marksIn}
 use Rattle.steps.specs.Parts.{Known}
-use Rattle.steps.specs.Words.{wideAt, enters, Sent, Stored, Ages, Holds}
+use Rattle.words.specs.Words.{wideAt, enters, Ages, Holds}
+use Rattle.steps.specs.Steps.{Sent, Stored}
 use Rattle.steps.proofs.MaskLaws.{Turn, mark-in, heard-under, passed, any-turn}
-use Rattle.steps.proofs.MarkLaws.{row-out, woken, marks-sent}
+use Rattle.words.proofs.WordLaws.{row-out}
+use Rattle.steps.proofs.MarkLaws.{woken, marks-sent}
 use Rattle.lemmas.proofs.Table.{getD-set}
 
 -- numbers stored for the sources of a mask below r

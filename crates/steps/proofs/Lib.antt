@@ -4,4 +4,3 @@ pub mod MarkLaws
 pub mod ArriveLaws
 pub mod ChoiceLaws
 pub mod StepLaws
-pub mod RecordLaws

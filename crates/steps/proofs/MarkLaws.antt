@@ -1,5 +1,5 @@
 -- Words of bits and the marks they hold: what a firing, a sleep and a change of another part do to them. Assumes nothing.
-use Prim.Native.Nat.{ℕ, zero, suc, _+_, _-_, _*_, _/_, _%_, _≤_, _<_}
+use Prim.Native.Nat.{ℕ, zero, suc, _+_, _-_, _*_, _≤_, _<_}
 use mathlib.Core.Path.{_≡_, refl, sym, ap, _∙_}
 use mathlib.Core.Bool.{Bool, true, false, _||_, _&&_, not, cond}
 use mathlib.Core.List.{List}
@@ -20,47 +20,13 @@ use Rattle.assurance.proofs.Firing.{Sized, Fired, fired, getD-task}
 use Rattle.assurance.proofs.Ending.{highest-above, highest-awake, Cleared, cleared, Aged}
 use Rattle.sets.specs.declared.wide.Wide.{Wide}
 use Rattle.sets.specs.Sets.{member, LastIn}
-use Rattle.sets.specs.Wide.{wordIn, inside}
-use Rattle.sets.proofs.SetLaws.{member-none}
+use Rattle.sets.specs.Wide.{inside}
 use Rattle.wiring.specs.Rows.{RowsOf}
-use Rattle.steps.specs.declared.words.Words.{Words}
-use Rattle.steps.specs.Words.{wideAt, awakeIn, waitingIn, enters, Sent, Marks, ended}
+use Rattle.words.specs.declared.Words.{Words}
+use Rattle.words.specs.Words.{wideAt, awakeIn, waitingIn, enters, Marks}
+use Rattle.words.proofs.WordLaws.{row-out, row-into}
+use Rattle.steps.specs.Steps.{Sent, ended}
 use Rattle.theory.proofs.Links.{to-most}
-
--- a node's words as a set: the links out of it, and those into it
-row-word : (rows : List ℕ) (i v : ℕ) → v < 4 → wordIn (wideAt rows i) v ≡ getD rows (i + v) 0
-unfolding wordIn
-row-word rows i zero h = let e : i ≡ i + 0 = omega arith in ap (λ k. getD rows k 0) e
-row-word rows i (suc zero) h = refl
-row-word rows i (suc (suc zero)) h = refl
-row-word rows i (suc (suc (suc zero))) h = refl
-row-word rows i (suc (suc (suc (suc v)))) h = absurd (omega arith)
-
-word-past : (s : Wide) (v : ℕ) → 4 ≤ v → wordIn s v ≡ 0
-unfolding wordIn
-word-past s zero h = absurd (omega arith)
-word-past s (suc zero) h = absurd (omega arith)
-word-past s (suc (suc zero)) h = absurd (omega arith)
-word-past s (suc (suc (suc zero))) h = absurd (omega arith)
-word-past s (suc (suc (suc (suc v)))) h = refl
-
-pub inside-past : (s : Wide) (l : ℕ) → 256 ≤ l → inside s l ≡ false
-unfolding inside
-inside-past s l h = ap (λ k. member k (l % 64)) (word-past s (l / 64) (omega arith)) ∙ member-none (l % 64)
-
-row-inside : (rows : List ℕ) (i n : ℕ) (f : ℕ → Bool) → n ≤ 256 → ((l : ℕ) → l < 256 → member (getD rows (i + l / 64) 0) (l % 64) ≡ (ltb l n && f l)) → (l : ℕ) → inside (wideAt rows i) l ≡ (ltb l n && f l)
-unfolding inside
-row-inside rows i n f few all l = go (decLt l 256)
-  where
-    go : Dec (l < 256) → inside (wideAt rows i) l ≡ (ltb l n && f l)
-    go (yes h) = ap (λ s. member s (l % 64)) (row-word rows i (l / 64) (omega arith)) ∙ all l h
-    go (no h) = inside-past (wideAt rows i) l (omega arith) ∙ rw (le-ltb l n (omega arith)) refl
-
-pub row-out : (d : Description) (rows : List ℕ) (x : ℕ) → WellFormed d → RowsOf d (d .«link_count») rows → (l : ℕ) → inside (wideAt rows (9 * x)) l ≡ (ltb l (d .«link_count») && eqb (linkAt d l .from) x)
-row-out d rows x g r = row-inside rows (9 * x) (d .«link_count») (λ l. eqb (linkAt d l .from) x) (g .fields .few-links) (λ l h. r .out x l h)
-
-pub row-into : (d : Description) (rows : List ℕ) (x : ℕ) → WellFormed d → RowsOf d (d .«link_count») rows → (l : ℕ) → inside (wideAt rows (9 * x + 4)) l ≡ (ltb l (d .«link_count») && eqb (linkAt d l .to) x)
-row-into d rows x g r = row-inside rows (9 * x + 4) (d .«link_count») (λ l. eqb (linkAt d l .to) x) (g .fields .few-links) (λ l h. let e : 9 * x + 4 + l / 64 ≡ 9 * x + (4 + l / 64) = omega arith in ap (λ k. member (getD rows k 0) (l % 64)) e ∙ r .into x l h)
 
 -- a task that some link of a node wakes is one of the description's
 pub woken : (d : Description) (rows : List ℕ) → WellFormed d → RowsOf d (d .«link_count») rows → (x k : ℕ) → member (getD rows (9 * x + 8) 0) k ≡ true → (1 ≤ k) × (k ≤ d .«task_count»)

@@ -1,12 +1,10 @@
 -- One step of a tick on the words and on the record that they hold. Assumes nothing.
-use Prim.Native.Nat.{ℕ, zero, suc, _+_, _-_, _%_, _≤_, _<_, min, max}
+use Prim.Native.Nat.{ℕ, zero, suc, _+_, _-_, _≤_, _<_, min, max}
 use mathlib.Core.Path.{_≡_, refl, sym, ap, subst, _∙_}
 use mathlib.Core.Bool.{Bool, true, false, _||_, not, cond}
 use mathlib.Core.List.{List}
 use mathlib.Core.Logic.{_⊎_, inl, inr}
 use native.Mathlib.Omega.{arith}
-use native.Mathlib.Nat.{mod-eq-of-lt}
-use lib.Bits.{bitAnd, and-mask}
 use lib.ListN.{getD, set, length, length-set}
 use lib.Seq.{getD-set-same, ext-getD}
 use lib.Dec.{eqb}
@@ -22,9 +20,10 @@ use Rattle.lemmas.proofs.Tests.{or-left, or-false-left}
 use Rattle.assurance.proofs.Firing.{Sized, Fired, fired, getD-task}
 use Rattle.assurance.proofs.Ending.{Cleared, cleared, Aged, aged}
 use Rattle.sets.specs.Sets.{member}
-use Rattle.steps.specs.declared.words.Words.{Words}
+use Rattle.words.specs.declared.Words.{Words}
 use Rattle.model.specs.Run.{heard, marksIn}
-use Rattle.steps.specs.Words.{awakeIn, Marks, Ages, Holds, Goes, Chosen, ended, worked, Above, raisedTo, atTempos}
+use Rattle.words.specs.Words.{awakeIn, Marks, Ages, Holds, Goes, Above, raisedTo}
+use Rattle.steps.specs.Steps.{Chosen, ended, worked, atTempos}
 use Rattle.steps.proofs.MaskLaws.{mark-in}
 use Rattle.steps.proofs.MarkLaws.{SameMarks, marks-same, marks-aged}
 use Rattle.steps.proofs.ChoiceLaws.{choose-is, choose-none, chosen-awake}
@@ -92,11 +91,6 @@ set-same l i x p e = ext-getD 0 l (set l i x) (sym (length-set l i x)) (λ k q. 
 pub positive : (spent x : ℕ) → x ≡ spent → (spent ≡ 0 → ⊥) → 0 < x
 positive zero x e n = absurd (n refl)
 positive (suc k) x e n = omega arith
-
--- all bits of a task's number, or none
-pub kept-number : (b : Bool) (h : ℕ) → h < 64 → bitAnd h (cond b 63 0) ≡ cond b h 0
-kept-number true h p = and-mask h 6 ∙ mod-eq-of-lt p
-kept-number false h p = and-mask h 0 ∙ (let z : h % 1 ≡ 0 = omega arith in z)
 
 pub work-none : (p : Policy) (d : Description) (w : Words) (used since : List ℕ) (finish : Bool) (m : Machine) → WellFormed d → (0 < w .running → awakeIn w (w .running) ≡ true) → ((k : ℕ) → awakeIn w k ≡ false) → Goes p (w .running) used → Holds d w used since m → Holds d w used since (worked p d finish m)
 work-none p d w used since finish m g going e r h =

@@ -1,4 +1,3 @@
--- What the contracts of the steps cite beside the definitions of `model`.
+-- What the contracts of the steps cite beside the definitions of `model` and the words of `words`.
 pub mod Parts
-pub mod Words
-pub mod Record
+pub mod Steps

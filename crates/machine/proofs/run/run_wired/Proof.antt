@@ -1,5 +1,5 @@
 -- `run_wired` meets its contract: after i calls the words hold the record that the plain machine leaves, and the buffer its codes. Assumes nothing.
-use Prim.Native.Nat.{ℕ, zero, suc, _+_, _*_, _-_, _/_, _≤_, _<_, min}
+use Prim.Native.Nat.{ℕ, zero, suc, _+_, _*_, _-_, _/_, _≤_, _<_}
 use mathlib.Core.Path.{_≡_, refl, sym, ap, subst, _∙_}
 use mathlib.Core.Bool.{true, false, not, cond}
 use mathlib.Core.List.{List, _++_}
@@ -26,12 +26,12 @@ use Rattle.spacings.proofs.GapLaws.{asked-none}
 use Rattle.sets.specs.Sets.{member}
 use Rattle.sets.proofs.SetLaws.{member-none}
 use Rattle.steps.proofs.MaskLaws.{sourced}
-use Rattle.steps.proofs.RecordLaws.{begun, none-going, none-kept}
+use Rattle.records.proofs.RecordLaws.{begun, none-going, none-kept}
 use borrow.Author.Tests.{ne-eqb}
 use Rattle.lemmas.proofs.Tests.{not-both}
-use Rattle.steps.specs.Words.{awakeIn}
+use Rattle.words.specs.Words.{awakeIn}
 use Rattle.steps.proofs.ChoiceLaws.{chosen-awake}
-use Rattle.steps.specs.declared.words.Words.{Words}
+use Rattle.words.specs.declared.Words.{Words}
 use Rattle.machine.specs.Calls.{Tracks}
 use Rattle.machine.specs.Run.{Head}
 use Rattle.machine.proofs.RunLaws.{calls-length, calls-at, codes-length, run-left, run-code, store-turn, ran-short, ran-whole, filled-short, filled-whole, kept}

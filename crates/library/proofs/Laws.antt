@@ -31,7 +31,7 @@ use Rattle.lemmas.proofs.Table.{length-tab, getD-tab}
 use Rattle.theory.proofs.NumberBytes.{Bytes as AllBytes}
 use Rattle.theory.proofs.FileLength.{read-place}
 use Rattle.theory.proofs.ReadBack.{read-judged}
-use Rattle.machine.proofs.RunLaws.{store-turn}
+use Rattle.passing.proofs.StoreLaws.{store-turn}
 use Rattle.library.specs.Replies.{reply, bit, byteIn, recordByte, recordBytes, Puts}
 
 -- a number below 2 ^ 32 and its negative, as 64 bits with a sign

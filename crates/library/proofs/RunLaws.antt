@@ -24,7 +24,7 @@ use Rattle.theory.proofs.NumberBytes.{Bytes as AllBytes}
 use Rattle.theory.proofs.FileLength.{placeIn, read-place}
 use Rattle.theory.proofs.ReadBack.{read-judged}
 use Rattle.model.specs.Run.{callsIn, page, ranFrom}
-use Rattle.machine.proofs.RunLaws.{calls-length}
+use Rattle.runs.proofs.RunLaws.{calls-length}
 use Rattle.library.specs.Replies.{reply, recordBytes, runOutcome, codesAfter, recordAfter}
 use Rattle.library.proofs.Laws.{reply-done}
 

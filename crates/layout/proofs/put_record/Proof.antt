@@ -2,10 +2,10 @@
 use mathlib.Core.Path.{_≡_}
 use native.Mathlib.Omega.{arith}
 use lib.ListN.{length}
-use Rattle.library.proofs.Laws.{record-put}
+use Rattle.layout.proofs.Laws.{record-put}
 use borrow.Author.Needs.{needs}
-use Rattle.library.proofs.put_record.Statement.{statement}
-use Rattle.library.proofs.put_record.Tie as tie
+use Rattle.layout.proofs.put_record.Statement.{statement}
+use Rattle.layout.proofs.put_record.Tie as tie
 
 -- how long the parts are
 awake-length : (c : tie.Start) → length (c .args .t1 .awake) ≡ 32

@@ -4,11 +4,11 @@ use mathlib.Core.Path.{_≡_, subst}
 use mathlib.Core.Bool.{false}
 use native.Mathlib.Omega.{arith}
 use lib.ListN.{length, getD}
-use Rattle.library.specs.Replies.{bit, Puts}
-use Rattle.library.proofs.Laws.{bool-byte, puts-none, puts-more}
+use Rattle.layout.specs.Layout.{bit, Puts}
+use Rattle.layout.proofs.Laws.{bool-byte, puts-none, puts-more}
 use borrow.Author.Needs.{needs}
-use Rattle.library.proofs.put_marks.Statement.{statement}
-use Rattle.library.proofs.put_marks.Tie as tie
+use Rattle.layout.proofs.put_marks.Statement.{statement}
+use Rattle.layout.proofs.put_marks.Tie as tie
 
 abbrev Inv-loop : tie.InvT-loop
 Inv-loop marks out₀ at k₀ out k = (k ≤ length marks) × Puts k (λ j. bit (getD marks j false)) at out₀ out

@@ -1,8 +1,8 @@
 -- `byte_of` meets its contract. Assumes nothing.
-use Rattle.library.proofs.Laws.{byte-0, byte-1, byte-2, byte-3}
+use Rattle.layout.proofs.Laws.{byte-0, byte-1, byte-2, byte-3}
 use borrow.Author.Needs.{needs}
-use Rattle.library.proofs.byte_of.Statement.{statement}
-use Rattle.library.proofs.byte_of.Tie as tie
+use Rattle.layout.proofs.byte_of.Statement.{statement}
+use Rattle.layout.proofs.byte_of.Tie as tie
 
 cast-result : tie.Need-cast-result
 cast-result c = search needs

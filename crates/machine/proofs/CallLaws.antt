@@ -37,11 +37,12 @@ use Rattle.spacings.specs.Gaps.{Asked, GapsOf}
 use Rattle.spacings.proofs.SourceLaws.{plain-pulses}
 use Rattle.spacings.proofs.GapLaws.{gap-of}
 use Rattle.words.specs.declared.Words.{Words}
-use Rattle.steps.specs.Parts.{Known, Sourced}
+use Rattle.arrivals.specs.Parts.{Known, Sourced}
 use Rattle.words.specs.Words.{awakeIn, Ages, Holds, holdsOn, Goes, Keeps, Above, raisedTo}
 use Rattle.steps.specs.Steps.{Workable, worked}
-use Rattle.steps.proofs.MaskLaws.{none-above, mark-in, heard-under}
-use Rattle.steps.proofs.StepLaws.{arrive-none, ages-same}
+use Rattle.arrivals.proofs.MaskLaws.{none-above, mark-in, heard-under}
+use Rattle.arrivals.proofs.ArriveLaws.{arrive-none}
+use Rattle.steps.proofs.StepLaws.{ages-same}
 use Rattle.machine.specs.declared.call.Call.{Call}
 use Rattle.machine.specs.declared.call.Advanced.{Advanced}
 use Rattle.model.specs.History.{isDone}

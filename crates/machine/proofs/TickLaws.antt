@@ -25,7 +25,7 @@ use Rattle.spacings.specs.Sources.{SourcesOf}
 use Rattle.spacings.specs.Gaps.{GapsOf}
 use Rattle.model.specs.Run.{heard, marksIn}
 use Rattle.words.specs.declared.Words.{Words}
-use Rattle.steps.specs.Parts.{Sourced}
+use Rattle.arrivals.specs.Parts.{Sourced}
 use Rattle.words.specs.Words.{raisedTo}
 use Rattle.records.specs.Record.{Packs}
 use Rattle.machine.specs.Calls.{TablesOf, Tracks}

@@ -26,7 +26,7 @@ use Rattle.spacings.specs.declared.Sources.{Sources}
 use Rattle.spacings.specs.Sources.{spacingBy, sourcesWith, SourcesOf}
 use Rattle.spacings.specs.Gaps.{Asked, GapsOf}
 use Rattle.words.specs.declared.Words.{Words}
-use Rattle.steps.specs.Parts.{Known, Sourced}
+use Rattle.arrivals.specs.Parts.{Known, Sourced}
 use Rattle.words.specs.Words.{Ages, Holds, Goes, Keeps, Above, raisedTo}
 use Rattle.steps.specs.Steps.{worked}
 use Rattle.machine.specs.declared.call.Call.{Call}

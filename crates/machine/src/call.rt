@@ -1,13 +1,13 @@
 // One call of the tick machine on words of bits: the refusals of its arrivals, and the four steps.
 
+use arrivals::arrive;
+use arrivals::at_tempos;
+use arrivals::larger;
 use model::Outcome;
 use model::Policy;
 use model::Refusal;
 use spacings::gap_at;
 use spacings::on_knob;
-use steps::arrive;
-use steps::at_tempos;
-use steps::larger;
 use steps::pass;
 use steps::work;
 use words::Words;

@@ -27,7 +27,8 @@ use Rattle.words.specs.declared.Words.{Words}
 use Rattle.sets.specs.Sets.{member}
 use Rattle.words.specs.Words.{awakeIn, Holds, Goes}
 use Rattle.steps.specs.Steps.{Chosen, worked}
-use Rattle.steps.proofs.MarkLaws.{SameMarks, marks-more}
+use Rattle.words.proofs.WordLaws.{SameMarks}
+use Rattle.steps.proofs.MarkLaws.{marks-more}
 use Rattle.steps.proofs.ChoiceLaws.{goes-more, goes-same}
 use Rattle.steps.proofs.StepLaws.{work-none, work-on, passes, set-same}
 use Rattle.lemmas.proofs.Tests.{within, or-false}

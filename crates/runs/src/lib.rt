@@ -1,5 +1,6 @@
 // A run of many tick calls from the start: the description is judged and tabulated once, and the record is kept as words of bits.
 
+use arrivals::raise;
 use machine::call::Call;
 use machine::call::advance;
 use machine::tick::refused;
@@ -25,7 +26,6 @@ use spacings::Sources;
 use spacings::gaps_by;
 use spacings::sources_of;
 use steps::chosen;
-use steps::raise;
 use wiring::Wiring;
 use wiring::wiring_of;
 ghost use mathlib.Core.Path.{_≡_};

@@ -1,4 +1,4 @@
--- The rows of a wiring as sets of links, and the bits of a task's number. Assumes nothing.
+-- The rows of a wiring as sets of links, the bits of a task's number, and words with the same marks. Assumes nothing.
 use Prim.Native.Nat.{ℕ, zero, suc, _+_, _*_, _/_, _%_, _≤_, _<_}
 use mathlib.Core.Path.{_≡_, refl, ap, _∙_}
 use mathlib.Core.Bool.{Bool, true, false, _&&_, cond}
@@ -16,7 +16,9 @@ use Rattle.sets.specs.Sets.{member}
 use Rattle.sets.specs.Wide.{wordIn, inside}
 use Rattle.sets.proofs.SetLaws.{member-none}
 use Rattle.wiring.specs.Rows.{RowsOf}
-use Rattle.words.specs.Words.{wideAt}
+use Rattle.model.specs.declared.Machine.{Machine}
+use Rattle.words.specs.declared.Words.{Words}
+use Rattle.words.specs.Words.{wideAt, Marks}
 use lib.Bits.{bitAnd, and-mask}
 use native.Mathlib.Nat.{mod-eq-of-lt}
 
@@ -59,3 +61,25 @@ row-into d rows x g r = row-inside rows (9 * x + 4) (d .«link_count») (λ l. e
 pub kept-number : (b : Bool) (h : ℕ) → h < 64 → bitAnd h (cond b 63 0) ≡ cond b h 0
 kept-number true h p = and-mask h 6 ∙ mod-eq-of-lt p
 kept-number false h p = and-mask h 0 ∙ (let z : h % 1 ≡ 0 = omega arith in z)
+
+-- the same marks in words that differ otherwise
+pub record SameMarks (w w′ : Words) : Type 0 where
+  pub woken : w′ .woken ≡ w .woken
+  pub part : w′ .part ≡ w .part
+  pub fresh : w′ .fresh ≡ w .fresh
+  pub taken : w′ .taken ≡ w .taken
+  pub dropped : w′ .dropped ≡ w .dropped
+
+pub marks-same : (d : Description) (w w′ : Words) (m : Machine) → SameMarks w w′ → Marks d w m → Marks d w′ m
+marks-same d w w′ m s h = record {
+  sized = h .sized;
+  no-zero = rw (s .woken, s .part) (h .no-zero);
+  present = λ k p. h .present k (rw (s .woken, s .part) at p);
+  part = λ k p. rw (s .part) (h .part k p);
+  awake = λ k p. rw (s .woken, s .part) (h .awake k p);
+  again = λ k p. rw (s .woken, s .part) (h .again k p);
+  waiting = λ l. rw (s .fresh, s .taken) (h .waiting l);
+  late = λ l. rw (s .fresh, s .part) (h .late l);
+  dropped = λ l. rw (s .fresh, s .taken, s .dropped) (h .dropped l);
+  held = λ l p. rw (s .part) (h .held l (rw (s .taken) at p));
+}

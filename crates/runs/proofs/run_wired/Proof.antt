@@ -25,7 +25,7 @@ use Rattle.spacings.specs.Gaps.{Asked, GapsOf}
 use Rattle.spacings.proofs.GapLaws.{asked-none}
 use Rattle.sets.specs.Sets.{member}
 use Rattle.sets.proofs.SetLaws.{member-none}
-use Rattle.steps.proofs.MaskLaws.{sourced}
+use Rattle.arrivals.proofs.MaskLaws.{sourced}
 use Rattle.records.proofs.RecordLaws.{begun, none-going, none-kept}
 use borrow.Author.Tests.{ne-eqb}
 use Rattle.lemmas.proofs.Tests.{not-both}

@@ -15,7 +15,7 @@ use Rattle.lemmas.proofs.Table.{getD-tab}
 use Rattle.sets.specs.Sets.{member, FirstIn, RestOf}
 use Rattle.sets.proofs.SetLaws.{member-none}
 use Rattle.model.specs.Run.{heard, marksIn}
-use Rattle.steps.specs.Parts.{Sourced}
+use Rattle.arrivals.specs.Parts.{Sourced}
 use Rattle.lemmas.proofs.Bools.{and-on}
 
 -- a mask with nothing left above the first s bits has no bit there

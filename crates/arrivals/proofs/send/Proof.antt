@@ -3,8 +3,8 @@ use mathlib.Core.Path.{refl, ap, _∙_}
 use mathlib.Core.Bool.{_||_}
 use Rattle.sets.specs.Wide.{inside}
 use borrow.Author.Needs.{needs}
-use Rattle.steps.proofs.send.Statement.{statement}
-use Rattle.steps.proofs.send.Tie as tie
+use Rattle.arrivals.proofs.send.Statement.{statement}
+use Rattle.arrivals.proofs.send.Tie as tie
 
 both-requires : tie.Need-both-requires
 both-requires c κs = search needs

@@ -1,10 +1,10 @@
 -- `fold` meets its contract: no kept tempo is below the fastest given, or all are raised. Assumes nothing.
 use native.Mathlib.Omega.{arith}
-use Rattle.steps.proofs.StepLaws.{not-below}
+use Rattle.arrivals.proofs.TempoLaws.{not-below}
 use borrow.Author.Needs.{needs}
 use borrow.Author.Tests.{eqb-true}
-use Rattle.steps.proofs.fold.Statement.{statement}
-use Rattle.steps.proofs.fold.Tie as tie
+use Rattle.arrivals.proofs.fold.Statement.{statement}
+use Rattle.arrivals.proofs.fold.Tie as tie
 
 returns : tie.Need-returns
 returns c =

@@ -3,8 +3,8 @@ use mathlib.Core.Path.{refl}
 use lib.Dec.{eqb}
 use native.Mathlib.Omega.{arith}
 use borrow.Author.Tests.{eq-eqb, ne-eqb}
-use Rattle.steps.proofs.raised.Statement.{statement}
-use Rattle.steps.proofs.raised.Tie as tie
+use Rattle.arrivals.proofs.raised.Statement.{statement}
+use Rattle.arrivals.proofs.raised.Tie as tie
 
 returns : tie.Need-returns
 returns c = rw (eq-eqb (c .before .args .f) 0 (c .if1 .taken)) refl

@@ -1,5 +1,5 @@
 -- The links out of all arriving sources, joined in a loop over the mask and fired together. Assumes nothing.
-use Prim.Native.Nat.{ℕ, _+_, _-_, _*_, _≤_, _<_, min}
+use Prim.Native.Nat.{ℕ, zero, suc, _+_, _-_, _*_, _≤_, _<_, min}
 use mathlib.Core.Path.{_≡_, refl, sym, ap, subst, _∙_}
 use mathlib.Core.Bool.{Bool, true, false, _||_, _&&_, cond}
 use mathlib.Core.List.{List}
@@ -10,9 +10,9 @@ use lib.Dec.{eqb, ltb}
 use borrow.Author.Tests.{eqb-true, eq-eqb, ne-eqb, lt-ltb, le-ltb, ltb-true}
 use Rattle.model.specs.declared.Description.{Description}
 use Rattle.model.specs.declared.Machine.{Machine}
-use Rattle.model.specs.Basics.{anyN}
+use Rattle.model.specs.Basics.{anyN, upTo}
 use Rattle.model.specs.Graph.{linkAt, linked}
-use Rattle.model.specs.Machine.{awakeAt, usedAt, againAt, waitingAt, lateAt, droppedAt, ageAt, longestGap, arrive}
+use Rattle.model.specs.Machine.{awakeAt, usedAt, againAt, waitingAt, lateAt, droppedAt, ageAt, longestGap, arriveOne, arrive}
 use Rattle.lemmas.proofs.Tests.{same-test, not-both, and-left, and-right, and-false-right, both}
 use Rattle.lemmas.proofs.Bools.{or-none, or-idle, or-idle-right}
 use Rattle.lemmas.proofs.Range.{any-at, any-found, any-none}
@@ -24,12 +24,12 @@ use Rattle.sets.specs.Wide.{inside}
 use Rattle.wiring.specs.Rows.{RowsOf}
 use Rattle.words.specs.declared.Words.{Words}
 use Rattle.model.specs.Run.{heard, marksIn}
-use Rattle.steps.specs.Parts.{Known}
+use Rattle.arrivals.specs.Parts.{Known}
 use Rattle.words.specs.Words.{wideAt, enters, Ages, Holds}
-use Rattle.steps.specs.Steps.{Sent, Stored}
-use Rattle.steps.proofs.MaskLaws.{Turn, mark-in, heard-under, passed, any-turn}
+use Rattle.arrivals.specs.Arrivals.{Sent, Stored}
+use Rattle.arrivals.proofs.MaskLaws.{Turn, mark-in, heard-under, passed, any-turn}
 use Rattle.words.proofs.WordLaws.{row-out}
-use Rattle.steps.proofs.MarkLaws.{woken, marks-sent}
+use Rattle.arrivals.proofs.FireLaws.{woken, marks-sent}
 use Rattle.lemmas.proofs.Table.{getD-set}
 
 -- numbers stored for the sources of a mask below r
@@ -192,3 +192,22 @@ module _ (d : Description) (rows : List ℕ) (mask r tick : ℕ) (since₀ since
       here : (u : ℕ) → u < d .«source_count» → (b : Bool) → heard mask u ≡ b → ageAt m′ u ≡ min (longestGap d u) (tick - getD since u 0)
       here u p true e = let a : ageAt m′ u ≡ 0 = age u p ∙ rw e refl in omega (arith, s .here u (omega (arith, k .0)) e)
       here u p false e = let a : ageAt m′ u ≡ ageAt m u = age u p ∙ rw e refl in omega (arith, s .others u e, h .ages .here u p)
+
+-- steps that change nothing from a place on
+upTo-rest : {A : Type 0} (l j : ℕ) (step : ℕ → A → A) (a : A) → ((k : ℕ) → l ≤ k → k < l + j → (x : A) → x ≡ step k x) → upTo l step a ≡ upTo (l + j) step a
+unfolding upTo
+upTo-rest l zero step a h = let e : l ≡ l + 0 = omega arith in ap (λ n. upTo n step a) e
+upTo-rest l (suc j) step a h =
+    let e : suc (l + j) ≡ l + suc j = omega arith in
+    upTo-rest l j step a (λ k a b. h k a (omega arith)) ∙ h (l + j) (omega arith) (omega arith) (upTo (l + j) step a) ∙ ap (λ n. upTo n step a) e
+
+-- a source that does not arrive
+arrive-off : (d : Description) (marks : List Bool) (u : ℕ) (m : Machine) → getD marks u false ≡ false → m ≡ arriveOne d marks u m
+unfolding arriveOne
+arrive-off d marks u m e = rw e refl
+
+-- sources of a mask with no bit from l up to n
+pub arrive-none : (d : Description) (mask l n : ℕ) (m : Machine) → l ≤ n → n ≤ 16 → ((u : ℕ) → l ≤ u → u < n → heard mask u ≡ false) → upTo l (arriveOne d (marksIn mask)) m ≡ upTo n (arriveOne d (marksIn mask)) m
+arrive-none d mask l n m h p none =
+    let q : l + (n - l) ≡ n = omega arith in
+    upTo-rest l (n - l) (arriveOne d (marksIn mask)) m (λ u a b x. arrive-off d (marksIn mask) u x (mark-in mask u (omega arith) ∙ none u a (omega arith))) ∙ ap (λ n. upTo n (arriveOne d (marksIn mask)) m) q

@@ -3,11 +3,11 @@ use Prim.Native.Nat.{_+_, _*_}
 use mathlib.Core.Path.{subst}
 use lib.ListN.{getD}
 use Rattle.sets.specs.declared.wide.Wide.{Wide}
-use Rattle.steps.specs.Steps.{Sent}
-use Rattle.steps.proofs.MarkLaws.{marks-fired}
+use Rattle.arrivals.specs.Arrivals.{Sent}
+use Rattle.arrivals.proofs.FireLaws.{marks-fired}
 use borrow.Author.Needs.{needs}
-use Rattle.steps.proofs.fire.Statement.{statement}
-use Rattle.steps.proofs.fire.Tie as tie
+use Rattle.arrivals.proofs.fire.Statement.{statement}
+use Rattle.arrivals.proofs.fire.Tie as tie
 
 mul-row : tie.Need-mul-row
 mul-row c = search needs

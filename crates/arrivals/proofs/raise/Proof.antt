@@ -7,8 +7,8 @@ use lib.Seq.{getD-set-other}
 use Rattle.lemmas.proofs.Table.{stored}
 use Rattle.words.specs.Words.{raisedTo}
 use borrow.Author.Needs.{needs}
-use Rattle.steps.proofs.raise.Statement.{statement}
-use Rattle.steps.proofs.raise.Tie as tie
+use Rattle.arrivals.proofs.raise.Statement.{statement}
+use Rattle.arrivals.proofs.raise.Tie as tie
 
 abbrev Inv-loop : tie.InvT-loop
 Inv-loop t fastest₀ u₀ fastest u = (u ≤ 16) × (length fastest ≡ 16) × ((k : ℕ) → k < u → getD fastest k 0 ≡ raisedTo t (getD fastest₀ k 0)) × ((k : ℕ) → u ≤ k → getD fastest k 0 ≡ getD fastest₀ k 0)

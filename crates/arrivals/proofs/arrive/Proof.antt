@@ -9,13 +9,13 @@ use Rattle.sets.specs.Wide.{inside}
 use Rattle.model.specs.Machine.{arrive}
 use Rattle.model.specs.Run.{marksIn}
 use Rattle.words.specs.declared.Words.{Words}
-use Rattle.steps.specs.Steps.{Stored}
-use Rattle.steps.proofs.MaskLaws.{Rest, Turn, rest-all, rest-under, least, turn}
-use Rattle.steps.proofs.StepLaws.{tempos-hold}
-use Rattle.steps.proofs.ArriveLaws.{stored-none, stored-more, stored-since, stored-then, stored-all, Joined, joined-one, joined-more, all-arrived}
+use Rattle.arrivals.specs.Arrivals.{Stored}
+use Rattle.arrivals.proofs.MaskLaws.{Rest, Turn, rest-all, rest-under, least, turn}
+use Rattle.arrivals.proofs.TempoLaws.{tempos-hold}
+use Rattle.arrivals.proofs.ArriveLaws.{stored-none, stored-more, stored-since, stored-then, stored-all, Joined, joined-one, joined-more, all-arrived}
 use borrow.Author.Needs.{needs}
-use Rattle.steps.proofs.arrive.Statement.{statement}
-use Rattle.steps.proofs.arrive.Tie as tie
+use Rattle.arrivals.proofs.arrive.Statement.{statement}
+use Rattle.arrivals.proofs.arrive.Tie as tie
 
 abbrev Inv-loop : tie.InvT-loop
 Inv-loop rows t peak mask w since₀ fastest₀ one out₀ wakes₀ rest₀ since fastest out wakes rest =

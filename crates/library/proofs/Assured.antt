@@ -46,8 +46,9 @@ use Rattle.theory.proofs.QuotedFile.{QuotedFile, quoted-file}
 use Rattle.assurance.proofs.Replay.{callAt, tick-refused}
 use Rattle.assurance.proofs.Demand3.{up-next}
 use Rattle.assurance.proofs.PlainCalls.{plain-calls, plain-assured}
-use Rattle.machine.proofs.RunLaws.{calls-length, calls-at, codes-length}
-use Rattle.library.specs.Replies.{reply, recordByte, recordBytes, runOutcome, QuoteReplied, RunReplied, RunAssured, CallsUpTo}
+use Rattle.runs.proofs.RunLaws.{calls-length, calls-at, codes-length}
+use Rattle.library.specs.Replies.{reply, runOutcome, QuoteReplied, RunReplied, RunAssured, CallsUpTo}
+use Rattle.layout.specs.Layout.{recordByte, recordBytes}
 use Rattle.library.proofs.Laws.{numbered, reply-refused, reply-done}
 use Rattle.library.proofs.bench_quote as quote
 use Rattle.library.proofs.bench_hold_quote as hold-quote

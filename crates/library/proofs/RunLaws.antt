@@ -1,5 +1,5 @@
 -- A run for C and Rust by its checks: the file, the buffers, then the calls. Assumes nothing.
-use Prim.Native.Nat.{ℕ, _+_, _/_, _≤_, _<_}
+use Prim.Native.Nat.{ℕ, _/_, _≤_, _<_}
 use mathlib.Core.Path.{_≡_, refl, sym, ap, _∙_}
 use mathlib.Core.Bool.{Bool, true, false, cond, _||_}
 use mathlib.Core.List.{List, _++_}
@@ -24,8 +24,9 @@ use Rattle.theory.proofs.NumberBytes.{Bytes as AllBytes}
 use Rattle.theory.proofs.FileLength.{placeIn, read-place}
 use Rattle.theory.proofs.ReadBack.{read-judged}
 use Rattle.model.specs.Run.{callsIn, page, ranFrom}
-use Rattle.machine.proofs.RunLaws.{calls-length}
-use Rattle.library.specs.Replies.{reply, recordBytes, runOutcome, codesAfter, recordAfter}
+use Rattle.runs.proofs.RunLaws.{calls-length}
+use Rattle.library.specs.Replies.{reply, runOutcome, codesAfter, recordAfter}
+use Rattle.layout.specs.Layout.{recordBytes}
 use Rattle.library.proofs.Laws.{reply-done}
 
 module _ (s : List ℕ) (x : Reading) (whole : x ≡ readFile s) where

@@ -1,7 +1,7 @@
 -- What the calls for C and Rust answer: one number, and the lent bytes as they leave them.
-use Prim.Native.Nat.{ℕ, _+_, _-_, _*_, _/_, _%_, _≤_, _<_}
+use Prim.Native.Nat.{ℕ, _+_, _*_, _/_, _≤_, _<_}
 use mathlib.Core.Path.{_≡_}
-use mathlib.Core.Bool.{Bool, false, cond, _||_}
+use mathlib.Core.Bool.{cond, _||_}
 use mathlib.Core.List.{List, _++_}
 use lib.ListN.{length, getD, take, drop}
 use lib.Dec.{ltb, eqb}
@@ -13,7 +13,6 @@ use Rattle.model.specs.declared.Ticked.{Ticked}
 use Rattle.model.specs.declared.Refusal.the-variants.{ShortPage}
 use Rattle.model.specs.declared.Outcome.{Outcome}
 use Rattle.model.specs.declared.Outcome.the-variants.{Done, Refused}
-use Rattle.model.specs.Basics.{tab}
 use Rattle.model.specs.Refusals.{Numbered, ofOutcome, ofFilled, ofQuote, onDone}
 use Rattle.model.specs.Field.{numberIn}
 use Rattle.model.specs.File.{readFile, filledBy}
@@ -23,6 +22,7 @@ use Rattle.model.specs.Machine.{idle}
 use Rattle.model.specs.History.{left}
 use Rattle.model.specs.Promise.{Calls, Assured}
 use Rattle.model.specs.Run.{callsIn, codes, page}
+use Rattle.layout.specs.Layout.{recordBytes}
 
 -- an answer as one number: its value where the work is done, or else the refusal's number and place below 0
 unfoldable pub reply : Numbered → ℤ
@@ -35,34 +35,6 @@ ReportReplied p s out out′ r = (r ≡ reply (ofFilled (reported p s out))) × 
 -- what a quote answers
 abbrev pub QuoteReplied : Policy → List ℕ → ℤ → Type 0
 QuoteReplied p s r = r ≡ reply (ofQuote (quotedFile p s))
-
--- a machine's record in 1,056 bytes: 32 awake, 32 times 4 used, 256 waiting, 256 dropped, 16 times 4 ages, 16 times 2 fastest tempos, 32 again and
--- 256 late, numbers high byte first
-abbrev pub bit : Bool → ℕ
-bit b = cond b 1 0
-
--- byte k of a number's four
-abbrev pub byteIn : ℕ → ℕ → ℕ
-byteIn n k = cond (eqb k 0) (n / 16777216 % 256) (cond (eqb k 1) (n / 65536 % 256) (cond (eqb k 2) (n / 256 % 256) (n % 256)))
-
-unfoldable pub recordByte : Machine → ℕ → ℕ
-recordByte m i =
-    cond (ltb i 32) (bit (getD (m .awake) i false))
-    (cond (ltb i 160) (byteIn (getD (m .used) ((i - 32) / 4) 0) ((i - 32) % 4))
-    (cond (ltb i 416) (bit (getD (m .waiting) (i - 160) false))
-    (cond (ltb i 672) (bit (getD (m .dropped) (i - 416) false))
-    (cond (ltb i 736) (byteIn (getD (m .ages) ((i - 672) / 4) 0) ((i - 672) % 4))
-    (cond (ltb i 768) (byteIn (getD (m .fastest) ((i - 736) / 2) 0) ((i - 736) % 2 + 2))
-    (cond (ltb i 800) (bit (getD (m .again) (i - 768) false))
-    (bit (getD (m .late) (i - 800) false))))))))
-
-unfoldable pub recordBytes : Machine → List ℕ
-recordBytes m = tab 1056 (recordByte m)
-
--- n bytes are put from a place on: a buffer that has a text's bytes up to there has them up to the end of the n
-pub record Puts (n : ℕ) (byte : ℕ → ℕ) (at : ℕ) (out out′ : List ℕ) : Type 0 where
-  pub sized : length out′ ≡ length out
-  pub bytes : (text out₀ : List ℕ) → at + n ≤ length text → at + n ≤ length out₀ → ((k : ℕ) → k < n → getD text (at + k) 0 ≡ byte k) → out ≡ take at text ++ drop at out₀ → out′ ≡ take (at + n) text ++ drop (at + n) out₀
 
 -- a run: refused as its file is, then 13 where a buffer is short; the buffers change only if it is done
 unfoldable pub runOutcome : List ℕ → List ℕ → List ℕ → List ℕ → Outcome

@@ -1,8 +1,8 @@
 // The calls for programs in C and Rust: lent bytes and numbers in, one number out. A number below 0 is a refusal. There is a call of each kind for the
 // preemptive model and one for the hold-on model.
 
+use layout::put_record;
 use model::Filled;
-use model::Machine;
 use model::Outcome;
 use model::Policy;
 use model::Quote;
@@ -10,14 +10,11 @@ use model::Refusal;
 use refusals::number_of;
 use ticks::run_accepted;
 ghost use mathlib.Core.Path.{_≡_};
-ghost use mathlib.Core.Bool.{false};
-ghost use Prim.Native.Nat.{_+_, _*_, _/_, _%_, _<_, _≤_};
-ghost use mathlib.Core.List.{_++_};
-ghost use lib.ListN.{length, getD, drop};
+ghost use Prim.Native.Nat.{_≤_};
 ghost use lib.IntN.{pos, negℤ};
 ghost use Rattle.model.specs.declared.Policy.the-variants.{Preemptive, HoldOn};
 ghost use Rattle.model.specs.Refusals.{refusal};
-ghost use Rattle.library.specs.Replies.{reply, bit, byteIn, recordBytes, Puts, ReportReplied, QuoteReplied, RunReplied};
+ghost use Rattle.library.specs.Replies.{reply, ReportReplied, QuoteReplied, RunReplied};
 
 // x itself.
 fn positive(x: u32) -> i64
@@ -40,73 +37,6 @@ fn refusal_code(why: Refusal, place: usize) -> i64
 {
     let number = number_of(why);
     negative((10000 * number + place) as u32)
-}
-
-// Byte k of a number's four, high byte first.
-fn byte_of(n: u32, k: usize) -> u8
-    ensures { λ r. ⌜ r ≡ byteIn n k ⌝ }
-{
-    if k == 0 {
-        return (n / 16777216 % 256) as u8;
-    }
-    if k == 1 {
-        return (n / 65536 % 256) as u8;
-    }
-    if k == 2 {
-        return (n / 256 % 256) as u8;
-    }
-    (n % 256) as u8
-}
-
-// A byte for each mark, from a place of the buffer on.
-fn put_marks(marks: &[bool], out: &mut [u8], at: usize)
-    requires { ⌜ at + length (now marks) ≤ length (now out) ⌝ }
-    ensures { λ _. ⌜ Puts (length (now (marks .entry))) (λ k. bit (getD (now (marks .entry)) k false)) at (now (out .entry)) (now (out .exit)) ⌝ }
-{
-    let mut k: usize = 0;
-    while k < marks.len() {
-        out[at + k] = marks[k] as u8;
-        k += 1;
-    }
-}
-
-// Four bytes for each number, from a place of the buffer on.
-fn put_numbers(numbers: &[u32], out: &mut [u8], at: usize)
-    requires { ⌜ (length (now numbers) ≤ 32) × (at + 4 * length (now numbers) ≤ length (now out)) ⌝ }
-    ensures { λ _. ⌜ Puts (4 * length (now (numbers .entry))) (λ k. byteIn (getD (now (numbers .entry)) (k / 4) 0) (k % 4)) at (now (out .entry)) (now (out .exit)) ⌝ }
-{
-    let mut k: usize = 0;
-    while k < 4 * numbers.len() {
-        out[at + k] = byte_of(numbers[k / 4], k % 4);
-        k += 1;
-    }
-}
-
-// Two bytes for each tempo, from a place of the buffer on.
-fn put_tempos(tempos: &[u32], out: &mut [u8], at: usize)
-    requires { ⌜ (length (now tempos) ≤ 32) × (at + 2 * length (now tempos) ≤ length (now out)) ⌝ }
-    ensures { λ _. ⌜ Puts (2 * length (now (tempos .entry))) (λ k. byteIn (getD (now (tempos .entry)) (k / 2) 0) (k % 2 + 2)) at (now (out .entry)) (now (out .exit)) ⌝ }
-{
-    let mut k: usize = 0;
-    while k < 2 * tempos.len() {
-        out[at + k] = byte_of(tempos[k / 2], k % 2 + 2);
-        k += 1;
-    }
-}
-
-// A machine's record into a buffer that takes it.
-fn put_record(m: Machine, out: &mut [u8])
-    requires { ⌜ 1056 ≤ length (now out) ⌝ }
-    ensures { λ _. ⌜ now (out .exit) ≡ recordBytes m ++ drop 1056 (now (out .entry)) ⌝ }
-{
-    put_marks(&m.awake, &mut *out, 0);
-    put_numbers(&m.used, &mut *out, 32);
-    put_marks(&m.waiting, &mut *out, 160);
-    put_marks(&m.dropped, &mut *out, 416);
-    put_numbers(&m.ages, &mut *out, 672);
-    put_tempos(&m.fastest, &mut *out, 736);
-    put_marks(&m.again, &mut *out, 768);
-    put_marks(&m.late, out, 800);
 }
 
 // The report of a file into a buffer, on one model: its length, or the refusal 13 and no byte changed.

@@ -1,5 +1,5 @@
 -- One call by the tests that lead to each of its answers: strangers, sources that come too soon, and the four steps. Assumes nothing.
-use Prim.Native.Nat.{ℕ, zero, suc, _+_, _-_, _/_, _%_, _^_, _≤_, _<_, min, max}
+use Prim.Native.Nat.{ℕ, zero, suc, _+_, _-_, _/_, _%_, _^_, _≤_, _<_, max}
 use mathlib.Core.Path.{_≡_, refl, sym, ap, subst, _∙_}
 use mathlib.Core.Bool.{Bool, true, false, _||_, _&&_, not, cond}
 use mathlib.Core.List.{List}
@@ -15,7 +15,6 @@ use Rattle.model.specs.declared.Description.{Description}
 use Rattle.model.specs.declared.Policy.{Policy}
 use Rattle.model.specs.declared.Machine.{Machine}
 use Rattle.model.specs.declared.Arrivals.{Arrivals}
-use Rattle.model.specs.declared.Ticked.{Ticked}
 use Rattle.model.specs.declared.Outcome.{Outcome}
 use Rattle.model.specs.declared.Outcome.the-variants.{Done, Refused}
 use Rattle.model.specs.declared.Refusal.{Refusal}
@@ -33,16 +32,17 @@ use Rattle.theory.proofs.WellFormed.{WellFormed}
 use Rattle.theory.proofs.Spacing.{gap-anti}
 use Rattle.assurance.proofs.Arriving.{arrived}
 use Rattle.assurance.proofs.Stepping.{overAt, Stepped, step}
-use Rattle.sets.specs.Sets.{member}
 use Rattle.spacings.specs.Sources.{sourcesWith, SourcesOf}
 use Rattle.spacings.specs.Gaps.{Asked, GapsOf}
 use Rattle.spacings.proofs.SourceLaws.{plain-pulses}
 use Rattle.spacings.proofs.GapLaws.{gap-of}
-use Rattle.steps.specs.declared.words.Words.{Words}
-use Rattle.steps.specs.Parts.{Known, Sourced}
-use Rattle.steps.specs.Words.{awakeIn, Ages, Holds, holdsOn, Goes, Keeps, Workable, worked, Above, raisedTo}
-use Rattle.steps.proofs.MaskLaws.{none-above, mark-in, heard-under}
-use Rattle.steps.proofs.StepLaws.{arrive-none, ages-same}
+use Rattle.words.specs.declared.Words.{Words}
+use Rattle.arrivals.specs.Parts.{Known, Sourced}
+use Rattle.words.specs.Words.{awakeIn, Ages, Holds, holdsOn, Goes, Keeps, Above, raisedTo}
+use Rattle.steps.specs.Steps.{Workable, worked}
+use Rattle.arrivals.proofs.MaskLaws.{none-above, mark-in, heard-under}
+use Rattle.arrivals.proofs.ArriveLaws.{arrive-none}
+use Rattle.steps.proofs.StepLaws.{ages-same}
 use Rattle.machine.specs.declared.call.Call.{Call}
 use Rattle.machine.specs.declared.call.Advanced.{Advanced}
 use Rattle.model.specs.History.{isDone}

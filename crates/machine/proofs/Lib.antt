@@ -1,5 +1,3 @@
--- Laws that the proofs of this crate's functions share.
+-- Laws that the proofs of this crate's functions share; a run of calls cites some of them.
 pub mod CallLaws
-pub mod RunLaws
 pub mod TickLaws
-pub mod SkipLaws

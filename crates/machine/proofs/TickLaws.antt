@@ -24,10 +24,10 @@ use Rattle.spacings.specs.declared.Sources.{Sources}
 use Rattle.spacings.specs.Sources.{SourcesOf}
 use Rattle.spacings.specs.Gaps.{GapsOf}
 use Rattle.model.specs.Run.{heard, marksIn}
-use Rattle.steps.specs.declared.words.Words.{Words}
-use Rattle.steps.specs.Parts.{Sourced}
-use Rattle.steps.specs.Words.{raisedTo}
-use Rattle.steps.specs.Record.{Packs}
+use Rattle.words.specs.declared.Words.{Words}
+use Rattle.arrivals.specs.Parts.{Sourced}
+use Rattle.words.specs.Words.{raisedTo}
+use Rattle.records.specs.Record.{Packs}
 use Rattle.machine.specs.Calls.{TablesOf, Tracks}
 use Rattle.machine.proofs.CallLaws.{raised-some, kept-rule}
 

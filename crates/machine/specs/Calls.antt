@@ -25,9 +25,10 @@ use Rattle.wiring.specs.Rows.{RowsOf, WiringOf}
 use Rattle.spacings.specs.declared.Sources.{Sources}
 use Rattle.spacings.specs.Sources.{spacingBy, sourcesWith, SourcesOf}
 use Rattle.spacings.specs.Gaps.{Asked, GapsOf}
-use Rattle.steps.specs.declared.words.Words.{Words}
-use Rattle.steps.specs.Parts.{Known, Sourced}
-use Rattle.steps.specs.Words.{Ages, Holds, Goes, Keeps, Above, raisedTo, worked}
+use Rattle.words.specs.declared.Words.{Words}
+use Rattle.arrivals.specs.Parts.{Known, Sourced}
+use Rattle.words.specs.Words.{Ages, Holds, Goes, Keeps, Above, raisedTo}
+use Rattle.steps.specs.Steps.{worked}
 use Rattle.machine.specs.declared.call.Call.{Call}
 use Rattle.machine.specs.declared.call.Advanced.{Advanced}
 

@@ -1,3 +1,2 @@
--- What the contracts of the tick machine's code cite beside the definitions of `model` and the words of `steps`.
+-- What the contracts of a call cite beside the definitions of `model`, the words of `words` and the steps of `steps`.
 pub mod Calls
-pub mod Run

@@ -1,23 +1,23 @@
 // One call of the tick machine on words of bits: the refusals of its arrivals, and the four steps.
 
+use arrivals::arrive;
+use arrivals::at_tempos;
+use arrivals::larger;
 use model::Outcome;
 use model::Policy;
 use model::Refusal;
 use spacings::gap_at;
 use spacings::on_knob;
-use steps::step::arrive;
-use steps::step::at_tempos;
-use steps::step::larger;
-use steps::step::long;
-use steps::step::pass;
-use steps::step::work;
-use steps::words::Words;
+use steps::pass;
+use steps::work;
+use words::Words;
+use words::long;
 ghost use mathlib.Core.Path.{_≡_};
 ghost use Prim.Native.Nat.{_+_, _≤_, _<_, _/_, _^_};
 ghost use lib.Dec.{ltb};
 ghost use Rattle.model.specs.declared.Outcome.the-variants.{Done, Refused};
 ghost use Rattle.spacings.specs.Gaps.{Asked};
-ghost use Rattle.steps.specs.Words.{Workable};
+ghost use Rattle.steps.specs.Steps.{Workable};
 ghost use Rattle.machine.specs.Calls.{TimedAt, SoonAt, Timed, SoonIs, Hearing, Hears, RunsOn, Going, Advances};
 
 // What a caller brings to a tick: the arrivals, whose bit u is source 33 + u, the tempo, and finish.

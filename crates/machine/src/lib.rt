@@ -1,5 +1,4 @@
-// The tick machine: one call on words of bits, the tick call on a record, and a run of many calls.
+// One call of the tick machine: on words of bits, and on a record.
 
 pub mod call;
-pub mod run;
 pub mod tick;

@@ -2,23 +2,23 @@
 
 use crate::call::Call;
 use crate::call::advance;
+use arrivals::raise;
 use model::Arrivals;
 use model::Machine;
 use model::Outcome;
 use model::Policy;
 use model::Refusal;
 use model::Ticked;
+use records::pack;
+use records::unpack;
+use records::word_in;
 use rules::lawful;
 use spacings::Sources;
-use steps::record::pack;
-use steps::record::unpack;
-use steps::record::word_in;
-use steps::step::raise;
 use wiring::Wiring;
 ghost use mathlib.Core.Path.{_≡_};
 ghost use Rattle.model.specs.declared.Outcome.the-variants.{Refused};
 ghost use Rattle.model.specs.Run.{marksIn};
-ghost use Rattle.steps.specs.Parts.{Sourced};
+ghost use Rattle.arrivals.specs.Parts.{Sourced};
 ghost use Rattle.machine.specs.Calls.{Accepted, TickIs};
 
 // The mask of some arrivals.

@@ -1,5 +1,5 @@
 -- The task that a tick runs, on the words and in the record that they hold; and the tasks that go on. Assumes nothing.
-use Prim.Native.Nat.{ℕ, zero, suc, _+_, _-_, _≤_, _<_}
+use Prim.Native.Nat.{ℕ, _-_, _≤_, _<_}
 use mathlib.Core.Path.{_≡_, refl, sym, ap, _∙_}
 use mathlib.Core.Bool.{Bool, true, false, _&&_, cond}
 use mathlib.Core.List.{List}
@@ -22,8 +22,9 @@ use Rattle.assurance.proofs.Firing.{getD-task}
 use Rattle.assurance.proofs.Ending.{highest-le, highest-above, highest-awake}
 use Rattle.assurance.proofs.Choosing.{Anew, Kept, chosen, running-le, running-part}
 use Rattle.sets.specs.Sets.{member}
-use Rattle.steps.specs.declared.words.Words.{Words}
-use Rattle.steps.specs.Words.{awakeIn, Holds, holdsOn, Goes, Chosen}
+use Rattle.words.specs.declared.Words.{Words}
+use Rattle.words.specs.Words.{awakeIn, Holds, holdsOn, Goes}
+use Rattle.steps.specs.Steps.{Chosen}
 use Rattle.steps.proofs.MarkLaws.{highest-is, highest-none}
 
 -- the highest of a list's marks, by what it is

@@ -1,134 +1,29 @@
--- Words of bits and the marks they hold: what a firing, a sleep and a change of another part do to them. Assumes nothing.
-use Prim.Native.Nat.{ℕ, zero, suc, _+_, _-_, _*_, _/_, _%_, _≤_, _<_}
+-- Words of bits and the marks they hold: what the end of a run, its beginning and a change of another part do to them. Assumes nothing.
+use Prim.Native.Nat.{ℕ, zero, suc, _+_, _-_, _*_, _≤_, _<_}
 use mathlib.Core.Path.{_≡_, refl, sym, ap, _∙_}
 use mathlib.Core.Bool.{Bool, true, false, _||_, _&&_, not, cond}
 use mathlib.Core.List.{List}
 use native.Mathlib.Omega.{arith}
-use native.Mathlib.Decide.{decLt}
 use lib.ListN.{getD, length-set}
 use lib.Dec.{eqb, ltb}
-use borrow.Author.Tests.{eqb-true, lt-ltb, le-ltb}
+use borrow.Author.Tests.{eqb-true, lt-ltb}
 use Rattle.model.specs.declared.Description.{Description}
 use Rattle.model.specs.declared.Machine.{Machine}
-use Rattle.model.specs.Graph.{linkAt, system}
-use Rattle.model.specs.Machine.{awakeAt, usedAt, waitingAt, droppedAt, againAt, lateAt, setUsed, fire, highest, complete, clearInto}
-use Rattle.lemmas.proofs.Tests.{Cmp, less, same, more, cmp, not-both, false-of, and-left, and-right, and-false-right, both, or-left, or-right, or-cases, or-false}
+use Rattle.model.specs.Graph.{linkAt}
+use Rattle.model.specs.Machine.{awakeAt, usedAt, waitingAt, droppedAt, againAt, lateAt, setUsed, highest, complete, clearInto}
+use Rattle.lemmas.proofs.Tests.{Cmp, less, same, more, cmp, not-both, false-of, and-left, and-right, and-false-right, both, or-left, or-right, or-cases}
 use Rattle.lemmas.proofs.Bools.{and-on}
-use Rattle.lemmas.proofs.Range.{any-found}
 use Rattle.theory.proofs.WellFormed.{WellFormed}
-use Rattle.assurance.proofs.Firing.{Sized, Fired, fired, getD-task}
+use Rattle.assurance.proofs.Firing.{Sized, getD-task}
 use Rattle.assurance.proofs.Ending.{highest-above, highest-awake, Cleared, cleared, Aged}
 use Rattle.sets.specs.declared.wide.Wide.{Wide}
 use Rattle.sets.specs.Sets.{member, LastIn}
-use Rattle.sets.specs.Wide.{wordIn, inside}
-use Rattle.sets.proofs.SetLaws.{member-none}
+use Rattle.sets.specs.Wide.{inside}
 use Rattle.wiring.specs.Rows.{RowsOf}
-use Rattle.steps.specs.declared.words.Words.{Words}
-use Rattle.steps.specs.Words.{wideAt, awakeIn, waitingIn, enters, Sent, Marks, ended}
-use Rattle.theory.proofs.Links.{to-most}
-
--- a node's words as a set: the links out of it, and those into it
-row-word : (rows : List ℕ) (i v : ℕ) → v < 4 → wordIn (wideAt rows i) v ≡ getD rows (i + v) 0
-unfolding wordIn
-row-word rows i zero h = let e : i ≡ i + 0 = omega arith in ap (λ k. getD rows k 0) e
-row-word rows i (suc zero) h = refl
-row-word rows i (suc (suc zero)) h = refl
-row-word rows i (suc (suc (suc zero))) h = refl
-row-word rows i (suc (suc (suc (suc v)))) h = absurd (omega arith)
-
-word-past : (s : Wide) (v : ℕ) → 4 ≤ v → wordIn s v ≡ 0
-unfolding wordIn
-word-past s zero h = absurd (omega arith)
-word-past s (suc zero) h = absurd (omega arith)
-word-past s (suc (suc zero)) h = absurd (omega arith)
-word-past s (suc (suc (suc zero))) h = absurd (omega arith)
-word-past s (suc (suc (suc (suc v)))) h = refl
-
-pub inside-past : (s : Wide) (l : ℕ) → 256 ≤ l → inside s l ≡ false
-unfolding inside
-inside-past s l h = ap (λ k. member k (l % 64)) (word-past s (l / 64) (omega arith)) ∙ member-none (l % 64)
-
-row-inside : (rows : List ℕ) (i n : ℕ) (f : ℕ → Bool) → n ≤ 256 → ((l : ℕ) → l < 256 → member (getD rows (i + l / 64) 0) (l % 64) ≡ (ltb l n && f l)) → (l : ℕ) → inside (wideAt rows i) l ≡ (ltb l n && f l)
-unfolding inside
-row-inside rows i n f few all l = go (decLt l 256)
-  where
-    go : Dec (l < 256) → inside (wideAt rows i) l ≡ (ltb l n && f l)
-    go (yes h) = ap (λ s. member s (l % 64)) (row-word rows i (l / 64) (omega arith)) ∙ all l h
-    go (no h) = inside-past (wideAt rows i) l (omega arith) ∙ rw (le-ltb l n (omega arith)) refl
-
-pub row-out : (d : Description) (rows : List ℕ) (x : ℕ) → WellFormed d → RowsOf d (d .«link_count») rows → (l : ℕ) → inside (wideAt rows (9 * x)) l ≡ (ltb l (d .«link_count») && eqb (linkAt d l .from) x)
-row-out d rows x g r = row-inside rows (9 * x) (d .«link_count») (λ l. eqb (linkAt d l .from) x) (g .fields .few-links) (λ l h. r .out x l h)
-
-pub row-into : (d : Description) (rows : List ℕ) (x : ℕ) → WellFormed d → RowsOf d (d .«link_count») rows → (l : ℕ) → inside (wideAt rows (9 * x + 4)) l ≡ (ltb l (d .«link_count») && eqb (linkAt d l .to) x)
-row-into d rows x g r = row-inside rows (9 * x + 4) (d .«link_count») (λ l. eqb (linkAt d l .to) x) (g .fields .few-links) (λ l h. let e : 9 * x + 4 + l / 64 ≡ 9 * x + (4 + l / 64) = omega arith in ap (λ k. member (getD rows k 0) (l % 64)) e ∙ r .into x l h)
-
--- a task that some link of a node wakes is one of the description's
-pub woken : (d : Description) (rows : List ℕ) → WellFormed d → RowsOf d (d .«link_count») rows → (x k : ℕ) → member (getD rows (9 * x + 8) 0) k ≡ true → (1 ≤ k) × (k ≤ d .«task_count»)
-unfolding system
-woken d rows g r x k e =
-    let z = any-found (λ l. eqb (linkAt d l .from) x && eqb (linkAt d l .to) k) 0 (d .«link_count») (sym (r .wakes x k) ∙ e) in
-    let y : linkAt d (z .at) .to ≡ k = eqb-true (linkAt d (z .at) .to) k (and-right (eqb (linkAt d (z .at) .from) x) _ (z .passes)) in
-    let i : z .at < d .«link_count» = omega (arith, z .within) in
-    let t : linkAt d (z .at) .to ≤ d .«task_count» = g .fields .link-to (z .at) i .1 in
-    (omega (arith, to-most d (g .fields) (z .at) i .0), omega arith)
-
--- links have fired together: what words say then
-also : (a b c : Bool) → (a || b || c) ≡ (a || c || b)
-also true b c = refl
-also false true true = refl
-also false true false = refl
-also false false true = refl
-also false false false = refl
-
-under : (a b c : Bool) → ((a || b) && c) ≡ ((a && c) || (b && c))
-under true true true = refl
-under true true false = refl
-under true false true = refl
-under true false false = refl
-under false b c = refl
-
-missed : (d f t o : Bool) → ((d || (f && o)) || ((f || o) && t)) ≡ ((d || (f && t)) || ((f || t) && o))
-missed true f t o = refl
-missed false true true true = refl
-missed false true true false = refl
-missed false true false true = refl
-missed false true false false = refl
-missed false false true true = refl
-missed false false true false = refl
-missed false false false true = refl
-missed false false false false = refl
-
--- and so they have in the record
-module _ (d : Description) (w w′ : Words) (out : Wide) (wakes : ℕ) (s : Sent w out wakes w′) (m m′ : Machine) (tasks : (k : ℕ) → member wakes k ≡ true → (1 ≤ k) × (k ≤ d .«task_count»)) (z : Sized m′) (u : m′ .used ≡ m .used) (a : (k : ℕ) → 1 ≤ k → awakeAt m′ k ≡ (awakeAt m k || member wakes k)) (e : (k : ℕ) → 1 ≤ k → againAt m′ k ≡ (againAt m k || (member wakes k && ltb 0 (usedAt m k)))) (b : (l : ℕ) → waitingAt m′ l ≡ (waitingAt m l || inside out l)) (f : (l : ℕ) → lateAt m′ l ≡ (lateAt m l || (inside out l && enters d (w .part) l))) (c : (l : ℕ) → droppedAt m′ l ≡ (droppedAt m l || (waitingAt m l && inside out l))) where
-  awake-sent : (k : ℕ) → awakeIn w′ k ≡ (awakeIn w k || member wakes k)
-  awake-sent k = rw (s .woken k, s .same .0) (also (member (w .woken) k) (member wakes k) (member (w .part) k))
-
-  pub marks-sent : Marks d w m → Marks d w′ m′
-  marks-sent h = record {
-    sized = z;
-    no-zero = awake-sent 0 ∙ or-false (awakeIn w 0) (member wakes 0) (h .no-zero) (false-of (member wakes 0) (λ q. omega (arith, tasks 0 q .0)));
-    present = λ k p. or-cases (awakeIn w k) (member wakes k) (sym (awake-sent k) ∙ p) (h .present k) (λ q. tasks k q .1);
-    part = λ k p. rw (s .same .0, u) (h .part k p);
-    awake = λ k p. awake-sent k ∙ ap (λ i. i || member wakes k) (h .awake k p) ∙ sym (a k p);
-    again = λ k p. rw (s .woken k, s .same .0) (under (member (w .woken) k) (member wakes k) (member (w .part) k) ∙ ap (λ i. i || (member wakes k && member (w .part) k)) (h .again k p) ∙ ap (λ i. againAt m k || (member wakes k && i)) (h .part k p) ∙ sym (e k p));
-    waiting = λ l. rw (s .fresh l, s .same .1) (also (inside (w .fresh) l) (inside out l) (inside (w .taken) l) ∙ ap (λ i. i || inside out l) (h .waiting l) ∙ sym (b l));
-    late = λ l. rw (s .fresh l, s .same .0) (under (inside (w .fresh) l) (inside out l) (enters d (w .part) l) ∙ ap (λ i. i || (inside out l && enters d (w .part) l)) (h .late l) ∙ sym (f l));
-    dropped = λ l. rw (s .fresh l, s .dropped l, s .same .1) (missed (inside (w .dropped) l) (inside (w .fresh) l) (inside (w .taken) l) (inside out l) ∙ ap (λ i. i || (waitingIn w l && inside out l)) (h .dropped l) ∙ ap (λ i. droppedAt m l || (i && inside out l)) (h .waiting l) ∙ sym (c l));
-    held = λ l p. rw (s .same .0) (h .held l (rw (s .same .1) at p));
-  }
-
--- node x fires
-pub marks-fired : (d : Description) (rows : List ℕ) (x : ℕ) (w w′ : Words) → Sent w (wideAt rows (9 * x)) (getD rows (9 * x + 8) 0) w′ → (m : Machine) → WellFormed d → RowsOf d (d .«link_count») rows → Marks d w m → Marks d w′ (fire d x m)
-marks-fired d rows x w w′ s m g r h =
-    let f : Fired d x (d .«link_count») m (fire d x m) = fired d g x m (h .sized) in
-    marks-sent d w w′ (wideAt rows (9 * x)) (getD rows (9 * x + 8) 0) s m (fire d x m) (woken d rows g r x) (f .sized) (f .used) (λ k p. rw (r .wakes x k) (f .awake k p)) (λ k p. rw (r .wakes x k) (f .again k p)) (λ l. rw (row-out d rows x g r l) (f .waiting l)) (λ l. f .late l ∙ ap (λ i. lateAt m l || i) (entered l (decLt l (d .«link_count»)))) (λ l. rw (row-out d rows x g r l) (f .dropped l)) h
-  where
-    n : ℕ
-    n = d .«link_count»
-
-    entered : (l : ℕ) → Dec (l < n) → (ltb l n && (eqb (linkAt d l .from) x && ltb 0 (usedAt m (linkAt d l .to)))) ≡ (inside (wideAt rows (9 * x)) l && enters d (w .part) l)
-    entered l (yes p) = rw (row-out d rows x g r l, lt-ltb l n p, h .part (linkAt d l .to) (to-most d (g .fields) l p .0)) refl
-    entered l (no p) = rw (row-out d rows x g r l, le-ltb l n (omega arith)) refl
+use Rattle.words.specs.declared.Words.{Words}
+use Rattle.words.specs.Words.{wideAt, awakeIn, enters, Marks}
+use Rattle.words.proofs.WordLaws.{row-into}
+use Rattle.steps.specs.Steps.{ended}
 
 -- the run of task h is over: each part of the record that it leaves
 pub record Over (d : Description) (h : ℕ) (m m′ : Machine) : Type 0 where
@@ -406,28 +301,7 @@ marks-more d w m h n p q some grows H = record {
     by k true e = rw (e, eqb-true k h e) (lt-ltb 0 (usedAt m h) some ∙ sym (lt-ltb 0 n grows))
     by k false e = rw e refl
 
--- the same marks in words that differ otherwise, and in a record that does
-pub record SameMarks (w w′ : Words) : Type 0 where
-  pub woken : w′ .woken ≡ w .woken
-  pub part : w′ .part ≡ w .part
-  pub fresh : w′ .fresh ≡ w .fresh
-  pub taken : w′ .taken ≡ w .taken
-  pub dropped : w′ .dropped ≡ w .dropped
-
-pub marks-same : (d : Description) (w w′ : Words) (m : Machine) → SameMarks w w′ → Marks d w m → Marks d w′ m
-marks-same d w w′ m s h = record {
-  sized = h .sized;
-  no-zero = rw (s .woken, s .part) (h .no-zero);
-  present = λ k p. h .present k (rw (s .woken, s .part) at p);
-  part = λ k p. rw (s .part) (h .part k p);
-  awake = λ k p. rw (s .woken, s .part) (h .awake k p);
-  again = λ k p. rw (s .woken, s .part) (h .again k p);
-  waiting = λ l. rw (s .fresh, s .taken) (h .waiting l);
-  late = λ l. rw (s .fresh, s .part) (h .late l);
-  dropped = λ l. rw (s .fresh, s .taken, s .dropped) (h .dropped l);
-  held = λ l p. rw (s .part) (h .held l (rw (s .taken) at p));
-}
-
+-- the same marks in a record that differs otherwise
 pub marks-aged : (d : Description) (n : ℕ) (w : Words) (m m′ : Machine) → Aged d n m m′ → Marks d w m → Marks d w m′
 marks-aged d n w m m′ f h = record {
   sized = f .sized;

@@ -1,12 +1,9 @@
 -- One step of a tick on the words and on the record that they hold. Assumes nothing.
-use Prim.Native.Nat.{ℕ, zero, suc, _+_, _-_, _%_, _≤_, _<_, min, max}
+use Prim.Native.Nat.{ℕ, zero, suc, _+_, _-_, _≤_, _<_, min}
 use mathlib.Core.Path.{_≡_, refl, sym, ap, subst, _∙_}
 use mathlib.Core.Bool.{Bool, true, false, _||_, not, cond}
 use mathlib.Core.List.{List}
-use mathlib.Core.Logic.{_⊎_, inl, inr}
 use native.Mathlib.Omega.{arith}
-use native.Mathlib.Nat.{mod-eq-of-lt}
-use lib.Bits.{bitAnd, and-mask}
 use lib.ListN.{getD, set, length, length-set}
 use lib.Seq.{getD-set-same, ext-getD}
 use lib.Dec.{eqb}
@@ -14,41 +11,21 @@ use borrow.Author.Tests.{eqb-true, eqb-false, eq-eqb, ne-eqb, lt-ltb, le-ltb}
 use Rattle.model.specs.declared.Description.{Description}
 use Rattle.model.specs.declared.Policy.{Policy}
 use Rattle.model.specs.declared.Machine.{Machine}
-use Rattle.model.specs.Basics.{upTo}
 use Rattle.model.specs.Graph.{runOf}
-use Rattle.model.specs.Machine.{awakeAt, usedAt, againAt, ageAt, longestGap, setUsed, fire, arriveOne, runTask, complete, clearInto, endRun, ageAll}
+use Rattle.model.specs.Machine.{awakeAt, usedAt, againAt, ageAt, longestGap, setUsed, fire, runTask, complete, clearInto, endRun, ageAll}
 use Rattle.theory.proofs.WellFormed.{WellFormed}
 use Rattle.lemmas.proofs.Tests.{or-left, or-false-left}
 use Rattle.assurance.proofs.Firing.{Sized, Fired, fired, getD-task}
 use Rattle.assurance.proofs.Ending.{Cleared, cleared, Aged, aged}
 use Rattle.sets.specs.Sets.{member}
-use Rattle.steps.specs.declared.words.Words.{Words}
-use Rattle.model.specs.Run.{heard, marksIn}
-use Rattle.steps.specs.Words.{awakeIn, Marks, Ages, Holds, Goes, Chosen, ended, worked, Above, raisedTo, atTempos}
-use Rattle.steps.proofs.MaskLaws.{mark-in}
-use Rattle.steps.proofs.MarkLaws.{SameMarks, marks-same, marks-aged}
+use Rattle.words.specs.declared.Words.{Words}
+use Rattle.words.specs.Words.{awakeIn, Marks, Ages, Holds, Goes}
+use Rattle.steps.specs.Steps.{Chosen, ended, worked}
+use Rattle.words.proofs.WordLaws.{SameMarks, marks-same}
+use Rattle.steps.proofs.MarkLaws.{marks-aged}
 use Rattle.steps.proofs.ChoiceLaws.{choose-is, choose-none, chosen-awake}
 use Rattle.lemmas.proofs.Bools.{and-off}
 use Rattle.lemmas.proofs.Table.{getD-set, set-twice}
-
--- steps that change nothing from a place on
-upTo-rest : {A : Type 0} (l j : ℕ) (step : ℕ → A → A) (a : A) → ((k : ℕ) → l ≤ k → k < l + j → (x : A) → x ≡ step k x) → upTo l step a ≡ upTo (l + j) step a
-unfolding upTo
-upTo-rest l zero step a h = let e : l ≡ l + 0 = omega arith in ap (λ n. upTo n step a) e
-upTo-rest l (suc j) step a h =
-    let e : suc (l + j) ≡ l + suc j = omega arith in
-    upTo-rest l j step a (λ k a b. h k a (omega arith)) ∙ h (l + j) (omega arith) (omega arith) (upTo (l + j) step a) ∙ ap (λ n. upTo n step a) e
-
--- a source that does not arrive
-arrive-off : (d : Description) (marks : List Bool) (u : ℕ) (m : Machine) → getD marks u false ≡ false → m ≡ arriveOne d marks u m
-unfolding arriveOne
-arrive-off d marks u m e = rw e refl
-
--- sources of a mask with no bit from l up to n
-pub arrive-none : (d : Description) (mask l n : ℕ) (m : Machine) → l ≤ n → n ≤ 16 → ((u : ℕ) → l ≤ u → u < n → heard mask u ≡ false) → upTo l (arriveOne d (marksIn mask)) m ≡ upTo n (arriveOne d (marksIn mask)) m
-arrive-none d mask l n m h p none =
-    let q : l + (n - l) ≡ n = omega arith in
-    upTo-rest l (n - l) (arriveOne d (marksIn mask)) m (λ u a b x. arrive-off d (marksIn mask) u x (mark-in mask u (omega arith) ∙ none u a (omega arith))) ∙ ap (λ n. upTo n (arriveOne d (marksIn mask)) m) q
 
 -- ages beside other parts
 pub ages-same : (d : Description) (now : ℕ) (since : List ℕ) (m m′ : Machine) → m′ .ages ≡ m .ages → Ages d now since m → Ages d now since m′
@@ -92,11 +69,6 @@ set-same l i x p e = ext-getD 0 l (set l i x) (sym (length-set l i x)) (λ k q. 
 pub positive : (spent x : ℕ) → x ≡ spent → (spent ≡ 0 → ⊥) → 0 < x
 positive zero x e n = absurd (n refl)
 positive (suc k) x e n = omega arith
-
--- all bits of a task's number, or none
-pub kept-number : (b : Bool) (h : ℕ) → h < 64 → bitAnd h (cond b 63 0) ≡ cond b h 0
-kept-number true h p = and-mask h 6 ∙ mod-eq-of-lt p
-kept-number false h p = and-mask h 0 ∙ (let z : h % 1 ≡ 0 = omega arith in z)
 
 pub work-none : (p : Policy) (d : Description) (w : Words) (used since : List ℕ) (finish : Bool) (m : Machine) → WellFormed d → (0 < w .running → awakeIn w (w .running) ≡ true) → ((k : ℕ) → awakeIn w k ≡ false) → Goes p (w .running) used → Holds d w used since m → Holds d w used since (worked p d finish m)
 work-none p d w used since finish m g going e r h =
@@ -199,21 +171,3 @@ module _ (d : Description) (w w′ : Words) (used since : List ℕ) (m : Machine
       past = λ u p. f .age u ∙ rw (le-ltb u (d .«source_count») p) (h .ages .past u p);
     };
   }
-
--- kept tempos none of which is below the fastest given need not be raised
-pub not-below : (peak low : ℕ) (fastest : List ℕ) → peak ≤ low → Above low fastest → (u : ℕ) → u < 16 → getD fastest u 0 ≡ raisedTo peak (getD fastest u 0)
-not-below peak low fastest h a u p = go (getD fastest u 0) (a u p)
-  where
-    go : (f : ℕ) → (f ≡ 0) ⊎ (low ≤ f) → f ≡ raisedTo peak f
-    go zero k = refl
-    go (suc n) (inl e) = absurd (omega arith)
-    go (suc n) (inr e) = rw (ne-eqb (suc n) 0 (λ z. omega arith)) (let q : suc n ≡ max (suc n) peak = omega arith in q)
-
--- words that say of tempos something else hold the same record
-pub tempos-hold : (d : Description) (low peak : ℕ) (w w′ : Words) (used since : List ℕ) (m : Machine) → w′ ≡ atTempos low peak w → Holds d w used since m → Holds d w′ used since m
-tempos-hold d low peak w w′ used since m e h = subst (λ (k : Words). Holds d k used since m) (sym e) (record {
-  marks = marks-same d w (atTempos low peak w) m (record { woken = refl; part = refl; fresh = refl; taken = refl; dropped = refl }) (h .marks);
-  same-used = h .same-used;
-  below = h .below;
-  ages = h .ages;
-})

@@ -1,4 +1,2 @@
--- What the contracts of the steps cite beside the definitions of `model`.
-pub mod Parts
-pub mod Words
-pub mod Record
+-- What the contracts of the steps cite beside the definitions of `model` and the words of `words`.
+pub mod Steps

@@ -36,11 +36,11 @@ use Rattle.theory.proofs.NumberBytes.{Bytes as AllBytes}
 use Rattle.theory.proofs.QuotedFile.{QuotedFile, quoted-file}
 use Rattle.assurance.proofs.Demand3.{start-idle, promise, demand3}
 use Rattle.assurance.proofs.PlainCalls.{plain-calls, plain-assured}
-use Rattle.machine.specs.Run.{RunOf}
+use Rattle.runs.specs.Run.{RunOf}
 use Rattle.ticks.proofs.start as start
 use Rattle.ticks.proofs.tick as tick
 use Rattle.ticks.proofs.run as run
-use Rattle.machine.proofs.RunLaws.{codes-length}
+use Rattle.runs.proofs.RunLaws.{codes-length}
 
 -- the record of a run that is done is the plain machine's last, and the front of its buffer has the codes of that machine's answers
 ran-done : (pol : Policy) (d : Description) (cs : List Call) (b b′ : List ℕ) (r : Ticked) → RunOf pol d cs b b′ r → r .outcome ≡ Done

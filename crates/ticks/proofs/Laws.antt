@@ -17,7 +17,7 @@ use Rattle.model.specs.Machine.{idle, started, judgeTick, plainTick}
 use Rattle.model.specs.History.{Call}
 use Rattle.model.specs.Run.{ran, pageRan, RunMeets}
 pub use Rattle.theory.proofs.FileLaws.{at-known}
-use Rattle.machine.specs.Run.{RunOf}
+use Rattle.runs.specs.Run.{RunOf}
 use Rattle.model.specs.Machine.{unstarted}
 use Rattle.ticks.specs.Calls.{untouched}
 use Rattle.ticks.proofs.Assured.{run-assured}

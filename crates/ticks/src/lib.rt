@@ -1,7 +1,6 @@
 // The public calls of the tick machine, on the model that the policy names: a start, which is the same on both, one tick, and a run of many ticks. Each
 // judges its description itself.
 
-use machine::run::run_judged;
 use machine::tick::tick_judged;
 use model::Arrivals;
 use model::Description;
@@ -10,13 +9,14 @@ use model::Outcome;
 use model::Policy;
 use model::Refusal;
 use model::Ticked;
+use records::ages_of;
+use records::since_of;
 use refusals::blank_machine;
+use runs::run_judged;
 use spacings::gaps_by;
 use spacings::gaps_of;
 use spacings::on_knob;
 use spacings::sources_of;
-use steps::record::ages_of;
-use steps::record::since_of;
 use wiring::wiring_of;
 ghost use mathlib.Core.Path.{_≡_};
 ghost use Rattle.model.specs.declared.Outcome.the-variants.{Done};
@@ -25,7 +25,7 @@ ghost use Rattle.model.specs.Verdicts.{judgeAt};
 ghost use Rattle.model.specs.Machine.{unstarted, plainTick};
 ghost use Rattle.model.specs.Promise.{StartMeets, TickMeets};
 ghost use Rattle.model.specs.Run.{callsIn, RunMeets};
-ghost use Rattle.machine.specs.Run.{RunOf};
+ghost use Rattle.runs.specs.Run.{RunOf};
 ghost use Rattle.ticks.specs.Calls.{untouched};
 
 // Refusals 1 to 10 as judged, then 11.

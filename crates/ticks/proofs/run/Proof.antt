@@ -1,7 +1,7 @@
 -- `run` meets its contract: refused, or the calls of an accepted description. Assumes nothing.
 use mathlib.Core.Path.{sym, _∙_}
 use Rattle.model.specs.Run.{callsIn}
-use Rattle.machine.specs.Run.{RunOf}
+use Rattle.runs.specs.Run.{RunOf}
 use Rattle.theory.proofs.Typed.{typed-widths}
 use Rattle.ticks.proofs.Laws.{run-refused, run-done}
 use borrow.Author.Needs.{needs}

@@ -1,7 +1,7 @@
 -- `start` meets its contract: refused, or the idle record. Assumes nothing.
-use mathlib.Core.Path.{refl, sym, _∙_}
+use mathlib.Core.Path.{sym, _∙_}
 use native.Mathlib.Omega.{arith}
-use Rattle.steps.proofs.RecordLaws.{idle-aged}
+use Rattle.records.proofs.RecordLaws.{idle-aged}
 use Rattle.theory.proofs.Typed.{typed-widths}
 use Rattle.theory.proofs.FileLaws.{judge-well-formed}
 use Rattle.ticks.proofs.Laws.{start-refused, start-done}

@@ -6,7 +6,7 @@ use Rattle.model.specs.declared.Machine.{Machine}
 use Rattle.model.specs.declared.Ticked.{Ticked}
 use Rattle.model.specs.Machine.{arrive}
 use Rattle.model.specs.Run.{marksIn}
-use Rattle.steps.specs.Words.{Goes}
+use Rattle.words.specs.Words.{Goes}
 use Rattle.machine.specs.Calls.{Tracks}
 use Rattle.machine.proofs.CallLaws.{tick-done, tracked, workable, same-length, arrive-still, lawful-rules}
 use borrow.Author.Needs.{needs}

@@ -10,10 +10,10 @@ use Rattle.model.specs.declared.Refusal.the-variants.{OffKnob, Stranger, TooSoo
 use Rattle.model.specs.Verdicts.{onKnob}
 use Rattle.model.specs.Run.{marksIn}
 use Rattle.lemmas.proofs.Tests.{within}
-use Rattle.steps.specs.declared.words.Words.{Words}
-use Rattle.steps.specs.Parts.{Known}
-use Rattle.steps.specs.Words.{Holds}
-use Rattle.steps.proofs.StepLaws.{tempos-hold}
+use Rattle.words.specs.declared.Words.{Words}
+use Rattle.arrivals.specs.Parts.{Known}
+use Rattle.words.specs.Words.{Holds}
+use Rattle.arrivals.proofs.TempoLaws.{tempos-hold}
 use Rattle.machine.proofs.CallLaws.{tick-off, tick-refused, judged-at, end-stranger, end-soon, end-none, strangers-none, strangers-some, silent-known, silent-soon, silent-arrive, silent-keeps, keeps-given, arrived-keeps, lawful-rules, timed, refused-hears, admitted-hears}
 use borrow.Author.Needs.{needs}
 use Rattle.machine.proofs.call.hear.Statement.{statement}

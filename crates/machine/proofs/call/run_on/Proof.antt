@@ -2,7 +2,8 @@
 use Prim.Native.Nat.{_+_}
 use mathlib.Core.Path.{refl, sym, ap, subst, _∙_}
 use native.Mathlib.Omega.{arith}
-use Rattle.steps.specs.Words.{Goes, worked}
+use Rattle.words.specs.Words.{Goes}
+use Rattle.steps.specs.Steps.{worked}
 use borrow.Author.Needs.{needs}
 use Rattle.machine.proofs.call.run_on.Statement.{statement}
 use Rattle.machine.proofs.call.run_on.Tie as tie

@@ -1,9 +1,8 @@
 -- `soon_at` meets its contract: the longest spacing has passed, or that at the fastest tempo given decides. Assumes nothing.
-use Prim.Native.Nat.{_+_, _≤_, _<_, max}
+use Prim.Native.Nat.{_+_, _≤_, _<_}
 use mathlib.Core.Path.{_≡_, refl, sym, ap, subst, _∙_}
 use mathlib.Core.Bool.{true, false}
 use mathlib.Core.Logic.{inl, inr}
-use native.Mathlib.Omega.{arith}
 use lib.ListN.{getD}
 use borrow.Author.Tests.{ltb-true, ltb-false, not-true}
 use Rattle.lemmas.proofs.Tests.{not-both}

@@ -7,7 +7,7 @@ use native.Mathlib.Omega.{arith}
 use lib.ListN.{getD}
 use Rattle.model.specs.Run.{heard}
 use Rattle.spacings.specs.Gaps.{Asked}
-use Rattle.steps.proofs.MaskLaws.{Rest, rest-all, rest-under, here, turn, passed}
+use Rattle.arrivals.proofs.MaskLaws.{Rest, rest-all, rest-under, here, turn, passed}
 use Rattle.machine.specs.Calls.{dueBy}
 use Rattle.machine.proofs.CallLaws.{soon-one, soon-none}
 use borrow.Author.Needs.{needs}

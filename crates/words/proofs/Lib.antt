@@ -1,0 +1,2 @@
+-- Laws about words that the proofs of more than one crate cite.
+pub mod WordLaws

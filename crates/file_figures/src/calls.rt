@@ -18,7 +18,7 @@ pub fn takes_refusal(t: Tally, file: &[u8], at: usize, number: usize) -> Tally {
         return counted(t, false);
     };
     let n = number_of(why);
-    counted(t, n == number && place == at && step.at == at)
+    counted(t, (n == number) & (place == at) & (step.at == at))
 }
 
 // At an offset of a file the reader finds the end, and stays.

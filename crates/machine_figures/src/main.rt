@@ -1,8 +1,7 @@
-// Document 01's figures of the machine: P5 and P9, tempos off the knob, ticks of a lent record, the rules of the record, a swung source
-// and the hold-on model.
+// The figures of the machine: document 01's P5 and P9, ticks of a lent record, the rules of the record, a swung source, the hold-on model,
+// and latched inputs.
 
 use cases::Tally;
-use cases::example::BOX;
 use cases::example::swung;
 use cases::example::twin;
 use cases::file::described;
@@ -15,6 +14,7 @@ use model::Machine;
 use model::Policy;
 
 mod calls;
+mod latch;
 
 // P5: Twin with the spacing 7 and arrivals at ticks 0, 7, 14 and 21: 33>1 is dropped at tick 21 and not before.
 fn marked_drop() {
@@ -38,7 +38,7 @@ fn marked_drop() {
 
 // A source with the spacing 5.
 fn spaced(t: Tally, calls: &[u8], k: usize, number: u8) -> Tally {
-    calls::ticks(
+    machine::call_is(
         t,
         b"\x01\x00\x04\x00\x00\x00\x01\x02\x00\x04\x00\x00\x00\x05",
         calls,
@@ -74,66 +74,6 @@ fn marked_ticks() {
     t = at_five(t, 0, 0);
     t = at_five(t, 5, 0);
     cases::print(b"P9", t);
-}
-
-fn box_record() -> Description {
-    described(&BOX)
-}
-
-fn blank() -> Description {
-    described(b"")
-}
-
-// The first tick of Box at a tempo.
-fn box_tick(t: Tally, tempo: u32, number: usize) -> Tally {
-    let d = box_record();
-    machine::ticks_once(t, d, tempo, idle(d), arriving(false, false), number)
-}
-
-// A run of Box or of a blank record that has no call, and one of Box whose call alone is refused.
-fn short_runs(t: Tally) -> Tally {
-    let mut none = [0u8; 1];
-    let mut t = machine::runs(t, box_record(), b"", &mut none, 0);
-    t = machine::runs(t, blank(), b"", &mut none, 8);
-    machine::runs(t, box_record(), b"\x00\x00\x00\xc7\x00\x00", &mut none, 0)
-}
-
-// A call of a run of Box at 19.9 and 20.0, or at 300.0 and 300.1.
-fn low_call(t: Tally, k: usize, number: u8) -> Tally {
-    calls::ticks(
-        t,
-        &BOX,
-        b"\x00\x00\x00\xc7\x00\x00\x00\x00\x00\xc8\x00\x00",
-        k,
-        number,
-    )
-}
-
-fn high_call(t: Tally, k: usize, number: u8) -> Tally {
-    calls::ticks(
-        t,
-        &BOX,
-        b"\x00\x00\x0b\xb8\x00\x00\x00\x00\x0b\xb9\x00\x00",
-        k,
-        number,
-    )
-}
-
-// 11 of a tick, and of a call in a run, which alone is refused; ages equal the spacings at 20.0 at the start, and beside a refusal they are 0.
-fn knobs() {
-    let mut t = machine::starts(cases::none(), box_record(), 0, 6250);
-    t = machine::starts(t, blank(), 8, 0);
-    t = machine::ages(t, idle(box_record()), 6250, 2000);
-    t = box_tick(t, 199, 11);
-    t = box_tick(t, 200, 0);
-    t = box_tick(t, 3000, 0);
-    t = box_tick(t, 3001, 11);
-    t = short_runs(t);
-    t = low_call(t, 0, 11);
-    t = low_call(t, 1, 0);
-    t = high_call(t, 0, 0);
-    t = high_call(t, 1, 11);
-    cases::print(b"knob", t);
 }
 
 // One task of run 3, a source of spacing 5, and the link between them.
@@ -308,10 +248,14 @@ fn parts_done() {
 fn main() {
     marked_drop();
     marked_ticks();
-    knobs();
     ticking();
     rules();
     swung_ticks();
     holding();
     parts_done();
+    latch::readings();
+    latch::late_events();
+    latch::late_drops();
+    latch::nested();
+    latch::latched();
 }

@@ -1,5 +1,5 @@
-// Document 01's figures of loads, verdicts, quotes and reports: tempos, buffers, P1 to P4, P6 to P8 and P10, swing, a pulse of each
-// kind, and Box and Twin on the hold-on model.
+// The figures of loads, verdicts, quotes and reports: tempos, buffers, what papers print, document 01's P1 to P4, P6 to P8 and P10, swing,
+// a pulse of each kind, and Box and Twin on the hold-on model.
 
 use cases::Tally;
 use cases::example::BOX;
@@ -15,6 +15,7 @@ use model::Source;
 use model::SourceSlot;
 
 mod calls;
+mod paper;
 
 // Box with a swing of 66.
 const SWUNG_BOX: [u8; 58] =
@@ -270,6 +271,11 @@ fn hold_pages() {
 fn main() {
     tempos();
     pages();
+    paper::paper_delays();
+    paper::paper_report();
+    paper::paper_added();
+    paper::paper_loads();
+    paper::published();
     marked_box();
     marked_twin();
     marked_orders();

@@ -7,11 +7,10 @@ use crate::is_outcome;
 use model::Arrivals;
 use model::Description;
 use model::Machine;
-use model::Outcome;
 use model::Policy;
-use model::Ticked;
 
-// A start is done, number 0, or refused with a number; its first source has an age and no kept tempo, and no task is awake.
+// A start is done, number 0, or refused with a number; its first source has an age and no kept tempo, and no task is
+// awake.
 pub fn starts(t: Tally, d: Description, number: usize, age: u32) -> Tally {
     let s = ticks::start(d);
     let outcome = s.outcome;
@@ -90,12 +89,12 @@ pub fn later_on(
     r.machine
 }
 
-// Of a record the first two sources' ages.
-pub fn ages(t: Tally, m: Machine, first: u32, second: u32) -> Tally {
-    counted(t, (m.ages[0] == first) & (m.ages[1] == second))
-}
-
 // A record after a tick at 20.0 in which source 33 comes, or source 34.
 pub fn after(p: Policy, d: Description, m: Machine, first: bool, second: bool) -> Machine {
     later_on(p, d, 200, m, arriving(first, second), false)
+}
+
+// Of a record the first two sources' ages.
+pub fn ages(t: Tally, m: Machine, first: u32, second: u32) -> Tally {
+    counted(t, (m.ages[0] == first) & (m.ages[1] == second))
 }

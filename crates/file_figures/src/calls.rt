@@ -1,4 +1,5 @@
-// The calls that this program alone compares: fields from a reading place, a record written, and files that are too long to write out.
+// The calls that this program alone compares: fields from a reading place, a record written, and files that are too
+// long to write out.
 
 use cases::Tally;
 use cases::build;

@@ -42,12 +42,13 @@ fn scan(run: u8) -> [u8; 33] {
 const QUICK: [u8; 20] =
     *b"\x01\x00\x04\x00\x00\x00\x04\x02\x00\x04\x00\x00\x00\x02\x04\x00\x03\x21\x01\x00";
 
-// Tasks of run 3 and 1, each with a fixed source of 10 of its own, and a link from the higher task to the lower one, at the first place.
+// Tasks of run 3 and 1, each with a fixed source of 10 of its own, and a link from the higher task to the lower one, at
+// the first place.
 const NESTED: [u8; 46] =
     *b"\x01\x00\x04\x00\x00\x00\x03\x01\x00\x04\x00\x00\x00\x01\x02\x00\x04\x00\x00\x00\x0a\x02\x00\x04\x00\x00\x00\x0a\x04\x00\x03\x02\x01\x00\x04\x00\x03\x21\x01\x00\x04\x00\x03\x22\x02\x00";
 
-// C-15: source 34 comes at the second and last tick of a run, which has read its inputs, and its event waits for the next run. So the first event waits two ticks and
-// this one three; each is printed with 4.
+// C-15: source 34 comes at the second and last tick of a run, which has read its inputs, and its event waits for the
+// next run. So the first event waits two ticks and this one three; each is printed with 4.
 fn reading(t: Tally) -> Tally {
     let p = t.policy;
     let d = described(&scan(2));
@@ -68,7 +69,8 @@ pub fn readings() {
     cases::print(b"C-15, inputs read when a run begins", reading(t));
 }
 
-// The marks of a run of three ticks, of which source 34 comes at the second, and of the run that takes its event; and of a first run that finishes at its second tick.
+// The marks of a run of three ticks, of which source 34 comes at the second, and of the run that takes its event; and
+// of a first run that finishes at its second tick.
 fn late_event(t: Tally) -> Tally {
     let p = t.policy;
     let d = described(&scan(3));

@@ -1,5 +1,5 @@
-// The figures of the machine: document 01's P5 and P9, ticks of a lent record, the rules of the record, a swung source, the hold-on model,
-// and latched inputs.
+// The figures of the machine: document 01's P5 and P9, ticks of a lent record, the rules of the record, a swung source,
+// the hold-on model, and latched inputs.
 
 use cases::Tally;
 use cases::example::swung;
@@ -175,18 +175,26 @@ fn rules() {
     cases::print(b"rules of the record", t);
 }
 
-// A swung source on the machine: 960 pulses with a swing of 75 have at 20.0 the spacing 1,562.
+// A source of 960 pulses with a swing of 75.
+fn swung_record() -> Description {
+    described(&swung(960, 75))
+}
+
+// A tick in which it comes.
+fn swung_tick(t: Tally, m: Machine, number: usize) -> Tally {
+    machine::ticks_once(t, swung_record(), 200, m, arriving(true, false), number)
+}
+
+// A swung source on the machine: at 20.0 its spacing is 1,562.
 fn swung_ticks() {
-    let d = described(&swung(960, 75));
-    let first_source = arriving(true, false);
-    let mut m = idle(d);
+    let mut m = idle(swung_record());
     let mut t = calls::shows(cases::none(), m, 0, 1562, false);
-    t = machine::ticks_once(t, d, 200, m, first_source, 0);
+    t = swung_tick(t, m, 0);
     m.ages[0] = 1561;
     m.fastest[0] = 200;
-    t = machine::ticks_once(t, d, 200, m, first_source, 14);
+    t = swung_tick(t, m, 14);
     m.ages[0] = 1563;
-    t = machine::ticks_once(t, d, 200, m, first_source, 16);
+    t = swung_tick(t, m, 16);
     cases::print(b"C-11, ticks", t);
 }
 
@@ -198,7 +206,8 @@ fn pair_later(p: Policy, m: Machine, first: bool, second: bool) -> Machine {
     after(p, described(&PAIR), m, first, second)
 }
 
-// Source 33 comes in the first of four ticks and source 34 in the second. The lower task runs on to its end, and the higher one then.
+// Source 33 comes in the first of four ticks and source 34 in the second. The lower task runs on to its end, and the
+// higher one then.
 fn held_on(t: Tally, idle: Machine) -> Tally {
     let p = Policy::HoldOn;
     let mut m = pair_later(p, idle, true, false);
@@ -215,7 +224,8 @@ fn held_on(t: Tally, idle: Machine) -> Tally {
     calls::tasks(t, m, 1, true, false)
 }
 
-// On the preemptive model the higher one runs at once. Where both come in the first tick, the higher one is chosen on either model.
+// On the preemptive model the higher one runs at once. Where both come in the first tick, the higher one is chosen on
+// either model.
 fn holding() {
     let idle = idle(described(&PAIR));
     let mut t = held_on(cases::hold(), idle);
@@ -229,19 +239,24 @@ fn holding() {
     cases::print(b"C-14, the task that runs", t);
 }
 
-// The rule that at most one task is part done is the hold-on model's alone: one of two tasks of run 3, then both, which gives 16; on the
-// preemptive model it passes.
+// Two tasks of run 3.
+fn two_tasks() -> Description {
+    described(b"\x01\x00\x04\x00\x00\x00\x03\x01\x00\x04\x00\x00\x00\x03")
+}
+
+// The rule that at most one task is part done is the hold-on model's alone: one of two tasks of run 3, then both, which
+// gives 16; on the preemptive model it passes.
 fn parts_done() {
-    let d = described(b"\x01\x00\x04\x00\x00\x00\x03\x01\x00\x04\x00\x00\x00\x03");
-    let mut m = idle(d);
+    let mut m = idle(two_tasks());
     m.awake[0] = true;
     m.used[0] = 1;
-    let mut t = machine::ticks_still(cases::hold(), d, m, 0);
+    let mut t = machine::ticks_still(cases::hold(), two_tasks(), m, 0);
     m.awake[1] = true;
-    t = machine::ticks_still(t, d, m, 0);
+    t = machine::ticks_still(t, two_tasks(), m, 0);
     m.used[1] = 1;
-    t = machine::ticks_still(t, d, m, 16);
-    t = machine::ticks_still(cases::on(Policy::Preemptive, t), d, m, 0);
+    t = machine::ticks_still(t, two_tasks(), m, 16);
+    t = cases::on(Policy::Preemptive, t);
+    t = machine::ticks_still(t, two_tasks(), m, 0);
     cases::print(b"C-14, rules of the record", t);
 }
 

@@ -82,7 +82,8 @@ pub fn paper_loads() {
     cases::print(b"document 000, loads", t);
 }
 
-// Burns and Wellings: runs 3, 3, 5 with spacings 7, 12 and, as published, 20, the highest priority first; each task has a source of its own.
+// Burns and Wellings: runs 3, 3, 5 with spacings 7, 12 and, as published, 20, the highest priority first; each task has
+// a source of its own.
 fn burns_wellings(spacing: u8) -> [u8; 60] {
     let mut file =
         *b"\x01\x00\x04\x00\x00\x00\x05\x01\x00\x04\x00\x00\x00\x03\x01\x00\x04\x00\x00\x00\x03\x02\x00\x04\x00\x00\x00\x14\x02\x00\x04\x00\x00\x00\x0c\x02\x00\x04\x00\x00\x00\x07\x04\x00\x03\x21\x01\x01\x04\x00\x03\x22\x02\x01\x04\x00\x03\x23\x03\x01";
@@ -94,7 +95,8 @@ fn burns_wellings(spacing: u8) -> [u8; 60] {
 const LEHOCZKY_SHA_DING: [u8; 60] =
     *b"\x01\x00\x04\x00\x00\x00\x64\x01\x00\x04\x00\x00\x00\x28\x01\x00\x04\x00\x00\x00\x28\x02\x00\x04\x00\x00\x01\x5e\x02\x00\x04\x00\x00\x00\x96\x02\x00\x04\x00\x00\x00\x64\x04\x00\x03\x21\x01\x01\x04\x00\x03\x22\x02\x01\x04\x00\x03\x23\x03\x01";
 
-// Independent tasks: delays are the published response times, 3, 6, 20 (doubtful at 20, since not below it) and 40, 80, 300.
+// Independent tasks: delays are the published response times, 3, 6, 20 (doubtful at 20, since not below it) and 40, 80,
+// 300.
 pub fn published() {
     let mut t = cases::none();
     t = reports(

@@ -1,5 +1,5 @@
-// Files that are too long to write out: tasks, fixed sources of the largest spacing, then critical links from each source to
-// the tasks 10 to 25. All tasks run for one tick, but task 25 for 10,000,000.
+// Files that are too long to write out: tasks, fixed sources of the largest spacing, then critical links from each
+// source to the tasks 10 to 25. All tasks run for one tick, but task 25 for 10,000,000.
 
 ghost use Prim.Native.Nat.{_<_, _≤_};
 ghost use lib.ListN.{length};

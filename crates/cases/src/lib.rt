@@ -1,5 +1,5 @@
-// What the programs that run figures share: a tally of those that agree and its line, the files of examples, and the calls that more
-// than one program compares with what a document says.
+// What the programs that run figures share: a tally of those that agree and its line, the files of examples, and the
+// comparison of a call's answer with what a document says.
 
 use libc::STDOUT_FILENO;
 use model::Outcome;

@@ -2,23 +2,23 @@
 
 use crate::Tally;
 use crate::counted;
+use crate::file::described;
 use crate::is_outcome;
 use model::Arrivals;
 use model::Description;
 use model::Machine;
-use model::Outcome;
 use model::Policy;
-use model::Ticked;
 
-// A start is done, number 0, or refused with a number; its first source has an age and no kept tempo, and no task is awake.
+// A start is done, number 0, or refused with a number; its first source has an age and no kept tempo, and no task is
+// awake.
 pub fn starts(t: Tally, d: Description, number: usize, age: u32) -> Tally {
     let s = ticks::start(d);
     let outcome = s.outcome;
     let m = s.machine;
-    let asleep = !m.awake[0] && !m.awake[1];
+    let asleep = !m.awake[0] & !m.awake[1];
     counted(
         t,
-        is_outcome(outcome, number, 0) && m.ages[0] == age && m.fastest[0] == 0 && asleep,
+        is_outcome(outcome, number, 0) & (m.ages[0] == age) & (m.fastest[0] == 0) & asleep,
     )
 }
 
@@ -34,6 +34,18 @@ pub fn runs(t: Tally, d: Description, calls: &[u8], outcomes: &mut [u8], number:
     let ran = ticks::run(p, d, calls, outcomes);
     let outcome = ran.outcome;
     counted(t, is_outcome(outcome, number, 0))
+}
+
+// In a run of calls the call at a place counted from 0 is a tick, number 0, or refused with a number.
+pub fn call_is(t: Tally, file: &[u8], calls: &[u8], k: usize, number: u8) -> Tally {
+    let d = described(file);
+    let mut outcomes = [255u8; 64];
+    let p = t.policy;
+    ticks::run(p, d, calls, &mut outcomes);
+    if 64 <= k {
+        return counted(t, false);
+    }
+    counted(t, outcomes[k] == number)
 }
 
 // Arrivals of sources 33 and 34.
@@ -77,12 +89,12 @@ pub fn later_on(
     r.machine
 }
 
-// Of a record the first two sources' ages.
-pub fn ages(t: Tally, m: Machine, first: u32, second: u32) -> Tally {
-    counted(t, m.ages[0] == first && m.ages[1] == second)
-}
-
 // A record after a tick at 20.0 in which source 33 comes, or source 34.
 pub fn after(p: Policy, d: Description, m: Machine, first: bool, second: bool) -> Machine {
     later_on(p, d, 200, m, arriving(first, second), false)
+}
+
+// Of a record the first two sources' ages.
+pub fn ages(t: Tally, m: Machine, first: u32, second: u32) -> Tally {
+    counted(t, (m.ages[0] == first) & (m.ages[1] == second))
 }

@@ -27,7 +27,7 @@ pub fn held(t: Tally, file: &[u8], tempo: u32, place: usize, delay: u32, spacing
     let Verdict::Held(d, m) = v else {
         return counted(t, false);
     };
-    counted(t, d == delay && m == spacing)
+    counted(t, (d == delay) & (m == spacing))
 }
 
 // load(i, j), or 0 where there is none.

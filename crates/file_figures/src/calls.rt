@@ -1,4 +1,5 @@
-// The calls that this program alone compares: fields from a reading place, a record written, and files that are too long to write out.
+// The calls that this program alone compares: fields from a reading place, a record written, and files that are too
+// long to write out.
 
 use cases::Tally;
 use cases::build;
@@ -18,7 +19,7 @@ pub fn takes_refusal(t: Tally, file: &[u8], at: usize, number: usize) -> Tally {
         return counted(t, false);
     };
     let n = number_of(why);
-    counted(t, n == number && place == at && step.at == at)
+    counted(t, (n == number) & (place == at) & (step.at == at))
 }
 
 // At an offset of a file the reader finds the end, and stays.

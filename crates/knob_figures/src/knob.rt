@@ -5,7 +5,8 @@ use cases::counted;
 use model::Machine;
 use model::Policy;
 
-// Source 33 comes in call 0 and in the last one. The knob stands at 20.0, but in one call at another tempo, and in that the source may come too.
+// Source 33 comes in call 0 and in the last one. The knob stands at 20.0, but in one call at another tempo, and in that
+// the source may come too.
 pub struct Turn {
     pub call: usize,
     pub tempo: u32,
@@ -13,8 +14,9 @@ pub struct Turn {
     pub last: usize,
 }
 
-// How the calls of a run are made: from a turn, or in rounds of three calls at one tempo. In a round source 33 tries to come, then source 34,
-// and the third call has no arrival. The knob rises from 20.0 in 63 rounds, up to a tempo, and is at that in the 64th.
+// How the calls of a run are made: from a turn, or in rounds of three calls at one tempo. In a round source 33 tries to
+// come, then source 34, and the third call has no arrival. The knob rises from 20.0 in 63 rounds, up to a tempo, and is
+// at that in the 64th.
 enum Rule {
     Turned(Turn),
     Rounds(u32),

@@ -1,4 +1,5 @@
-// The figures of the knob turned between calls (C-13), and Box on the hold-on model with the knob moving (C-14).
+// The figures of the knob: tempos off it (11), the knob turned between calls (C-13), and Box with the knob moving, on
+// both models.
 
 use cases::Tally;
 use cases::counted;
@@ -16,6 +17,67 @@ use model::Machine;
 use model::Policy;
 
 mod knob;
+
+fn box_record() -> Description {
+    described(&BOX)
+}
+
+fn blank() -> Description {
+    described(b"")
+}
+
+// The first tick of Box at a tempo.
+fn box_tick(t: Tally, tempo: u32, number: usize) -> Tally {
+    let d = box_record();
+    machine::ticks_once(t, d, tempo, idle(d), arriving(false, false), number)
+}
+
+// A run of Box or of a blank record that has no call, and one of Box whose call alone is refused.
+fn short_runs(t: Tally) -> Tally {
+    let mut none = [0u8; 1];
+    let mut t = machine::runs(t, box_record(), b"", &mut none, 0);
+    t = machine::runs(t, blank(), b"", &mut none, 8);
+    machine::runs(t, box_record(), b"\x00\x00\x00\xc7\x00\x00", &mut none, 0)
+}
+
+// A call of a run of Box at 19.9 and 20.0, or at 300.0 and 300.1.
+fn low_call(t: Tally, k: usize, number: u8) -> Tally {
+    machine::call_is(
+        t,
+        &BOX,
+        b"\x00\x00\x00\xc7\x00\x00\x00\x00\x00\xc8\x00\x00",
+        k,
+        number,
+    )
+}
+
+fn high_call(t: Tally, k: usize, number: u8) -> Tally {
+    machine::call_is(
+        t,
+        &BOX,
+        b"\x00\x00\x0b\xb8\x00\x00\x00\x00\x0b\xb9\x00\x00",
+        k,
+        number,
+    )
+}
+
+// 11 of a tick, and of a call in a run, which alone is refused; ages equal the spacings at 20.0 at the start, and
+// beside a refusal they are 0.
+fn knobs() {
+    let mut t = machine::starts(cases::none(), box_record(), 0, 6250);
+    t = machine::starts(t, blank(), 8, 0);
+    t = machine::ages(t, idle(box_record()), 6250, 2000);
+    t = box_tick(t, 199, 11);
+    t = box_tick(t, 200, 0);
+    t = box_tick(t, 3000, 0);
+    t = box_tick(t, 3001, 11);
+    t = short_runs(t);
+    t = low_call(t, 0, 11);
+    t = low_call(t, 1, 0);
+    t = high_call(t, 0, 0);
+    t = high_call(t, 1, 11);
+    cases::print(b"knob", t);
+}
 
 // The knob at 300.0 in one call, and the last call of the run.
 fn up(call: usize, last: usize) -> Turn {
@@ -52,8 +114,8 @@ fn turns(t: Tally, turn: Turn, at_turn: u8, at_last: u8) -> Tally {
     knob::codes(t, &swung(960, 75), turn, at_turn, at_last)
 }
 
-// C-13: why the fastest tempo is kept. A source of 960 pulses with a swing of 75 has the spacing 1,562 at 20.0 and 104 at 300.0. It fires
-// in call 0; with the knob at 300.0 in call 1 only it may come in call 104, at 20.0, and not before.
+// C-13: why the fastest tempo is kept. A source of 960 pulses with a swing of 75 has the spacing 1,562 at 20.0 and 104
+// at 300.0. It fires in call 0; with the knob at 300.0 in call 1 only it may come in call 104, at 20.0, and not before.
 fn kept_fastest(t: Tally) -> Tally {
     let mut t = turns(t, up(1, 104), 0, 0);
     t = turns(t, up(1, 103), 0, 14);
@@ -103,8 +165,8 @@ fn broken(t: Tally, m: Machine, quote: u32) -> Tally {
     counted(t, quote < m.fastest[0])
 }
 
-// Box with the knob between 20.0 and its quote, which is 178.3 on the preemptive model and 124.8 on the hold-on one, both sources trying
-// to come in each round; then up to 300.0.
+// Box with the knob between 20.0 and its quote, which is 178.3 on the preemptive model and 124.8 on the hold-on one,
+// both sources trying to come in each round; then up to 300.0.
 fn moving_knob(p: Policy, quote: u32) -> Tally {
     let r = knob::rounds(p, &BOX, quote);
     let mut m = r.machine;
@@ -137,7 +199,7 @@ fn later_at(tempo: u32, m: Machine, first: bool, second: bool) -> Machine {
 
 // Of a record the first two sources' kept tempos.
 fn keeps(t: Tally, m: Machine, first: u32, second: u32) -> Tally {
-    counted(t, m.fastest[0] == first && m.fastest[1] == second)
+    counted(t, (m.fastest[0] == first) & (m.fastest[1] == second))
 }
 
 // What a record keeps: this tick's tempo at a firing, the larger one afterwards, 0 before the first firing.
@@ -211,7 +273,8 @@ fn fast_tick(t: Tally) -> Tally {
     machine::ticks_once(t, swift(), 3000, m, arriving(false, false), 0)
 }
 
-// What an absent source has is 0; a tempo off the knob is told before that, an arrival too soon or of an absent source after it.
+// What an absent source has is 0; a tempo off the knob is told before that, an arrival too soon or of an absent source
+// after it.
 fn absent_sources(t: Tally) -> Tally {
     let mut m = idle(swift());
     m.fastest[2] = 200;
@@ -225,8 +288,8 @@ fn absent_sources(t: Tally) -> Tally {
     machine::ticks_once(t, swift(), 200, m, arriving(true, true), 16)
 }
 
-// 16 by the rules of ages and kept tempos: an age up to the spacing at 20.0; a kept tempo 0, with that age, or 200 to 3,000; both 0 for an
-// absent source.
+// 16 by the rules of ages and kept tempos: an age up to the spacing at 20.0; a kept tempo 0, with that age, or 200 to
+// 3,000; both 0 for an absent source.
 fn kept_rules() {
     let mut t = machine::ticks_still(cases::none(), swift(), idle(swift()), 0);
     t = first_source(t, 1561, 0, 16);
@@ -244,6 +307,7 @@ fn kept_rules() {
 }
 
 fn main() {
+    knobs();
     turned_knob();
     cases::print(
         b"C-13, Box with the knob moving",

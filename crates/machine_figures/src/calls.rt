@@ -21,23 +21,11 @@ pub fn drops(t: Tally, file: &[u8], calls: &[u8], place: usize, expected: bool) 
     counted(t, m.dropped[place - 1] == expected)
 }
 
-// In a run of calls the call at a place counted from 0 is a tick, number 0, or refused with a number.
-pub fn ticks(t: Tally, file: &[u8], calls: &[u8], k: usize, number: u8) -> Tally {
-    let d = described(file);
-    let mut outcomes = [255u8; 64];
-    let p = t.policy;
-    ticks::run(p, d, calls, &mut outcomes);
-    if 64 <= k {
-        return counted(t, false);
-    }
-    counted(t, outcomes[k] == number)
-}
-
 // Of a record the first task's used, the first age, and whether the first task is awake.
 pub fn shows(t: Tally, m: Machine, used: u32, age: u32, awake: bool) -> Tally {
     counted(
         t,
-        m.used[0] == used && m.ages[0] == age && m.awake[0] == awake,
+        (m.used[0] == used) & (m.ages[0] == age) & (m.awake[0] == awake),
     )
 }
 
@@ -45,6 +33,6 @@ pub fn shows(t: Tally, m: Machine, used: u32, age: u32, awake: bool) -> Tally {
 pub fn tasks(t: Tally, m: Machine, used: u32, first: bool, second: bool) -> Tally {
     counted(
         t,
-        m.used[0] == used && m.awake[0] == first && m.awake[1] == second,
+        (m.used[0] == used) & (m.awake[0] == first) & (m.awake[1] == second),
     )
 }

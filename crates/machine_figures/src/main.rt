@@ -1,8 +1,7 @@
-// Document 01's figures of the machine: P5 and P9, tempos off the knob, ticks of a lent record, the rules of the record, a swung source
-// and the hold-on model.
+// The figures of the machine: document 01's P5 and P9, ticks of a lent record, the rules of the record, a swung source,
+// the hold-on model, and latched inputs.
 
 use cases::Tally;
-use cases::example::BOX;
 use cases::example::swung;
 use cases::example::twin;
 use cases::file::described;
@@ -15,6 +14,7 @@ use model::Machine;
 use model::Policy;
 
 mod calls;
+mod latch;
 
 // P5: Twin with the spacing 7 and arrivals at ticks 0, 7, 14 and 21: 33>1 is dropped at tick 21 and not before.
 fn marked_drop() {
@@ -38,7 +38,7 @@ fn marked_drop() {
 
 // A source with the spacing 5.
 fn spaced(t: Tally, calls: &[u8], k: usize, number: u8) -> Tally {
-    calls::ticks(
+    machine::call_is(
         t,
         b"\x01\x00\x04\x00\x00\x00\x01\x02\x00\x04\x00\x00\x00\x05",
         calls,
@@ -74,66 +74,6 @@ fn marked_ticks() {
     t = at_five(t, 0, 0);
     t = at_five(t, 5, 0);
     cases::print(b"P9", t);
-}
-
-fn box_record() -> Description {
-    described(&BOX)
-}
-
-fn blank() -> Description {
-    described(b"")
-}
-
-// The first tick of Box at a tempo.
-fn box_tick(t: Tally, tempo: u32, number: usize) -> Tally {
-    let d = box_record();
-    machine::ticks_once(t, d, tempo, idle(d), arriving(false, false), number)
-}
-
-// A run of Box or of a blank record that has no call, and one of Box whose call alone is refused.
-fn short_runs(t: Tally) -> Tally {
-    let mut none = [0u8; 1];
-    let mut t = machine::runs(t, box_record(), b"", &mut none, 0);
-    t = machine::runs(t, blank(), b"", &mut none, 8);
-    machine::runs(t, box_record(), b"\x00\x00\x00\xc7\x00\x00", &mut none, 0)
-}
-
-// A call of a run of Box at 19.9 and 20.0, or at 300.0 and 300.1.
-fn low_call(t: Tally, k: usize, number: u8) -> Tally {
-    calls::ticks(
-        t,
-        &BOX,
-        b"\x00\x00\x00\xc7\x00\x00\x00\x00\x00\xc8\x00\x00",
-        k,
-        number,
-    )
-}
-
-fn high_call(t: Tally, k: usize, number: u8) -> Tally {
-    calls::ticks(
-        t,
-        &BOX,
-        b"\x00\x00\x0b\xb8\x00\x00\x00\x00\x0b\xb9\x00\x00",
-        k,
-        number,
-    )
-}
-
-// 11 of a tick, and of a call in a run, which alone is refused; ages equal the spacings at 20.0 at the start, and beside a refusal they are 0.
-fn knobs() {
-    let mut t = machine::starts(cases::none(), box_record(), 0, 6250);
-    t = machine::starts(t, blank(), 8, 0);
-    t = machine::ages(t, idle(box_record()), 6250, 2000);
-    t = box_tick(t, 199, 11);
-    t = box_tick(t, 200, 0);
-    t = box_tick(t, 3000, 0);
-    t = box_tick(t, 3001, 11);
-    t = short_runs(t);
-    t = low_call(t, 0, 11);
-    t = low_call(t, 1, 0);
-    t = high_call(t, 0, 0);
-    t = high_call(t, 1, 11);
-    cases::print(b"knob", t);
 }
 
 // One task of run 3, a source of spacing 5, and the link between them.
@@ -235,18 +175,26 @@ fn rules() {
     cases::print(b"rules of the record", t);
 }
 
-// A swung source on the machine: 960 pulses with a swing of 75 have at 20.0 the spacing 1,562.
+// A source of 960 pulses with a swing of 75.
+fn swung_record() -> Description {
+    described(&swung(960, 75))
+}
+
+// A tick in which it comes.
+fn swung_tick(t: Tally, m: Machine, number: usize) -> Tally {
+    machine::ticks_once(t, swung_record(), 200, m, arriving(true, false), number)
+}
+
+// A swung source on the machine: at 20.0 its spacing is 1,562.
 fn swung_ticks() {
-    let d = described(&swung(960, 75));
-    let first_source = arriving(true, false);
-    let mut m = idle(d);
+    let mut m = idle(swung_record());
     let mut t = calls::shows(cases::none(), m, 0, 1562, false);
-    t = machine::ticks_once(t, d, 200, m, first_source, 0);
+    t = swung_tick(t, m, 0);
     m.ages[0] = 1561;
     m.fastest[0] = 200;
-    t = machine::ticks_once(t, d, 200, m, first_source, 14);
+    t = swung_tick(t, m, 14);
     m.ages[0] = 1563;
-    t = machine::ticks_once(t, d, 200, m, first_source, 16);
+    t = swung_tick(t, m, 16);
     cases::print(b"C-11, ticks", t);
 }
 
@@ -258,7 +206,8 @@ fn pair_later(p: Policy, m: Machine, first: bool, second: bool) -> Machine {
     after(p, described(&PAIR), m, first, second)
 }
 
-// Source 33 comes in the first of four ticks and source 34 in the second. The lower task runs on to its end, and the higher one then.
+// Source 33 comes in the first of four ticks and source 34 in the second. The lower task runs on to its end, and the
+// higher one then.
 fn held_on(t: Tally, idle: Machine) -> Tally {
     let p = Policy::HoldOn;
     let mut m = pair_later(p, idle, true, false);
@@ -275,7 +224,8 @@ fn held_on(t: Tally, idle: Machine) -> Tally {
     calls::tasks(t, m, 1, true, false)
 }
 
-// On the preemptive model the higher one runs at once. Where both come in the first tick, the higher one is chosen on either model.
+// On the preemptive model the higher one runs at once. Where both come in the first tick, the higher one is chosen on
+// either model.
 fn holding() {
     let idle = idle(described(&PAIR));
     let mut t = held_on(cases::hold(), idle);
@@ -289,29 +239,38 @@ fn holding() {
     cases::print(b"C-14, the task that runs", t);
 }
 
-// The rule that at most one task is part done is the hold-on model's alone: one of two tasks of run 3, then both, which gives 16; on the
-// preemptive model it passes.
+// Two tasks of run 3.
+fn two_tasks() -> Description {
+    described(b"\x01\x00\x04\x00\x00\x00\x03\x01\x00\x04\x00\x00\x00\x03")
+}
+
+// The rule that at most one task is part done is the hold-on model's alone: one of two tasks of run 3, then both, which
+// gives 16; on the preemptive model it passes.
 fn parts_done() {
-    let d = described(b"\x01\x00\x04\x00\x00\x00\x03\x01\x00\x04\x00\x00\x00\x03");
-    let mut m = idle(d);
+    let mut m = idle(two_tasks());
     m.awake[0] = true;
     m.used[0] = 1;
-    let mut t = machine::ticks_still(cases::hold(), d, m, 0);
+    let mut t = machine::ticks_still(cases::hold(), two_tasks(), m, 0);
     m.awake[1] = true;
-    t = machine::ticks_still(t, d, m, 0);
+    t = machine::ticks_still(t, two_tasks(), m, 0);
     m.used[1] = 1;
-    t = machine::ticks_still(t, d, m, 16);
-    t = machine::ticks_still(cases::on(Policy::Preemptive, t), d, m, 0);
+    t = machine::ticks_still(t, two_tasks(), m, 16);
+    t = cases::on(Policy::Preemptive, t);
+    t = machine::ticks_still(t, two_tasks(), m, 0);
     cases::print(b"C-14, rules of the record", t);
 }
 
 fn main() {
     marked_drop();
     marked_ticks();
-    knobs();
     ticking();
     rules();
     swung_ticks();
     holding();
     parts_done();
+    latch::readings();
+    latch::late_events();
+    latch::late_drops();
+    latch::nested();
+    latch::latched();
 }

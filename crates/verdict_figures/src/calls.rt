@@ -84,10 +84,10 @@ pub fn quotes(t: Tally, d: Description, number: usize, value: u32) -> Tally {
     let p = t.policy;
     let quote = quotes::quote(p, d);
     match quote {
-        Quote::Tempo(q) => counted(t, number == 0 && q == value),
+        Quote::Tempo(q) => counted(t, (number == 0) & (q == value)),
         Quote::Unquoted(why, place) => {
             let n = number_of(why);
-            counted(t, n == number && place == value as usize)
+            counted(t, (n == number) & (place == value as usize))
         }
     }
 }

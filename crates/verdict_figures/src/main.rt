@@ -1,5 +1,5 @@
-// Document 01's figures of loads, verdicts, quotes and reports: tempos, buffers, P1 to P4, P6 to P8 and P10, swing, a pulse of each
-// kind, and Box and Twin on the hold-on model.
+// The figures of loads, verdicts, quotes and reports: tempos, buffers, what papers print, document 01's P1 to P4, P6 to
+// P8 and P10, swing, a pulse of each kind, and Box and Twin on the hold-on model.
 
 use cases::Tally;
 use cases::example::BOX;
@@ -15,6 +15,7 @@ use model::Source;
 use model::SourceSlot;
 
 mod calls;
+mod paper;
 
 // Box with a swing of 66.
 const SWUNG_BOX: [u8; 58] =
@@ -184,7 +185,8 @@ fn straight() -> Description {
     d
 }
 
-// Box with a swing of 66: its report, its file, its field from a reading place, its quote, and its first source's age at a start.
+// Box with a swing of 66: its report, its file, its field from a reading place, its quote, and its first source's age
+// at a start.
 fn swung_box() {
     let mut t = reports(
         cases::none(),
@@ -206,7 +208,8 @@ fn paced_alike(t: Tally, place: usize, delay: u32, spacing: u32) -> Tally {
     held(t, &SWUNG_BOX, 1212, place, delay, spacing)
 }
 
-// C-12: Box at 178.3, with a swing of 66 at 121.2 and with a fixed source at any tempo has the same spacings, and so the same verdicts.
+// C-12: Box at 178.3, with a swing of 66 at 121.2 and with a fixed source at any tempo has the same spacings, and so
+// the same verdicts.
 fn alike() {
     let mut t = reports(
         cases::none(),
@@ -221,8 +224,8 @@ fn alike() {
     cases::print(b"C-12, Box with a pulse of each kind", t);
 }
 
-// C-14: Box on the hold-on model, where 33>2 waits for task 1 or for task 2 with what that wakes, then for source 34's load, and runs for 300 itself. Its report
-// into a buffer that it just fills, and one that is a byte shorter.
+// C-14: Box on the hold-on model, where 33>2 waits for task 1 or for task 2 with what that wakes, then for source 34's
+// load, and runs for 300 itself. Its report into a buffer that it just fills, and one that is a byte shorter.
 fn hold_box() {
     let mut t = calls::quotes_file(cases::hold(), &BOX, 0, 1248);
     t = held(t, &BOX, 1248, 3, 1000, 1001);
@@ -253,7 +256,8 @@ fn hold_twin() {
     cases::print(b"C-14, Twin", t);
 }
 
-// The line `hold` before a refusal, and before a tempo without links; the report of the longest file, and a buffer that is a byte shorter.
+// The line `hold` before a refusal, and before a tempo without links; the report of the longest file, and a buffer that
+// is a byte shorter.
 fn hold_pages() {
     let mut t = reports(cases::hold(), b"", b"hold\nrefused 8 at 0\n");
     t = reports(
@@ -270,6 +274,11 @@ fn hold_pages() {
 fn main() {
     tempos();
     pages();
+    paper::paper_delays();
+    paper::paper_report();
+    paper::paper_added();
+    paper::paper_loads();
+    paper::published();
     marked_box();
     marked_twin();
     marked_orders();

@@ -1,4 +1,5 @@
--- `build::fill` is safe and ends. The loop's invariant: the page keeps its length. The measure is what is left of it. Assumes nothing.
+-- `build::fill` is safe and ends. The loop's invariant: the page keeps its length. The measure is what is left of it.
+-- Assumes nothing.
 use Prim.Native.Nat.{_≤_, _-_}
 use mathlib.Core.Path.{_≡_, refl}
 use native.Mathlib.Omega.{arith}

@@ -1,4 +1,5 @@
--- `knob::fill` is safe and ends. The loop's invariant: the page keeps its length. The measure is the number of bytes left. Assumes nothing.
+-- `knob::fill` is safe and ends. The loop's invariant: the page keeps its length. The measure is the number of bytes
+-- left. Assumes nothing.
 use Prim.Native.Nat.{_≤_, _-_}
 use mathlib.Core.Path.{_≡_, refl}
 use native.Mathlib.Omega.{arith}

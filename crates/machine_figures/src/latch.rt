@@ -1,4 +1,4 @@
-// The figures of latched inputs (C-15), each on both models: what a run reads when it begins, and the marks "again" and "late".
+// Latched inputs (C-15), on both models: what a run reads when it begins, and the marks "again" and "late".
 
 use cases::Tally;
 use cases::counted;
@@ -16,18 +16,18 @@ use model::Policy;
 fn first_task(t: Tally, m: Machine, awake: bool, used: u32, again: bool) -> Tally {
     counted(
         t,
-        m.awake[0] == awake && m.used[0] == used && m.again[0] == again,
+        (m.awake[0] == awake) & (m.used[0] == used) & (m.again[0] == again),
     )
 }
 
 // Of a record whether the first two links wait.
 fn waits(t: Tally, m: Machine, first: bool, second: bool) -> Tally {
-    counted(t, m.waiting[0] == first && m.waiting[1] == second)
+    counted(t, (m.waiting[0] == first) & (m.waiting[1] == second))
 }
 
 // Of a record whether the first two links are late.
 fn lates(t: Tally, m: Machine, first: bool, second: bool) -> Tally {
-    counted(t, m.late[0] == first && m.late[1] == second)
+    counted(t, (m.late[0] == first) & (m.late[1] == second))
 }
 
 // A task that two fixed sources of 10 wake; both links are critical.
@@ -42,12 +42,13 @@ fn scan(run: u8) -> [u8; 33] {
 const QUICK: [u8; 20] =
     *b"\x01\x00\x04\x00\x00\x00\x04\x02\x00\x04\x00\x00\x00\x02\x04\x00\x03\x21\x01\x00";
 
-// Tasks of run 3 and 1, each with a fixed source of 10 of its own, and a link from the higher task to the lower one, at the first place.
+// Tasks of run 3 and 1, each with a fixed source of 10 of its own, and a link from the higher task to the lower one, at
+// the first place.
 const NESTED: [u8; 46] =
     *b"\x01\x00\x04\x00\x00\x00\x03\x01\x00\x04\x00\x00\x00\x01\x02\x00\x04\x00\x00\x00\x0a\x02\x00\x04\x00\x00\x00\x0a\x04\x00\x03\x02\x01\x00\x04\x00\x03\x21\x01\x00\x04\x00\x03\x22\x02\x00";
 
-// C-15: source 34 comes at the second and last tick of a run, which has read its inputs, and its event waits for the next run. So the first event waits two ticks and
-// this one three; each is printed with 4.
+// C-15: source 34 comes at the second and last tick of a run, which has read its inputs, and its event waits for the
+// next run. So the first event waits two ticks and this one three; each is printed with 4.
 fn reading(t: Tally) -> Tally {
     let p = t.policy;
     let d = described(&scan(2));
@@ -63,12 +64,13 @@ fn reading(t: Tally) -> Tally {
     waits(t, m, false, false)
 }
 
-fn readings() {
+pub fn readings() {
     let t = cases::on(Policy::HoldOn, reading(cases::none()));
     cases::print(b"C-15, inputs read when a run begins", reading(t));
 }
 
-// The marks of a run of three ticks, of which source 34 comes at the second, and of the run that takes its event; and of a first run that finishes at its second tick.
+// The marks of a run of three ticks, of which source 34 comes at the second, and of the run that takes its event; and
+// of a first run that finishes at its second tick.
 fn late_event(t: Tally) -> Tally {
     let p = t.policy;
     let d = described(&scan(3));
@@ -98,7 +100,7 @@ fn late_event(t: Tally) -> Tally {
     lates(t, m, false, false)
 }
 
-fn late_events() {
+pub fn late_events() {
     let t = cases::on(Policy::HoldOn, late_event(cases::none()));
     cases::print(b"C-15, a late event", late_event(t));
 }
@@ -119,7 +121,7 @@ fn late_drop(t: Tally) -> Tally {
     lates(t, m, false, false)
 }
 
-fn late_drops() {
+pub fn late_drops() {
     let t = cases::on(Policy::HoldOn, late_drop(cases::none()));
     cases::print(b"C-15, a late drop", late_drop(t));
 }
@@ -152,7 +154,7 @@ fn uninterrupted(t: Tally, d: Description) -> Tally {
     lates(t, m, false, false)
 }
 
-fn nested() {
+pub fn nested() {
     let d = described(&NESTED);
     let t = uninterrupted(interrupted(cases::none(), d), d);
     cases::print(b"C-15, an interrupted task", t);
@@ -217,15 +219,7 @@ fn latch_rules(t: Tally) -> Tally {
     waits(t, m, false, false)
 }
 
-fn latched() {
+pub fn latched() {
     let t = cases::on(Policy::HoldOn, latch_rules(cases::none()));
     cases::print(b"C-15, rules of the record", latch_rules(t));
-}
-
-fn main() {
-    readings();
-    late_events();
-    late_drops();
-    nested();
-    latched();
 }

@@ -1,4 +1,4 @@
-// The figures that papers print: document 000's example, and published response times.
+// What papers print: document 000's example, and published response times.
 
 use cases::Tally;
 use cases::counted;
@@ -22,7 +22,7 @@ fn paper_delay(t: Tally, spacing: u8) -> Tally {
 
 // Document 000, section 4.2: the delay of (7, 1) is 19, whatever the spacing of its task 6 from 10 to 14.
 // Its tasks 7 and 6 are the sources 33 and 34 here.
-fn paper_delays() {
+pub fn paper_delays() {
     let mut t = cases::none();
     t = paper_delay(t, 10);
     t = paper_delay(t, 11);
@@ -40,7 +40,7 @@ fn paper_page(t: Tally, spacing: u8) -> Tally {
 }
 
 // Figure 1 as a whole: every event that theorem 1 speaks of is held.
-fn paper_report() {
+pub fn paper_report() {
     let mut t = paper_page(cases::none(), 10);
     t = paper_page(t, 14);
     cases::print(b"document 000, report", t);
@@ -58,7 +58,7 @@ fn adds(t: Tally, i: usize, j: usize, expected: u64) -> Tally {
 }
 
 // Document 000, section 4.3: every λ that it prints.
-fn paper_added() {
+pub fn paper_added() {
     let mut t = cases::none();
     t = adds(t, 4, 3, 2);
     t = adds(t, 2, 3, 2);
@@ -75,14 +75,15 @@ fn paper_added() {
 }
 
 // Document 000, section 4.2: δ(7, 1) and δ(6, 1).
-fn paper_loads() {
+pub fn paper_loads() {
     let mut t = cases::none();
     t = load(t, &paper(10), 33, 1, 11);
     t = load(t, &paper(10), 34, 1, 4);
     cases::print(b"document 000, loads", t);
 }
 
-// Burns and Wellings: runs 3, 3, 5 with spacings 7, 12 and, as published, 20, the highest priority first; each task has a source of its own.
+// Burns and Wellings: runs 3, 3, 5 with spacings 7, 12 and, as published, 20, the highest priority first; each task has
+// a source of its own.
 fn burns_wellings(spacing: u8) -> [u8; 60] {
     let mut file =
         *b"\x01\x00\x04\x00\x00\x00\x05\x01\x00\x04\x00\x00\x00\x03\x01\x00\x04\x00\x00\x00\x03\x02\x00\x04\x00\x00\x00\x14\x02\x00\x04\x00\x00\x00\x0c\x02\x00\x04\x00\x00\x00\x07\x04\x00\x03\x21\x01\x01\x04\x00\x03\x22\x02\x01\x04\x00\x03\x23\x03\x01";
@@ -94,8 +95,9 @@ fn burns_wellings(spacing: u8) -> [u8; 60] {
 const LEHOCZKY_SHA_DING: [u8; 60] =
     *b"\x01\x00\x04\x00\x00\x00\x64\x01\x00\x04\x00\x00\x00\x28\x01\x00\x04\x00\x00\x00\x28\x02\x00\x04\x00\x00\x01\x5e\x02\x00\x04\x00\x00\x00\x96\x02\x00\x04\x00\x00\x00\x64\x04\x00\x03\x21\x01\x01\x04\x00\x03\x22\x02\x01\x04\x00\x03\x23\x03\x01";
 
-// Independent tasks: delays are the published response times, 3, 6, 20 (doubtful at 20, since not below it) and 40, 80, 300.
-fn published() {
+// Independent tasks: delays are the published response times, 3, 6, 20 (doubtful at 20, since not below it) and 40, 80,
+// 300.
+pub fn published() {
     let mut t = cases::none();
     t = reports(
         t,
@@ -113,12 +115,4 @@ fn published() {
         b"tempo 300.0\nlink 1 33>1 held 300 of 350\nlink 2 34>2 held 80 of 150\nlink 3 35>3 held 40 of 100\n",
     );
     cases::print(b"published response times", t);
-}
-
-fn main() {
-    paper_delays();
-    paper_report();
-    paper_added();
-    paper_loads();
-    published();
 }

@@ -19,10 +19,10 @@ use Rattle.model.specs.declared.Outcome.the-variants.{Done}
 use Rattle.model.specs.declared.Refusal.the-variants.{ShortPage}
 use Rattle.model.specs.Basics.{upTo, tab, allN, anyN}
 use Rattle.model.specs.Delays.{spacingOf}
-use Rattle.model.specs.Graph.{linkAt, runOf}
+use Rattle.model.specs.Graph.{runOf}
 use Rattle.model.specs.Refusals.{onDone}
 use Rattle.model.specs.File.{SameTo, Widths, filledBy, judge}
-use Rattle.model.specs.Verdicts.{onKnob, judgeAt}
+use Rattle.model.specs.Verdicts.{onKnob}
 use Rattle.model.specs.Machine.{awakeAt, usedAt, waitingAt, ageAt, fastestAt, againAt, lateAt, setAwake, setWaiting, setAge, setAgain, setLate, markDropped, complete, idle, unstarted, started, taskRule, absentRule, linksRule, sourceRule, latesRule, rulesKept, lawful, fireLink, fire, arriveOne, arrive, highestIn, choose, runTask, clearLink, clearInto, endRun, ageOne, ageAll, keep, stepped, strangers, tooSoon, judgeTick, plainTick}
 use Rattle.model.specs.History.{Call, plainCall, answers, left}
 use Rattle.model.specs.Run.{codes, page, ranFrom, ran, pageRan}

@@ -1,5 +1,4 @@
 -- The rules of the record (16), sentence by sentence: records of one task and two sources that keep them, and such as break one alone.
-use Prim.Native.Nat.{ℕ}
 use mathlib.Core.Bool.{true}
 use mathlib.Core.Path.{_≡_}
 use Rattle.model.specs.declared.Machine.{Machine}

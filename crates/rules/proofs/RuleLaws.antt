@@ -11,7 +11,6 @@ use borrow.Author.Tests.{ltb-true, leb-true, le-leb, lt-ltb}
 use Rattle.model.specs.declared.Description.{Description}
 use Rattle.model.specs.declared.Machine.{Machine}
 use Rattle.model.specs.Basics.{sumN, allN, unset, given}
-use Rattle.model.specs.Graph.{linkAt}
 use Rattle.model.specs.Verdicts.{onKnob}
 use Rattle.model.specs.Machine.{longestGap, taskRule, linkRule, sourceRule, againRule, lateRule, absentRule}
 use Rattle.lemmas.proofs.Tests.{same-test, false-of, not-both, both, and-false-left}

@@ -1,9 +1,5 @@
 -- `links_lawful` meets its contract. Assumes nothing.
-use mathlib.Core.Path.{_≡_, sym, ap, _∙_}
 use borrow.Author.Tests.{not-true, not-false}
-use Rattle.model.specs.declared.Description.{Description}
-use Rattle.model.specs.declared.Machine.{Machine}
-use Rattle.rules.specs.Rules.{EntersOf}
 use Rattle.rules.proofs.RuleLaws.{broken, kept, absent-is}
 use Rattle.rules.proofs.links_lawful.Statement.{statement}
 use Rattle.rules.proofs.links_lawful.Tie as tie

@@ -31,13 +31,13 @@ use Rattle.model.specs.History.{Call, ticks, tickAt, fires, waitOf}
 use Rattle.model.specs.Promise.{UpTo}
 use Rattle.model.specs.Report.{plainReport, reportOf}
 use Rattle.model.specs.Page.{HeldLine, FromPage}
-use Rattle.model.specs.Figures.{boxWith, box, boxFile, boxPage, twin}
-use Rattle.model.specs.HoldFigures.{boxHoldPage}
-use Rattle.model.specs.SwingFigures.{swungBox}
-use Rattle.model.specs.SpacingFigures.{fixedBox}
-use Rattle.model.proofs.Figures.{figures}
-use Rattle.model.proofs.HoldFigures.{hold-figures}
-use Rattle.model.proofs.SpacingFigures.{spacing-figures}
+use Rattle.model.specs.figures.Marked.{boxWith, box, boxFile, boxPage, twin}
+use Rattle.model.specs.figures.Hold.{boxHoldPage}
+use Rattle.model.specs.figures.Swing.{swungBox}
+use Rattle.model.specs.figures.Spacings.{fixedBox}
+use Rattle.model.proofs.figures.Marked.{figures}
+use Rattle.model.proofs.figures.Hold.{hold-figures}
+use Rattle.model.proofs.figures.Spacings.{spacing-figures}
 use Rattle.lemmas.proofs.Tests.{Cmp, less, same, more, cmp}
 use Rattle.lemmas.proofs.Range.{all-at}
 use Rattle.lemmas.proofs.Decimal.{every-at}

@@ -13,7 +13,7 @@ use Rattle.model.specs.declared.Ticked.{Ticked}
 use Rattle.model.specs.declared.Outcome.{Outcome}
 use Rattle.model.specs.declared.Outcome.the-variants.{Done, Refused}
 use Rattle.model.specs.Graph.{runOf}
-use Rattle.model.specs.Machine.{plainTick, arrive, choose, usedAt}
+use Rattle.model.specs.Machine.{idle, plainTick, arrive, choose, usedAt}
 
 -- a call: "arrivals and finish are free in each", and "its tempos now free"
 pub record Call : Type 0 where
@@ -63,6 +63,10 @@ ticks p d m [] = []
 ticks p d m (c ∷ cs) =
     let r = plainCall p d m c in
     elim (isDone (r .outcome)) [ true ↦ observe p d m c ∷ ticks p d (r .machine) cs | false ↦ ticks p d m cs ]
+
+-- the ticks of a list of calls from the start
+abbrev pub history : Policy → Description → List Call → List Tick
+history p d cs = ticks p d (idle d) cs
 
 -- a node fires: a source when it arrives, a task when its run ends
 abbrev pub fires : Tick → ℕ → Bool

@@ -1,4 +1,4 @@
--- Every definition of document 01, in its order. A reader starts at File and ends at Promise and Page.
+-- Every definition of document 01, in its order. A reader starts at File and ends at Promise and Page; figures has rows that pin them.
 pub mod Basics
 pub mod Refusals
 pub mod Field
@@ -14,10 +14,4 @@ pub mod Report
 pub mod Promise
 pub mod Run
 pub mod Page
-pub mod Figures
-pub mod SwingFigures
-pub mod SpacingFigures
-pub mod KnobFigures
-pub mod HoldFigures
-pub mod LatchFigures
-pub mod RuleFigures
+pub mod figures

@@ -17,8 +17,7 @@ use Rattle.model.specs.Graph.{linkAt}
 use Rattle.model.specs.File.{readFile}
 use Rattle.model.specs.Delays.{spacingOf}
 use Rattle.model.specs.Verdicts.{verdictAt, quotedFile}
-use Rattle.model.specs.Machine.{idle}
-use Rattle.model.specs.History.{Call, ticks, fires, tickAt, waitOf}
+use Rattle.model.specs.History.{Call, history, fires, tickAt, waitOf}
 use Rattle.model.specs.Promise.{StartMeets, Calls, UpTo, Assured}
 use Rattle.model.specs.Report.{decimal, tempoText, wTempo, wLink, wHeld, wOf, reportOf}
 
@@ -70,9 +69,9 @@ pub record HeldLine (p : Policy) (d : Description) (q l i j D M : ℕ) : Type 0 
   pub spacing : spacingOf d q i ≡ M
   pub below : D < M
   -- in every list of calls from the start, however the knob moves up to the quote, every event on the link waits at most D ticks
-  pub waits : (x : ℕ) (cs : List Call) → UpTo q (ticks p d (idle d) cs)
-      → x < length (ticks p d (idle d) cs) → fires (tickAt (ticks p d (idle d) cs) x) i ≡ true
-      → waitOf (ticks p d (idle d) cs) j x ≤ D
+  pub waits : (x : ℕ) (cs : List Call) → UpTo q (history p d cs)
+      → x < length (history p d cs) → fires (tickAt (history p d cs) x) i ≡ true
+      → waitOf (history p d cs) j x ≤ D
 
 -- what a page assures that has the tempo q
 pub record FromPage (p : Policy) (file page : List ℕ) (q : ℕ) : Type 0 where
@@ -83,7 +82,7 @@ pub record FromPage (p : Policy) (file page : List ℕ) (q : ℕ) : Type 0 where
   -- the promise, however the knob moves up to q: of the record that the start call answers and every list of calls on it
   pub assured : (s : Ticked) (cs : List Call) (rs : List Ticked) (m : Machine)
       → StartMeets (readFile file .description) s → Calls p (readFile file .description) (s .machine) cs rs m
-      → UpTo q (ticks p (readFile file .description) (idle (readFile file .description)) cs) → Assured p (readFile file .description) q cs rs m
+      → UpTo q (history p (readFile file .description) cs) → Assured p (readFile file .description) q cs rs m
   -- each line of a held source link is true
   pub held : (l i j D M : ℕ) → HasLine page (heldWords l i j D M) → HeldLine p (readFile file .description) q l i j D M
   -- and each critical link from a source has one

@@ -18,7 +18,7 @@ use Rattle.model.specs.Graph.{linkAt}
 use Rattle.model.specs.File.{Widths}
 use Rattle.model.specs.Verdicts.{quoteOf, verdictAt, delayIn}
 use Rattle.model.specs.Machine.{idle, started, plainTick, droppedAt}
-use Rattle.model.specs.History.{Call, Tick, answers, left, ticks, fires, tickAt, Dropped, waitOf}
+use Rattle.model.specs.History.{Call, Tick, answers, left, history, fires, tickAt, Dropped, waitOf}
 
 -- what the start call ensures of its answer
 abbrev pub StartMeets : Description → Ticked → Type 0
@@ -46,20 +46,20 @@ pub record Assured (p : Policy) (d : Description) (q : ℕ) (cs : List Call) (rs
   pub plain-left : m ≡ left p d (idle d) cs
   -- no critical link has been dropped
   pub kept : (l : ℕ) → l < d .«link_count» → linkAt d l .critical ≡ 1
-      → Dropped (ticks p d (idle d) cs) (linkAt d l .from) (linkAt d l .to) → ⊥
+      → Dropped (history p d cs) (linkAt d l .from) (linkAt d l .to) → ⊥
   -- "its dropped mark is set exactly then", for every link
   pub marked : (l : ℕ) → l < d .«link_count»
-      → (droppedAt m l ≡ true) ↔ Dropped (ticks p d (idle d) cs) (linkAt d l .from) (linkAt d l .to)
+      → (droppedAt m l ≡ true) ↔ Dropped (history p d cs) (linkAt d l .from) (linkAt d l .to)
   -- no event from a source on a critical link has waited longer than the delay printed for it, which is the verdict's at the quote
   pub waited : (l x : ℕ) → l < d .«link_count» → linkAt d l .critical ≡ 1 → 33 ≤ linkAt d l .from
-      → x < length (ticks p d (idle d) cs) → fires (tickAt (ticks p d (idle d) cs) x) (linkAt d l .from) ≡ true
-      → waitOf (ticks p d (idle d) cs) (linkAt d l .to) x ≤ delayIn (verdictAt p d q l)
+      → x < length (history p d cs) → fires (tickAt (history p d cs) x) (linkAt d l .from) ≡ true
+      → waitOf (history p d cs) (linkAt d l .to) x ≤ delayIn (verdictAt p d q l)
 
 -- The promise: for one accepted file that has a quote (given as a record whose numbers fit their types), the record that the start call answers,
 -- and every list of calls on it, however the knob moves up to the quote; of either model, with its own quote and its own machine
 abbrev pub Promise : Type 0
 Promise = (p : Policy) (d : Description) (q : ℕ) (s : Ticked) (cs : List Call) (rs : List Ticked) (m : Machine)
-    → Widths d → quoteOf p d ≡ Tempo q → StartMeets d s → Calls p d (s .machine) cs rs m → UpTo q (ticks p d (idle d) cs) → Assured p d q cs rs m
+    → Widths d → quoteOf p d ≡ Tempo q → StartMeets d s → Calls p d (s .machine) cs rs m → UpTo q (history p d cs) → Assured p d q cs rs m
 
 -- every call of a list is at tempo t
 unfoldable pub atTempo : ℕ → List Call → Bool

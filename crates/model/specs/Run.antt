@@ -17,7 +17,7 @@ use Rattle.model.specs.Field.{numberIn}
 use Rattle.model.specs.File.{filledBy, judge}
 use Rattle.model.specs.Verdicts.{quoteOf}
 use Rattle.model.specs.Machine.{idle, unstarted}
-use Rattle.model.specs.History.{Call, answers, left, ticks}
+use Rattle.model.specs.History.{Call, answers, left, history}
 use Rattle.model.specs.Promise.{Calls, UpTo, Assured}
 
 -- the arrivals of a mask, whose bit u is source 33 + u
@@ -73,4 +73,4 @@ pub record RunAssured (p : Policy) (d : Description) (q : ℕ) (cs : List Call) 
 pub record RunMeets (p : Policy) (d : Description) (cs : List Call) (buffer buffer′ : List ℕ) (r : Ticked) : Type 0 where
   pub answer : r ≡ ran p d cs buffer
   pub filled : buffer′ ≡ pageRan p d cs buffer
-  pub assured : (q : ℕ) → quoteOf p d ≡ Tempo q → UpTo q (ticks p d (idle d) cs) → r .outcome ≡ Done → RunAssured p d q cs buffer′ r
+  pub assured : (q : ℕ) → quoteOf p d ≡ Tempo q → UpTo q (history p d cs) → r .outcome ≡ Done → RunAssured p d q cs buffer′ r

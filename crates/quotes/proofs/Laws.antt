@@ -23,7 +23,7 @@ use Rattle.spacings.specs.declared.Sources.{Sources}
 use Rattle.spacings.specs.Gaps.{GapsBy}
 use Rattle.spacings.proofs.GapLaws.{gaps-of}
 use Rattle.rounds.specs.Level.{LevelOn}
-use Rattle.orders.specs.Orders.{ordersHeld}
+use Rattle.neighbourhoods.specs.Orders.{ordersHeld}
 use Rattle.verdicts.specs.Held.{levelHeld}
 use Rattle.verdicts.specs.Tables.{Level, LoadsAt, levelWith, LevelTables, HeldBy}
 use Rattle.verdicts.proofs.LevelLaws.{levels-all, level-wider, not-level, not-orders}

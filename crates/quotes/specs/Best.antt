@@ -11,7 +11,7 @@ use Rattle.model.specs.Verdicts.{allHeld, largestBelow}
 use Rattle.theory.proofs.WellFormed.{WellFormed}
 use Rattle.spacings.specs.declared.Sources.{Sources}
 use Rattle.spacings.specs.Sources.{SourcesOf}
-use Rattle.orders.specs.Orders.{ordersHeld}
+use Rattle.neighbourhoods.specs.Orders.{ordersHeld}
 use Rattle.verdicts.specs.Held.{levelHeld}
 use Rattle.verdicts.specs.Tables.{Level, LevelOf, LevelTables}
 

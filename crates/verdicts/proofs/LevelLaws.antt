@@ -19,8 +19,8 @@ use Rattle.lemmas.proofs.Range.{all-at, all-of}
 use Rattle.theory.proofs.WellFormed.{WellFormed, IsTask, IsSource}
 use Rattle.theory.proofs.Rounds.{Spaced, Wider}
 use Rattle.theory.proofs.Quotes.{verdict-wider}
-use Rattle.orders.specs.Orders.{betweenTasks, orderHeld, ordersHeld}
-use Rattle.orders.proofs.OrderLaws.{between-is, is-between}
+use Rattle.neighbourhoods.specs.Orders.{betweenTasks, orderHeld, ordersHeld}
+use Rattle.neighbourhoods.proofs.OrderLaws.{between-is, is-between}
 use Rattle.verdicts.specs.Held.{fromSource, heldAt, levelHeld}
 
 -- a value that is asked for only where a test passes

@@ -21,7 +21,7 @@ use Rattle.model.specs.Verdicts.{freeSlot, verdictOf}
 use Rattle.theory.proofs.Levels.{levelReach}
 use Rattle.theory.proofs.WellFormed.{WellFormed}
 use Rattle.spacings.specs.Gaps.{GapsIn}
-use Rattle.orders.specs.Orders.{OrdersOf}
+use Rattle.neighbourhoods.specs.Orders.{OrdersOf}
 use Rattle.verdicts.specs.Tables.{LevelsOf, StartsOf, TailsOf}
 
 unfoldable pub verdictBy : Link → Bool → ℕ → ℕ → Verdict

@@ -16,7 +16,7 @@ use Rattle.sets.specs.Sets.{member}
 use Rattle.spacings.specs.declared.Sources.{Sources}
 use Rattle.spacings.specs.Sources.{SourcesOf}
 use Rattle.spacings.specs.Gaps.{GapsIn}
-use Rattle.orders.specs.Orders.{OrdersOf, ordersHeld}
+use Rattle.neighbourhoods.specs.Orders.{OrdersOf, ordersHeld}
 use Rattle.verdicts.specs.declared.Tables.{Tables}
 use Rattle.verdicts.specs.Held.{levelHeld, criticalTo}
 

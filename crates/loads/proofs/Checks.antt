@@ -24,7 +24,8 @@ use Rattle.theory.proofs.WellFormed.{Fielded}
 use Rattle.loads.specs.declared.Worked.{Worked}
 use Rattle.paths.specs.Rows.{SuccessorsOf, Closed, graph, selfIn}
 use Rattle.works.specs.Works.{Ready, WorksOf, SetsOf, Scaled, loadBy}
-use Rattle.loads.specs.Tables.{heavyBy, LoadsOf, SheetBy, RowsAre, WorkedOf, checkedLoads, refusedLoads}
+use Rattle.loads.specs.Tables.{heavyBy, LoadsOf, SheetBy, RowsAre, WorkedOf, checkedLoads}
+use Rattle.refusals.specs.Beside.{refusedSheet}
 use Rattle.paths.proofs.Tabled.{sets-cyclic, sets-load}
 use Rattle.works.proofs.Bringing.{self-cyclic, load-by}
 use Rattle.lemmas.proofs.Outcomes.{refused-not}
@@ -104,7 +105,7 @@ rows-are d brings works t rows L S R =
     at : (k c : ℕ) → k < 48 → loadBy (getD brings k 0) works (d .«task_count») (suc c) ≡ load (system d) (suc k) (suc c)
     at k c p = let e : suc k - 1 ≡ k = omega arith in rw e at (L .by-sets (suc k) (suc c) (omega arith, omega arith) (omega arith))
 
-pub sheet-refused : (d : Description) (why : Refusal) (place : ℕ) → lastChecks d ≡ Refused why place → checkedLoads d ≡ refusedLoads why place
+pub sheet-refused : (d : Description) (why : Refusal) (place : ℕ) → lastChecks d ≡ Refused why place → checkedLoads d ≡ refusedSheet why place
 unfolding checkedLoads
 sheet-refused d why place e = rw e
 

@@ -3,18 +3,18 @@ use Prim.Native.Nat.{ℕ, suc, _+_, _-_, _*_, _≤_, _<_}
 use mathlib.Core.Path.{_≡_}
 use mathlib.Core.Bool.{Bool}
 use mathlib.Core.List.{List, []}
-use lib.ListN.{length, getD, replicate}
+use lib.ListN.{length, getD}
 use lib.Dec.{ltb}
 use Rattle.model.specs.declared.Description.{Description}
-use Rattle.model.specs.declared.Outcome.the-variants.{Done, Refused}
+use Rattle.model.specs.declared.Outcome.the-variants.{Done}
 use Rattle.model.specs.declared.LoadSheet.{LoadSheet}
-use Rattle.model.specs.declared.Refusal.{Refusal}
 use Rattle.model.specs.declared.Row.{Row}
 use Rattle.model.specs.Basics.{anyN, given}
 use Rattle.model.specs.Refusals.{onDone}
 use Rattle.model.specs.Graph.{system}
 use Rattle.model.specs.Loads.{load, sheet, noRow}
 use Rattle.model.specs.File.{lastChecks}
+use Rattle.refusals.specs.Beside.{refusedSheet}
 use Rattle.sets.specs.Sets.{member}
 use Rattle.paths.specs.Rows.{NodeOf, rowOf}
 use Rattle.works.specs.Works.{Scaled, loadBy}
@@ -61,10 +61,7 @@ pub record WorkedOf (d : Description) (r : Worked) : Type 0 where
   pub worked : lastChecks d ≡ Done → LoadsOf d (r .brings) (r .works)
 
 -- the same with the load sheet
-abbrev pub refusedLoads : Refusal → ℕ → LoadSheet
-refusedLoads why place = record { outcome = Refused why place; rows = replicate 48 noRow }
-
 unfoldable pub checkedLoads : Description → LoadSheet
 checkedLoads d = onDone (lastChecks d)
     (record { outcome = Done; rows = sheet (system d) })
-    (λ r place. record { outcome = Refused r place; rows = replicate 48 noRow })
+    refusedSheet

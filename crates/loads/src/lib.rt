@@ -4,6 +4,7 @@ use model::LoadSheet;
 use model::Outcome;
 use model::Refusal;
 use model::Row;
+use refusals::refused_sheet;
 
 pub mod levels;
 mod rows;
@@ -11,7 +12,7 @@ mod rows;
 ghost use mathlib.Core.Path.{_≡_};
 ghost use Rattle.theory.proofs.WellFormed.{Fielded};
 ghost use Rattle.model.specs.declared.Outcome.the-variants.{Refused};
-ghost use Rattle.loads.specs.Tables.{WorkedOf, RowsAre, checkedLoads, refusedLoads};
+ghost use Rattle.loads.specs.Tables.{WorkedOf, RowsAre, checkedLoads};
 
 // How the last checks end, and if they pass, for each node the tasks it brings in and for each task its work: all that loads are sums of.
 pub struct Worked {
@@ -72,16 +73,6 @@ pub fn as_rows(t: [[u64; 32]; 48]) -> [Row; 48]
     rows
 }
 
-// Beside a refusal every load is 0.
-fn refused(why: Refusal, place: usize) -> LoadSheet
-    ensures { λ r. ⌜ r ≡ refusedLoads why place ⌝ }
-{
-    LoadSheet {
-        outcome: Outcome::Refused(why, place),
-        rows: [Row { loads: [0u64; 32] }; 48],
-    }
-}
-
 // The same with the load sheet: a row for each node and a column for each task.
 pub fn last_checks(d: Description) -> LoadSheet
     requires { ⌜ Fielded d ⌝ }
@@ -90,7 +81,7 @@ pub fn last_checks(d: Description) -> LoadSheet
     let worked = work_out(d);
     let judged = worked.outcome;
     if let Outcome::Refused(why, place) = judged {
-        return refused(why, place);
+        return refused_sheet(why, place);
     }
     let n = d.task_count;
     let t = rows::load_rows(&worked.brings, &worked.works, n);

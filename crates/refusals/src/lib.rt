@@ -10,14 +10,10 @@ use model::Refusal;
 use model::Row;
 use model::Source;
 use model::SourceSlot;
-use model::Verdict;
-use model::VerdictSlot;
 ghost use mathlib.Core.Path.{_≡_};
-ghost use lib.ListN.{replicate};
 ghost use Rattle.model.specs.Refusals.{numberOf, blank};
 ghost use Rattle.model.specs.File.{refusedReading};
 ghost use Rattle.model.specs.Machine.{blankMachine};
-ghost use Rattle.model.specs.Verdicts.{freeSlot};
 ghost use Rattle.refusals.specs.Beside.{refusedSheet};
 
 // The number of a refusal in the table of refused work.
@@ -86,15 +82,6 @@ pub fn blank_machine() -> Machine
         again,
         late,
     }
-}
-
-// A verdict of free for every link.
-pub fn free_slots() -> [VerdictSlot; 256]
-    ensures { λ r. ⌜ r ≡ replicate 256 freeSlot ⌝ }
-{
-    [VerdictSlot {
-        verdict: Verdict::Free,
-    }; 256]
 }
 
 // Beside a refusal the description is all zeros.

@@ -18,14 +18,14 @@ work-out-requires c κs = search needs
 enum-known-judged : tie.Need-enum-known-judged
 enum-known-judged c = search needs
 
-refused-requires : tie.Need-refused-requires
-refused-requires c κs = search needs
+refused-sheet-requires : tie.Need-refused-sheet-requires
+refused-sheet-requires c κs = search needs
 
 returns : tie.Need-returns
 returns c =
     let S = c .before .before .before .before .before in
     let w = c .before .before .before .before .work-out in
-    c .refused .ensures ∙ sym (sheet-refused (S .args .d) _ _ (sym (w .ensures .judged) ∙ c .before .before .judged .given .1))
+    c .refused-sheet .ensures ∙ sym (sheet-refused (S .args .d) _ _ (sym (w .ensures .judged) ∙ c .before .before .judged .given .1))
 
 enum-told : tie.Need-enum-told
 enum-told c = search needs
@@ -53,7 +53,7 @@ last-checks-spec =
     (tie.spec
     work-out-requires
     enum-known-judged
-    refused-requires
+    refused-sheet-requires
     returns
     enum-told
     load-rows-requires

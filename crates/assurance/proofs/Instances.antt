@@ -49,6 +49,7 @@ use Rattle.theory.proofs.Quotes.{quote-at}
 use Rattle.theory.proofs.BySpacings.{verdict-same}
 use Rattle.assurance.proofs.Demand3.{slow-ticks, slow-tab}
 use Rattle.assurance.proofs.PlainCalls.{AssuredOf, plain-assured}
+use Rattle.theory.proofs.Pages.{hold-first}
 use Rattle.assurance.proofs.Paper.{from-page}
 
 -- to unfold this is to unfold every definition that judging and a verdict compute with
@@ -126,7 +127,7 @@ box-bytes i = ltb-true (getD boxFile i 0) 256 (every-at (λ c. ltb c 256) boxFil
 
 pub box-paper : FromPage Preemptive boxFile boxPage 1783
 box-paper =
-    rw box-page at (from-page Preemptive boxFile 1783 box-bytes (rw box-page (figures .page-box-tempo)))
+    rw box-page at (from-page Preemptive Preemptive boxFile 1783 box-bytes (hold-first Preemptive boxFile) (rw box-page (figures .page-box-tempo)))
 
 pub box-line : HeldLine Preemptive box 1783 3 33 2 700 701
 box-line = rw (figures .p2-read) at (box-paper .held 3 33 2 700 701 (3, omega (arith, figures .page-box-lines), figures .page-box-link-3))
@@ -227,7 +228,7 @@ box-hold-page =
     rw (figures .p2-read, q) (hold-figures .page-box)
 
 pub box-hold-paper : FromPage HoldOn boxFile boxHoldPage 1248
-box-hold-paper = rw box-hold-page at (from-page HoldOn boxFile 1248 box-bytes (rw box-hold-page (hold-figures .page-box-tempo)))
+box-hold-paper = rw box-hold-page at (from-page HoldOn HoldOn boxFile 1248 box-bytes (hold-first HoldOn boxFile) (rw box-hold-page (hold-figures .page-box-tempo)))
 
 pub box-hold-line : HeldLine HoldOn box 1248 3 33 2 1000 1001
 box-hold-line = rw (figures .p2-read) at (box-hold-paper .held 3 33 2 1000 1001 (4, omega (arith, hold-figures .page-box-lines), hold-figures .page-box-link-3))

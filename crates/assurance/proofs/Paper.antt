@@ -1,7 +1,7 @@
 -- The printed page alone: its line `tempo a.b` says that the file is accepted, what its quote is and that the promise holds up to it, and each line
 -- of a held source link says how long its events wait. Assumes nothing.
 use Prim.Native.Nat.{ℕ, suc, _-_, _≤_, _<_}
-use mathlib.Core.Path.{_≡_, refl, ap}
+use mathlib.Core.Path.{_≡_, refl, sym, ap}
 use mathlib.Core.Bool.{not}
 use mathlib.Core.List.{List, _++_}
 use native.Mathlib.Omega.{arith}
@@ -27,7 +27,7 @@ use Rattle.theory.proofs.NumberBytes.{Bytes}
 use Rattle.theory.proofs.FileLaws.{judge-well-formed}
 use Rattle.theory.proofs.ReadBack.{read-whence, read-judged}
 use Rattle.theory.proofs.Quotes.{largest-found, quoted}
-use Rattle.theory.proofs.Pages.{Named, held-says, source-held, page-held, page-told, page-first, page-tempo, tempo-line, held-line, refused-no-tempo, printed-whole, filled-page}
+use Rattle.theory.proofs.Pages.{Named, held-says, source-held, page-held, page-told, page-first, page-tempo, tempo-line, held-line, refused-no-tempo, model-told, printed-whole, filled-page}
 use Rattle.assurance.proofs.Demand3.{promise}
 use Rattle.assurance.proofs.PlainCalls.{plain-assured}
 
@@ -62,9 +62,9 @@ module _ (pol : Policy) (d : Description) (q : ℕ) (w : Widths d) (e : quoteOf 
       let v = source-held pol d q l c s (not-true _ (all-at (λ k. not (doubtful (verdictAt pol d q k))) 0 (d .«link_count») (quoted pol d q e .held) l (omega arith) (omega arith))) in
       (v .0, spacingOf d q (linkAt d l .from), page-told pol d (Tempo q) l (v .0) (spacingOf d q (linkAt d l .from)) h (v .1))
 
-pub from-page : Paper
+from-report : (pol : Policy) (file : List ℕ) (q : ℕ) → Bytes file → TempoLine pol (reportOf pol file) (tempoWords q) → FromPage pol file (reportOf pol file) q
 unfolding reportOf plainReport quotedFile quoteOf
-from-page pol file q b e = go (readFile file .outcome) refl
+from-report pol file q b e = go (readFile file .outcome) refl
   where
     d : Description
     d = readFile file .description
@@ -91,6 +91,10 @@ from-page pol file q b e = go (readFile file .outcome) refl
           told = λ l h c s. let x = line-there pol d q w z l h c s in (x .0, x .1, rw page (held-line pol (reportFor pol d (Tempo q)) (suc l) (linkAt d l .from) (linkAt d l .to) (x .0) (x .1) .1 (x .2)));
         }
 
+-- the model is the one that the page tells
+pub from-page : Paper
+from-page made p file q b t = rw (sym (model-told made p file t)) (from-report p file q b)
+
 -- the converse: the page of a file with a quote has that tempo
 pub quoted-page : (pol : Policy) (file : List ℕ) (q : ℕ) → Bytes file → quotedFile pol file ≡ Tempo q → TempoLine pol (reportOf pol file) (tempoWords q)
 unfolding reportOf plainReport quotedFile quoteOf
@@ -110,11 +114,11 @@ quoted-page pol file q b e = go (readFile file .outcome) refl
 
 -- what holds of the report holds of the page that the program prints for its input
 pub from-printed : (pol : Policy) (input : List ℕ) (q : ℕ) → Bytes input → TempoLine pol (printed pol input) (tempoWords q) → FromPage pol input (printed pol input) q
-from-printed pol input q b e = rw (printed-whole pol input) (from-page pol input q b (rw (printed-whole pol input) at e))
+from-printed pol input q b e = rw (printed-whole pol input) (from-report pol input q b (rw (printed-whole pol input) at e))
 
 -- and of the page that the report call leaves at the front of a lent buffer
 pub from-buffer : (pol : Policy) (file buffer : List ℕ) (n q : ℕ) → Bytes file → reported pol file buffer ≡ Filled.Bytes n → TempoLine pol (take n (pageReported pol file buffer)) (tempoWords q) → FromPage pol file (take n (pageReported pol file buffer)) q
 unfolding reported pageReported
 from-buffer pol file buffer n q b f e =
     let p : take n (filledBy (reportOf pol file) buffer) ≡ reportOf pol file = filled-page (reportOf pol file) buffer n f in
-    rw p (from-page pol file q b (rw p at e))
+    rw p (from-report pol file q b (rw p at e))

@@ -3,6 +3,7 @@ use Prim.Native.Nat.{ℕ, suc, _-_, _≤_, _<_}
 use mathlib.Core.Bool.{true, false}
 use mathlib.Core.List.{List, [], _∷_, _++_}
 use mathlib.Core.Path.{_≡_}
+use mathlib.Core.Logic.{_↔_}
 use lib.ListN.{length, getD}
 use lib.Dec.{eqb}
 use Rattle.model.specs.declared.Description.{Description}
@@ -19,7 +20,7 @@ use Rattle.model.specs.Delays.{spacingOf}
 use Rattle.model.specs.Verdicts.{verdictAt, quotedFile}
 use Rattle.model.specs.History.{Call, history, fires, tickAt, waitOf}
 use Rattle.model.specs.Promise.{StartMeets, Calls, UpTo, Assured}
-use Rattle.model.specs.Report.{decimal, tempoText, wTempo, wLink, wHeld, wOf, reportOf}
+use Rattle.model.specs.Report.{decimal, tempoText, wTempo, wLink, wHeld, wOf, wHold, reportOf}
 
 -- a text cut into lines, "each line ends in one line feed": what stands before each, and a rest if there is one
 abbrev pub longer : ℕ → List (List ℕ) → List (List ℕ)
@@ -33,6 +34,10 @@ linesOf (c ∷ text) = elim (eqb c 10) [ true ↦ [] ∷ linesOf text | false �
 -- line k of a page, the first being 0
 abbrev pub lineAt : List ℕ → ℕ → List ℕ
 lineAt page k = getD (linesOf page) k []
+
+-- the model that a page tells: hold-on exactly if its first line is `hold`
+abbrev pub TellsModel : Policy → List ℕ → Type 0
+TellsModel p page = (lineAt page 0 ≡ wHold) ↔ (p ≡ HoldOn)
 
 -- the line that has the tempo: the first, or the one after `hold`
 abbrev pub tempoPlace : Policy → ℕ
@@ -90,6 +95,7 @@ pub record FromPage (p : Policy) (file page : List ℕ) (q : ℕ) : Type 0 where
       → 33 ≤ linkAt (readFile file .description) l .from
       → (D : ℕ) × (M : ℕ) × HasLine page (heldWords (suc l) (linkAt (readFile file .description) l .from) (linkAt (readFile file .description) l .to) D M)
 
--- the report of any bytes, read as a page
+-- the report of any bytes, read as a page: whichever model it was made for, the page tells it
 abbrev pub Paper : Type 0
-Paper = (p : Policy) (file : List ℕ) (q : ℕ) → ((i : ℕ) → getD file i 0 < 256) → TempoLine p (reportOf p file) (tempoWords q) → FromPage p file (reportOf p file) q
+Paper = (made p : Policy) (file : List ℕ) (q : ℕ) → ((i : ℕ) → getD file i 0 < 256)
+    → TellsModel p (reportOf made file) → TempoLine p (reportOf made file) (tempoWords q) → FromPage p file (reportOf made file) q

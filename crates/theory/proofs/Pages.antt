@@ -13,6 +13,8 @@ use Rattle.model.specs.declared.Link.{Link}
 use Rattle.model.specs.declared.Description.{Description}
 use Rattle.model.specs.declared.Policy.{Policy}
 use Rattle.model.specs.declared.Policy.the-variants.{Preemptive, HoldOn}
+use Rattle.model.specs.declared.Outcome.{Outcome}
+use Rattle.model.specs.declared.Outcome.the-variants.{Done, Refused}
 use Rattle.model.specs.declared.Refusal.{Refusal}
 use Rattle.model.specs.declared.Refusal.the-variants.{ShortPage}
 use Rattle.model.specs.declared.Filled.the-variants.{Bytes, Unfilled}
@@ -25,10 +27,10 @@ use Rattle.model.specs.Refusals.{numberOf}
 use Rattle.model.specs.Graph.{system, linkAt}
 use Rattle.model.specs.Delays.{Settled, unchanged, reached, tailOf, delayOf, spacingOf}
 use Rattle.model.specs.Order.{inOrder}
-use Rattle.model.specs.File.{fillWith, filledBy}
-use Rattle.model.specs.Verdicts.{settledVerdict, sourceVerdict, orderVerdict, verdictOf, verdictAt, doubtful}
+use Rattle.model.specs.File.{readFile, fillWith, filledBy}
+use Rattle.model.specs.Verdicts.{settledVerdict, sourceVerdict, orderVerdict, verdictOf, verdictAt, doubtful, allHeld, largestBelow}
 use Rattle.model.specs.Report.{decimal, lineOf, wTempo, wNone, wRefused, wAt, wLink, wHeld, wOf, tempoText, tempoLine, verdictText, linkLine, linkLines, refusedLine, shownTempo, reportFor, plainReport, policyLine, wHold, reportOf, printed}
-use Rattle.model.specs.Page.{longer, linesOf, tempoPlace, TempoLine, HasLine, tempoWords, heldWords}
+use Rattle.model.specs.Page.{longer, linesOf, lineAt, TellsModel, tempoPlace, TempoLine, HasLine, tempoWords, heldWords}
 use Rattle.lemmas.proofs.Tests.{and-left, and-right}
 use Rattle.lemmas.proofs.Table.{length-tab, getD-tab}
 use Rattle.lemmas.proofs.Decimal.{every, every-append, every-weaker, cut-same, isDigit, decimal-every, decimal-same, decimal-cut}
@@ -297,6 +299,47 @@ refused-no-tempo r place x e =
   where
     words : every plain (wRefused ++ (decimal (numberOf r) ++ (wAt ++ decimal place))) ≡ true
     words = every-append plain (decimal (numberOf r)) _ (decimal-plain (numberOf r)) (decimal-plain place)
+
+-- the first line of a report is `hold` on the hold-on model alone
+first-byte : (page : List ℕ) (c : ℕ) → getD page 0 10 ≡ c → (c ≡ 10 → ⊥) → getD (lineAt page 0) 0 0 ≡ c
+unfolding linesOf
+first-byte [] c e h = absurd (h (sym e))
+first-byte (b ∷ text) c e h = rw (ne-eqb b 10 (λ z. h (sym e ∙ z)), linesOf) (go (linesOf text) ∙ e)
+  where
+    go : (lines : List (List ℕ)) → getD (getD (longer b lines) 0 []) 0 0 ≡ b
+    go [] = refl
+    go (line ∷ lines) = refl
+
+not-hold : (page : List ℕ) (c : ℕ) → getD page 0 10 ≡ c → (c ≡ 10 → ⊥) → (c ≡ 104 → ⊥) → lineAt page 0 ≡ wHold → ⊥
+not-hold page c p h k e = k (sym (first-byte page c p h) ∙ ap (λ (line : List ℕ). getD line 0 0) e)
+
+two-models : Preemptive ≡ HoldOn → ⊥
+two-models e = let z : _≡_ {A = ℕ} 0 1 = cc in omega arith
+
+pub hold-first : (pol : Policy) (file : List ℕ) → TellsModel pol (reportOf pol file)
+unfolding reportOf plainReport reportFor refusedLine tempoLine linesOf
+hold-first HoldOn file = (λ e. refl, λ e. refl)
+hold-first Preemptive file = (λ e. absurd (go (readFile file .outcome) refl e), λ e. absurd (two-models e))
+  where
+    first : (d : Description) (q : Quote) → lineAt (reportFor Preemptive d q) 0 ≡ wHold → ⊥
+    first d (Tempo t) e =
+        not-hold (reportFor Preemptive d (Tempo t)) 116 refl (λ z. omega arith) (λ z. omega arith) e
+    first d (Unquoted r place) e =
+        not-hold (reportFor Preemptive d (Unquoted r place)) 116 refl (λ z. omega arith) (λ z. omega arith) e
+
+    go : (o : Outcome) → readFile file .outcome ≡ o → lineAt (plainReport Preemptive file) 0 ≡ wHold → ⊥
+    go Done a e =
+        let d : Description = readFile file .description in
+        first d (largestBelow (allHeld Preemptive d) 2801) (rw a at e)
+    go (Refused r place) a e =
+        not-hold (refusedLine r place) 114 refl (λ z. omega arith) (λ z. omega arith) (rw a at e)
+
+-- so that the model is read off the page
+pub model-told : (pol told : Policy) (file : List ℕ) → TellsModel told (reportOf pol file) → told ≡ pol
+model-told Preemptive Preemptive file t = refl
+model-told Preemptive HoldOn file t = absurd (two-models (hold-first Preemptive file .0 (t .1 refl)))
+model-told HoldOn Preemptive file t = t .0 (hold-first HoldOn file .1 refl)
+model-told HoldOn HoldOn file t = refl
 
 -- the program's page: it "ignores the rest, which alters no answer"
 pub printed-whole : (pol : Policy) (input : List ℕ) → printed pol input ≡ reportOf pol input

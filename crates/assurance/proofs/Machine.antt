@@ -25,7 +25,7 @@ use Rattle.theory.proofs.FileLaws.{knob-known}
 use Rattle.assurance.proofs.Firing.{Sized}
 use Rattle.assurance.proofs.Arriving.{arrived}
 use Rattle.assurance.proofs.Ending.{highest-above, highest-awake}
-use Rattle.assurance.proofs.Choosing.{Anew, Kept, chosen, chosen-le, running-le, running-part, part-running, running-used}
+use Rattle.assurance.proofs.Choosing.{Anew, Kept, chosen, chosen-le, running-le, running-part, part-running}
 use Rattle.assurance.proofs.Stepping.{after-stays, after-late, after-wakes, after-fires, after-on, late-stays, late-from, late-fires, overAt, Stepped, step}
 use Rattle.assurance.proofs.Potential.{live, live-used, live-pending}
 use Rattle.assurance.proofs.Schedule.{Left, Schedule, beginsAt, endsAt, Preempts, HoldsOn, Obeys, below}

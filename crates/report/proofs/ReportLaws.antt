@@ -3,23 +3,20 @@ use Prim.Native.Nat.{ℕ, zero, suc, _+_, _≤_, _<_}
 use mathlib.Core.Path.{_≡_, refl, ap, _∙_}
 use mathlib.Core.List.{List, [], _++_}
 use native.Mathlib.Omega.{arith}
-use borrow.Author.Tests.{lt-ltb, le-ltb}
-use lib.ListN.{length, getD, take, drop, length-append}
-use lib.Seq.{take-append-seam}
+use borrow.Author.Tests.{lt-ltb}
+use lib.ListN.{length, getD, length-append}
 use Rattle.model.specs.declared.Description.{Description}
 use Rattle.model.specs.declared.Policy.{Policy}
 use Rattle.model.specs.declared.Policy.the-variants.{Preemptive, HoldOn}
 use Rattle.model.specs.declared.Outcome.{Outcome}
 use Rattle.model.specs.declared.Outcome.the-variants.{Done, Refused}
 use Rattle.model.specs.declared.Refusal.{Refusal}
-use Rattle.model.specs.declared.Filled.{Filled}
-use Rattle.model.specs.declared.Filled.the-variants.{Bytes as Bytes′, Unfilled}
 use Rattle.model.specs.declared.VerdictSlot.{VerdictSlot}
 use Rattle.model.specs.Basics.{tab, joined}
 use Rattle.model.specs.Graph.{linkAt}
-use Rattle.model.specs.File.{readFile, fillWith, filledBy}
+use Rattle.model.specs.File.{readFile}
 use Rattle.model.specs.Verdicts.{allHeld, largestBelow, slotAt, freeSlot, verdictAt}
-use Rattle.model.specs.Report.{policyLine, linkLine, linkLines, refusedLine, reportFor, plainReport, reportOf, reported, pageReported}
+use Rattle.model.specs.Report.{policyLine, linkLine, linkLines, refusedLine, reportFor, plainReport, reportOf}
 use Rattle.theory.proofs.NumberBytes.{Bytes}
 use Rattle.theory.proofs.RecordLaws.{joined-cut}
 use Rattle.lemmas.proofs.Table.{getD-tab, joined-more}
@@ -87,26 +84,3 @@ unfolding listing
 listing-room d slots n k h =
     let c = joined-cut n (lineAt d slots) k h in
     omega (arith, ap length (c .1) ∙ length-append (joined k (lineAt d slots)) (lineAt d slots k ++ c .0), length-append (lineAt d slots k) (c .0))
-
--- a buffer that takes the longest report takes every report, at its front
-module _ (pol : Policy) (s out : List ℕ) (bytes : Bytes s) (room : 11173 ≤ length out) where
-  whole-filled : reported pol s out ≡ Bytes′ (length (reportOf pol s))
-  unfolding reported fillWith
-  whole-filled = rw (le-ltb (length out) (length (reportOf pol s)) (omega (arith, report-length pol s bytes)))
-
-  whole-page : pageReported pol s out ≡ reportOf pol s ++ drop (length (reportOf pol s)) out
-  unfolding pageReported filledBy
-  whole-page = rw (le-ltb (length out) (length (reportOf pol s)) (omega (arith, report-length pol s bytes)))
-
-  pub whole-count : (x : Filled) (n : ℕ) → x ≡ reported pol s out → x ≡ Bytes′ n → n ≡ length (reportOf pol s)
-  whole-count x n p q = let f = whole-filled in cc
-
-  pub whole-never : (x : Filled) (r : Refusal) (place : ℕ) → x ≡ reported pol s out → x ≡ Unfilled r place → ⊥
-  whole-never x r place p q = let f = whole-filled in let z : _≡_ {A = ℕ} 0 1 = cc in omega arith
-
-  pub whole-fits : length (reportOf pol s) ≤ length (pageReported pol s out)
-  whole-fits =
-      rw (whole-page, length-append (reportOf pol s) (drop (length (reportOf pol s)) out)) (omega arith)
-
-  pub whole-front : take (length (reportOf pol s)) (pageReported pol s out) ≡ reportOf pol s
-  whole-front = rw whole-page (take-append-seam (reportOf pol s) (drop (length (reportOf pol s)) out))

@@ -104,9 +104,5 @@ pub fn put_whole(p: Policy, file: &[u8], page: &mut [u8]) -> usize
     requires { ⌜ 11173 ≤ length (now page) ⌝ }
     ensures { λ r. ⌜ (r ≤ length (now (page .exit))) × (take r (now (page .exit)) ≡ reportOf p (now (file .entry))) ⌝ }
 {
-    let filled = report(p, file, &mut *page);
-    match filled {
-        Filled::Bytes(n) => n,
-        Filled::Unfilled(_, _) => 0,
-    }
+    put_report(p, file, &mut *page)
 }

@@ -6,7 +6,7 @@ ghost use Prim.Native.Nat.{_+_, _*_, _/_, _≤_, _<_};
 ghost use lib.Dec.{ltb};
 ghost use lib.ListN.{length};
 ghost use Rattle.model.specs.Delays.{spacings};
-ghost use Rattle.rounds.specs.Level.{LevelOn, roundIn, reachIn, Counted, CountsOn, NextRound, RoundAt, ShareOf, Shares, FlowEnd, Jump, ReachedBy};
+ghost use Rattle.rounds.specs.Level.{LevelOn, roundIn, Counted, CountsOn, NextRound, RoundAt, ShareOf, Shares, FlowEnd, Jump, ReachedBy};
 
 // How many spacings of m ticks a stretch of d ticks holds: rounded up, and at least 1.
 pub fn spacings_in(d: u64, m: u64) -> u64

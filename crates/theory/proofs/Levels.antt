@@ -19,7 +19,7 @@ use Rattle.model.specs.Loads.{load}
 use Rattle.model.specs.Delays.{spacings, startOf, levelOf, roundOf, tailOf, Settled, unchanged, reached, settle, delayOf, spacingOf}
 use Rattle.model.specs.Verdicts.{settledVerdict, sourceVerdict, verdictOf, verdictAt}
 use Rattle.lemmas.proofs.Tests.{Cmp, less, same, more, cmp}
-use Rattle.lemmas.proofs.Range.{Each, sumN-le, sumN-lt, sumN-mul}
+use Rattle.lemmas.proofs.Range.{Each, sumN-lt, sumN-mul}
 use Rattle.theory.proofs.WellFormed.{WellFormed, IsTask, IsSource}
 use Rattle.theory.proofs.Fielded.{link-at, shaped}
 use Rattle.theory.proofs.LoadLaws.{loaded, run-whole, load-direct}

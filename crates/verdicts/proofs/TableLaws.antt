@@ -26,7 +26,6 @@ use Rattle.theory.proofs.WellFormed.{WellFormed, IsTask, IsSource}
 use Rattle.theory.proofs.Fielded.{run-is}
 use Rattle.theory.proofs.Rounds.{settle-fixed}
 use Rattle.theory.proofs.Levels.{reachOf, levelReach, level-verdict}
-use Rattle.sets.specs.Sets.{member}
 use Rattle.works.specs.Works.{loadBy}
 use Rattle.loads.specs.Tables.{LoadsOf, held}
 use Rattle.loads.proofs.Columns.{top-cong}

@@ -1,5 +1,5 @@
 -- Single steps of this crate's loops. Assumes nothing.
-use Prim.Native.Nat.{ℕ, suc, _+_, _-_, _*_, _/_, _%_, _^_, _≤_, _<_}
+use Prim.Native.Nat.{ℕ, _+_, _-_, _*_, _/_, _%_, _^_, _≤_, _<_}
 use mathlib.Core.Path.{_≡_, refl, sym, ap, subst, _∙_}
 use mathlib.Core.Bool.{Bool, true, false, cond}
 use mathlib.Core.List.{List}
@@ -16,7 +16,7 @@ use Rattle.lemmas.proofs.Table.{stored}
 use Rattle.lemmas.proofs.Tests.{Cmp, less, same, more, cmp, at-or-not}
 use Rattle.rounds.specs.Level.{LevelOn, Counted, roundIn}
 use Rattle.rounds.proofs.Laws.{round-in-mono}
-use Rattle.wheels.specs.Wheel.{Kept, Sifted, PartOf, Light, partFlow, flowOn, WasteOf, Covers, Placed, WheelsOn, PutWheel, BuiltOn, leftIn, wasteOn, Turned}
+use Rattle.wheels.specs.Wheel.{Kept, Sifted, PartOf, Light, partFlow, flowOn, WasteOf, Covers, Placed, PutWheel, BuiltOn, leftIn, wasteOn, Turned}
 use Rattle.wheels.specs.declared.tables.Built.{Built}
 use Rattle.wheels.proofs.Laws.{covers-one, covers-more, covers-kept, part-small}
 

@@ -1,6 +1,6 @@
 -- Sources on wheels. A wheel has sources whose spacings divide one period, and a table of the least that they waste in a stretch: what
 -- they bring beyond their steady flow. Flows are in parts of 2 ^ 42 for each tick, wastes in parts of 2 ^ 8 of a tick.
-use Prim.Native.Nat.{ℕ, suc, _+_, _-_, _*_, _/_, _%_, _≤_, _<_}
+use Prim.Native.Nat.{ℕ, _+_, _-_, _*_, _/_, _%_, _≤_, _<_}
 use mathlib.Core.Path.{_≡_}
 use mathlib.Core.Bool.{cond}
 use mathlib.Core.List.{List}

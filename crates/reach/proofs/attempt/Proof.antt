@@ -1,10 +1,9 @@
 -- `attempt` meets its contract: each call has what it asks for. Assumes nothing.
-use Prim.Native.Nat.{ℕ, _≤_, _^_}
-use mathlib.Core.Path.{_≡_, refl}
+use Prim.Native.Nat.{ℕ, _^_}
+use mathlib.Core.Path.{refl}
 use lib.ListN.{length-replicate}
 use Rattle.rounds.proofs.Laws.{level-any}
 use Rattle.wheels.proofs.Steps.{built-by}
-use native.Mathlib.Omega.{arith}
 use Rattle.reach.proofs.attempt.Statement.{statement}
 use Rattle.reach.proofs.attempt.Tie as tie
 

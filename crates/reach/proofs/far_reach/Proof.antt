@@ -1,7 +1,6 @@
 -- `far_reach` meets its contract: the level is open at the place until it is settled, and the last attempt settles it. Assumes nothing.
-use Prim.Native.Nat.{_≤_, _<_, _-_}
-use mathlib.Core.Path.{_≡_, refl}
-use mathlib.Core.Bool.{true, false}
+use Prim.Native.Nat.{_<_, _-_}
+use mathlib.Core.Bool.{true}
 use Rattle.lemmas.proofs.Tests.{true-of}
 use Rattle.rounds.specs.Level.{OpenAt}
 use native.Mathlib.Omega.{arith}

@@ -1,6 +1,5 @@
 -- `level_reach` meets its contract: settled in a few rounds, or further on. Assumes nothing.
 use borrow.Author.Needs.{needs}
-use Prim.Native.Nat.{_≤_}
 use Rattle.reach.proofs.level_reach.Statement.{statement}
 use Rattle.reach.proofs.level_reach.Tie as tie
 

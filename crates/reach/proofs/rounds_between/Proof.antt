@@ -1,7 +1,6 @@
 -- `rounds_between` meets its contract: no fixed point is below d, and the round at d is worked out. Assumes nothing.
-use Prim.Native.Nat.{ℕ, _≤_, _<_, _+_, _-_, _^_}
-use mathlib.Core.Path.{_≡_, refl, sym, _∙_}
-use mathlib.Core.Bool.{true, false}
+use Prim.Native.Nat.{_≤_, _<_, _-_}
+use mathlib.Core.Path.{_≡_, refl}
 use Rattle.lemmas.proofs.Tests.{not-both}
 use Rattle.rounds.specs.Level.{roundIn, Counted, Shares, Jump, RoundAt}
 use Rattle.rounds.proofs.Laws.{lower-round, reach-fixed, reach-over, shares-none, level-any, settled-at, open-at}

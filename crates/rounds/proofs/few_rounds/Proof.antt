@@ -1,11 +1,8 @@
 -- `few_rounds` meets its contract: no fixed point is below d, and the round at d is worked out. Assumes nothing.
-use Prim.Native.Nat.{ℕ, _≤_, _<_, _-_}
-use mathlib.Core.Path.{_≡_, refl, sym, _∙_}
-use mathlib.Core.List.{List}
-use mathlib.Core.Bool.{true, false}
+use Prim.Native.Nat.{_≤_, _<_, _-_}
+use mathlib.Core.Path.{_≡_, refl}
 use native.Mathlib.Omega.{arith}
-use Rattle.lemmas.proofs.Tests.{not-both}
-use Rattle.rounds.specs.Level.{roundIn, reachIn, Counted, Shares, Jump, ReachedBy, OpenAt}
+use Rattle.rounds.specs.Level.{roundIn, Counted, Shares, Jump}
 use Rattle.rounds.proofs.Laws.{lower-start, lower-round, reach-fixed, reach-over, round-in-start, shares-none, level-any, settled-at, open-at}
 use Rattle.rounds.proofs.few_rounds.Statement.{statement}
 use Rattle.rounds.proofs.few_rounds.Tie as tie

@@ -1,12 +1,11 @@
 -- `flow_bound` meets its contract: the sums of the first u sources, as a flow or by their firings. Assumes nothing.
-use Prim.Native.Nat.{ℕ, _≤_, _<_, _+_, _-_, _*_, _/_}
-use mathlib.Core.Path.{_≡_, ap, sym, _∙_}
+use Prim.Native.Nat.{ℕ, _≤_, _+_, _-_, _*_, _/_}
+use mathlib.Core.Path.{_≡_, ap, _∙_}
 use mathlib.Core.Bool.{cond}
 use native.Mathlib.Omega.{arith}
 use lib.Dec.{ltb}
 use lib.ListN.{getD}
-use Rattle.model.specs.Delays.{spacings}
-use Rattle.rounds.specs.Level.{roundIn, Counted}
+use Rattle.rounds.specs.Level.{Counted}
 use Rattle.rounds.proofs.Laws.{flowTo, restTo, flow-none-yet, rest-none-yet, flow-more, rest-more, rest-most, flow-lower, counted-part, part-most, first-most, second-most, lower-round}
 use Rattle.rounds.proofs.flow_bound.Statement.{statement}
 use Rattle.rounds.proofs.flow_bound.Tie as tie

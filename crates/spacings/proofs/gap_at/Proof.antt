@@ -1,5 +1,5 @@
 -- `gap_at` meets its contract: the spacing is in the table, or it is worked out and stored. Assumes nothing.
-use mathlib.Core.Path.{_≡_, sym, ap, _∙_}
+use mathlib.Core.Path.{_≡_, ap, _∙_}
 use native.Mathlib.Omega.{arith}
 use lib.ListN.{getD}
 use Rattle.spacings.specs.Sources.{spacingBy}

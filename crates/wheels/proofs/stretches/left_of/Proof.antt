@@ -1,5 +1,5 @@
 -- `left_of` meets its contract: the sum of the first u sources, those on a wheel left out. Assumes nothing.
-use Prim.Native.Nat.{ℕ, _≤_, _<_, _+_, _-_, _*_, _/_}
+use Prim.Native.Nat.{ℕ, _≤_, _+_, _-_, _*_, _/_}
 use mathlib.Core.Path.{_≡_, ap, _∙_}
 use mathlib.Core.Bool.{cond}
 use lib.Dec.{ltb}

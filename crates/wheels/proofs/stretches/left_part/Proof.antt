@@ -1,8 +1,7 @@
 -- `left_part` meets its contract: a test and its two ways. Assumes nothing.
 use borrow.Author.Needs.{needs}
-use mathlib.Core.Path.{_≡_, refl}
+use mathlib.Core.Path.{refl}
 use borrow.Author.Tests.{lt-ltb, le-ltb}
-use native.Mathlib.Omega.{arith}
 use Rattle.wheels.proofs.stretches.left_part.Statement.{statement}
 use Rattle.wheels.proofs.stretches.left_part.Tie as tie
 

@@ -1,10 +1,9 @@
 -- `pass` meets its contract: no stretch that is passed has a fixed point. Assumes nothing.
-use Prim.Native.Nat.{ℕ, _≤_, _<_, _+_, _-_, _*_, _^_}
-use mathlib.Core.Path.{_≡_, refl, ap, _∙_}
+use Prim.Native.Nat.{_≤_, _<_, _+_, _-_, _*_, _^_}
+use mathlib.Core.Path.{_≡_, refl, ap}
 use native.Mathlib.Nat.{mul-le-mul}
-use lib.ListN.{getD}
 use lib.Pow.{pow-pos}
-use Rattle.wheels.specs.Wheel.{Placed, Turned, Passes, wasteOn}
+use Rattle.wheels.specs.Wheel.{Turned, Passes, wasteOn}
 use Rattle.wheels.proofs.Laws.{stretch-free}
 use Rattle.wheels.proofs.Steps.{inside-at, turn-small}
 use native.Mathlib.Omega.{arith}

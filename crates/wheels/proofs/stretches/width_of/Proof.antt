@@ -1,7 +1,6 @@
 -- `width_of` meets its contract: nothing is shifted out. Assumes nothing.
 use borrow.Author.Needs.{needs}
 use Prim.Native.Nat.{_≤_, _^_}
-use mathlib.Core.Path.{_≡_}
 use native.Mathlib.Nat.{pow-le-pow-right}
 use lib.Pow.{shl-exact}
 use native.Mathlib.Omega.{arith}

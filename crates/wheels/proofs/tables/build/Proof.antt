@@ -1,10 +1,8 @@
 -- `build` meets its contract: the tables of the first k wheels are put, and their flows summed. Assumes nothing.
-use Prim.Native.Nat.{ℕ, _≤_, _<_, _+_, _-_, _*_, _/_}
-use mathlib.Core.Path.{_≡_, refl, sym, ap, _∙_}
-use lib.ListN.{getD, length, length-set}
-use Rattle.rounds.specs.Level.{LevelOn}
-use Rattle.wheels.specs.Wheel.{flowOn, partFlow, partAt}
-use Rattle.wheels.proofs.Laws.{part-small}
+use Prim.Native.Nat.{_≤_, _-_, _*_}
+use mathlib.Core.Path.{_≡_, refl, ap, _∙_}
+use lib.ListN.{length, length-set}
+use Rattle.wheels.specs.Wheel.{flowOn, partFlow}
 use Rattle.wheels.proofs.Steps.{Building, building-none, building-more, built-on, sum-more, sum-none, part-level, put-flow}
 use native.Mathlib.Omega.{arith}
 use Rattle.wheels.proofs.tables.build.Statement.{statement}

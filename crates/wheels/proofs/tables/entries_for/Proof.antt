@@ -1,7 +1,6 @@
 -- `entries_for` meets its contract: the entries of a period on the scale are few. Assumes nothing.
 use borrow.Author.Needs.{needs}
 use native.Mathlib.Nat.{div-mul-le-self, div-le-self}
-use Prim.Native.Nat.{_≤_, _*_}
 use mathlib.Core.Path.{refl}
 use native.Mathlib.Omega.{arith}
 use Rattle.wheels.proofs.tables.entries_for.Statement.{statement}

@@ -1,9 +1,7 @@
 -- `fill` meets its contract: every place done has a waste in the entry of its block. Assumes nothing.
-use Prim.Native.Nat.{ℕ, _≤_, _<_, _+_, _-_, _*_, _/_}
-use mathlib.Core.Path.{_≡_, refl, sym, _∙_}
+use Prim.Native.Nat.{_≤_, _<_, _+_, _-_, _*_, _/_}
+use mathlib.Core.Path.{_≡_, refl}
 use native.Mathlib.Nat.{mul-le-mul-right, div-le-self}
-use lib.ListN.{getD, length}
-use Rattle.rounds.specs.Level.{roundIn, Counted}
 use Rattle.wheels.proofs.Laws.{round-light}
 use Rattle.wheels.proofs.Steps.{Filling, filling-none, filling-more, Counting, block-of}
 use native.Mathlib.Omega.{arith}

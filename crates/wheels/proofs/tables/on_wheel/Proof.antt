@@ -1,7 +1,6 @@
 -- `on_wheel` meets its contract: a test and its two ways. Assumes nothing.
-use mathlib.Core.Path.{_≡_, refl}
+use mathlib.Core.Path.{refl}
 use borrow.Author.Tests.{eq-eqb, ne-eqb}
-use native.Mathlib.Omega.{arith}
 use Rattle.wheels.proofs.tables.on_wheel.Statement.{statement}
 use Rattle.wheels.proofs.tables.on_wheel.Tie as tie
 

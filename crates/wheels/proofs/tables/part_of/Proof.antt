@@ -1,11 +1,11 @@
 -- `part_of` meets its contract: the loads of the first u sources, and the sum of their flows. Assumes nothing.
-use Prim.Native.Nat.{ℕ, _≤_, _<_, _+_, _-_, _*_, _/_}
+use Prim.Native.Nat.{ℕ, _≤_, _<_, _-_, _*_, _/_}
 use mathlib.Core.Path.{_≡_, _∙_, ap}
 use mathlib.Core.List.{List}
 use lib.ListN.{getD, length, length-set}
 use Rattle.model.specs.Basics.{sumN}
 use Rattle.lemmas.proofs.Table.{stored}
-use Rattle.wheels.specs.Wheel.{partAt, partFlow, PartOf}
+use Rattle.wheels.specs.Wheel.{partAt, partFlow}
 use Rattle.wheels.proofs.Laws.{part-small}
 use Rattle.wheels.proofs.Steps.{share-most, sum-more, sum-none}
 use native.Mathlib.Omega.{arith}

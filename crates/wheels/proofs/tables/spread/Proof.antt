@@ -1,6 +1,5 @@
 -- `spread` meets its contract: the first i entries are lowered. Assumes nothing.
-use Prim.Native.Nat.{ℕ, _≤_, _<_, _+_, _-_}
-use mathlib.Core.Path.{_≡_}
+use Prim.Native.Nat.{_≤_, _-_}
 use Rattle.wheels.proofs.Steps.{Lowering, lowering-none, lowering-more}
 use native.Mathlib.Omega.{arith}
 use Rattle.wheels.proofs.tables.spread.Statement.{statement}

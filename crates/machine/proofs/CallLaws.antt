@@ -129,15 +129,15 @@ pub rests-on : (t peak : ℕ) → 200 ≤ t → t ≤ peak → peak ≤ 3000 →
 rests-on t peak a b c = both (leb 200 t) (leb t 3000) (le-leb 200 t a) (le-leb t 3000 (omega arith))
 
 -- an arrival that is too soon, and none that is
-module _ (d : Description) (t mask peak tick sources : ℕ) (ticks pulses longest since fastest : List ℕ) (w : Words) (m : Machine) (g : WellFormed d) (s : SourcesOf d (sourcesWith sources ticks pulses)) (G : GapsOf d 200 longest) (k : Known d mask) (l : rulesKept d m ≡ true) (a : Ages d tick since m) (K : Keeps w fastest m) (q : peak ≡ max (w .peak) t) (low : 200 ≤ t) where
+module _ (d : Description) (t mask peak tick sources : ℕ) (paces longest since fastest : List ℕ) (w : Words) (m : Machine) (g : WellFormed d) (s : SourcesOf d (sourcesWith sources paces)) (G : GapsOf d 200 longest) (k : Known d mask) (l : rulesKept d m ≡ true) (a : Ages d tick since m) (K : Keeps w fastest m) (q : peak ≡ max (w .peak) t) (low : 200 ≤ t) where
   abbrev due : ℕ → ℕ
-  due u = dueBy ticks pulses fastest peak u
+  due u = dueBy paces fastest peak u
 
   abbrev dueIn : ℕ → ℕ
   dueIn u = spacingOf d (max (fastestAt m u) t) (33 + u)
 
   due-gap : (u : ℕ) → u < d .«source_count» → due u ≡ spacingOf d (max (getD fastest u 0) peak) (33 + u)
-  due-gap u p = gap-of d (sourcesWith sources ticks pulses) (max (getD fastest u 0) peak) u s p
+  due-gap u p = gap-of d (sourcesWith sources paces) (max (getD fastest u 0) peak) u s p
 
   most : (u x : ℕ) → u < d .«source_count» → 200 ≤ x → spacingOf d x (33 + u) ≤ longestGap d u
   most u x p h = gap-anti d g (33 + u) (omega arith) (omega arith) 200 x (omega arith) h
@@ -272,8 +272,8 @@ kept-most d w fastest m g e K u p = go (getD fastest u 0) refl
         omega (arith, within 200 (fastestAt m u) 3000 o .1)
 
 -- so that the spacings of arriving sources can be worked out
-pub timed : (pol : Policy) (d : Description) (t mask peak sources : ℕ) (w : Words) (rows runs ticks pulses longest used since fastest tempos gaps : List ℕ) (m : Machine) → TablesOf d rows runs ticks pulses longest sources → Tracks pol d w used since fastest m → rulesKept d m ≡ true → w .tick < 2 ^ 63 → Asked ticks pulses tempos gaps → Sourced mask → Known d mask → onKnob t ≡ true → peak ≡ max (w .peak) t → Timed mask peak ticks pulses since fastest tempos gaps
-timed pol d t mask peak sources w rows runs ticks pulses longest used since fastest tempos gaps m T R l early asked sourced k knob q = record {
+pub timed : (pol : Policy) (d : Description) (t mask peak sources : ℕ) (w : Words) (rows runs paces longest used since fastest asked : List ℕ) (m : Machine) → TablesOf d rows runs paces longest sources → Tracks pol d w used since fastest m → rulesKept d m ≡ true → w .tick < 2 ^ 63 → Asked paces asked → Sourced mask → Known d mask → onKnob t ≡ true → peak ≡ max (w .peak) t → Timed mask peak paces since fastest asked
+timed pol d t mask peak sources w rows runs paces longest used since fastest asked m T R l early answers sourced k knob q = record {
   sourced = sourced;
   at = λ u e. record {
     here = sourced u e;
@@ -283,7 +283,7 @@ timed pol d t mask peak sources w rows runs ticks pulses longest used since fast
     kept = kept-most d w fastest m (T .formed) l (R .keeps) u (under u e);
     early = omega (arith, R .holds .ages .before u (under u e));
   };
-  asked = asked;
+  asked = answers;
 }
   where
     under : (u : ℕ) → heard mask u ≡ true → u < d .«source_count»
@@ -426,24 +426,24 @@ keeps-given t mask w w′ fastest m high a b K = record {
 }
 
 -- a refused call leaves all as it was, and ends as the plain machine's
-pub refused-hears : (rows ticks pulses longest : List ℕ) (sources : ℕ) (call : Call) (w : Words) (since fastest tempos gaps : List ℕ) (why : Refusal) (r : Advanced) → r ≡ record { outcome = Refused why 0; words = w } → ((p : Policy) (d : Description) (runs used : List ℕ) (m : Machine) → TablesOf d rows runs ticks pulses longest sources → judge d ≡ Done → lawful p d m ≡ true → Tracks p d w used since fastest m → record { outcome = Refused why 0; machine = m } ≡ plainAnswer p d m call) → Asked ticks pulses tempos gaps
-    → Hears rows ticks pulses longest sources call w since fastest r since fastest tempos gaps
-refused-hears rows ticks pulses longest sources call w since fastest tempos gaps why r e plain asked = record {
+pub refused-hears : (rows paces longest : List ℕ) (sources : ℕ) (call : Call) (w : Words) (since fastest asked : List ℕ) (why : Refusal) (r : Advanced) → r ≡ record { outcome = Refused why 0; words = w } → ((p : Policy) (d : Description) (runs used : List ℕ) (m : Machine) → TablesOf d rows runs paces longest sources → judge d ≡ Done → lawful p d m ≡ true → Tracks p d w used since fastest m → record { outcome = Refused why 0; machine = m } ≡ plainAnswer p d m call) → Asked paces asked
+    → Hears rows paces longest sources call w since fastest r since fastest asked
+refused-hears rows paces longest sources call w since fastest asked why r e plain answers = record {
   refuses = λ x place q p d runs used m T j l R.
       (ap (λ (o : Outcome). record { outcome = o; machine = m }) (ap (λ (x : Advanced). x .outcome) e) ∙ plain p d runs used m T j l R, subst (λ (k : Words). Tracks p d k used since fastest m) (sym (ap (λ (x : Advanced). x .words) e)) R);
   hears = λ q. absurd (not-both (ap isDone q) (ap isDone (ap (λ (x : Advanced). x .outcome) e)));
-  asked = asked;
+  asked = answers;
   then = ap (λ (x : Advanced). x .words .tick) e;
   runs = ap (λ (x : Advanced). x .words .running) e;
 }
 
 -- one that is not refused
-pub admitted-hears : (rows ticks pulses longest : List ℕ) (sources : ℕ) (call : Call) (w w′ : Words) (since fastest since′ fastest′ tempos gaps : List ℕ) (r : Advanced) → r ≡ record { outcome = Done; words = w′ } → ((p : Policy) (d : Description) (runs used : List ℕ) (m : Machine) → TablesOf d rows runs ticks pulses longest sources → judge d ≡ Done → lawful p d m ≡ true → Tracks p d w used since fastest m → Heard d call w′ used since′ fastest′ m) → Asked ticks pulses tempos gaps → w′ .tick ≡ w .tick → w′ .running ≡ w .running
-    → Hears rows ticks pulses longest sources call w since fastest r since′ fastest′ tempos gaps
-admitted-hears rows ticks pulses longest sources call w w′ since fastest since′ fastest′ tempos gaps r e come asked then runs = record {
+pub admitted-hears : (rows paces longest : List ℕ) (sources : ℕ) (call : Call) (w w′ : Words) (since fastest since′ fastest′ asked : List ℕ) (r : Advanced) → r ≡ record { outcome = Done; words = w′ } → ((p : Policy) (d : Description) (runs used : List ℕ) (m : Machine) → TablesOf d rows runs paces longest sources → judge d ≡ Done → lawful p d m ≡ true → Tracks p d w used since fastest m → Heard d call w′ used since′ fastest′ m) → Asked paces asked → w′ .tick ≡ w .tick → w′ .running ≡ w .running
+    → Hears rows paces longest sources call w since fastest r since′ fastest′ asked
+admitted-hears rows paces longest sources call w w′ since fastest since′ fastest′ asked r e come answers then runs = record {
   refuses = λ why place q. absurd (not-both (ap isDone (ap (λ (x : Advanced). x .outcome) e)) (ap isDone q));
   hears = λ q p d runs used m T j l R. subst (λ (k : Words). Heard d call k used since′ fastest′ m) (sym (ap (λ (x : Advanced). x .words) e)) (come p d runs used m T j l R);
-  asked = asked;
+  asked = answers;
   then = ap (λ (x : Advanced). x .words .tick) e ∙ then;
   runs = ap (λ (x : Advanced). x .words .running) e ∙ runs;
 }

@@ -32,7 +32,7 @@ use Rattle.machine.specs.Calls.{TablesOf, Tracks}
 use Rattle.machine.proofs.CallLaws.{raised-some, kept-rule}
 
 -- the tables of a wiring and of sources
-pub tables-of : (d : Description) (w : Wiring) (s : Sources) (longest : List ℕ) → WiringOf d w → SourcesOf d s → GapsOf d 200 longest → TablesOf d (w .rows) (w .runs) (s .ticks) (s .pulses) longest (w .sources)
+pub tables-of : (d : Description) (w : Wiring) (s : Sources) (longest : List ℕ) → WiringOf d w → SourcesOf d s → GapsOf d 200 longest → TablesOf d (w .rows) (w .runs) (s .paces) longest (w .sources)
 tables-of d w s longest r h g = record {
   formed = r .formed;
   rowed = r .rowed;

@@ -54,23 +54,21 @@ fn young(since: u64, gap: u32, tick: u64) -> bool
 fn soon_at<'a>(
     u: usize,
     peak: u32,
-    ticks: &'a [u32; 16],
-    pulses: &'a [u32; 16],
+    paces: &'a [u32; 32],
     longest: &'a [u32; 16],
     since: &[u64; 16],
     fastest: &[u32; 16],
     tick: u64,
-    tempos: &mut [u32; 16],
-    gaps: &mut [u32; 16],
+    asked: &mut [u32; 32],
 ) -> bool
-    requires { ⌜ TimedAt u peak (now pulses) (now since) (now fastest) × Asked (now ticks) (now pulses) (now tempos) (now gaps) ⌝ }
-    ensures { λ r. ⌜ SoonAt u peak (now (ticks .entry)) (now (pulses .entry)) (now (longest .entry)) (now (since .entry)) (now (fastest .entry)) tick r (now (tempos .exit)) (now (gaps .exit)) ⌝ }
+    requires { ⌜ TimedAt u peak (now paces) (now since) (now fastest) × Asked (now paces) (now asked) ⌝ }
+    ensures { λ r. ⌜ SoonAt u peak (now (paces .entry)) (now (longest .entry)) (now (since .entry)) (now (fastest .entry)) tick r (now (asked .exit)) ⌝ }
 {
     if !young(since[u], longest[u], tick) {
         return false;
     }
     let tempo = larger(fastest[u], peak);
-    let gap = gap_at(ticks, pulses, u, tempo, tempos, gaps);
+    let gap = gap_at(paces, u, tempo, asked);
     young(since[u], gap, tick)
 }
 
@@ -78,17 +76,15 @@ fn soon_at<'a>(
 fn too_soon<'a>(
     mask: u64,
     peak: u32,
-    ticks: &'a [u32; 16],
-    pulses: &'a [u32; 16],
+    paces: &'a [u32; 32],
     longest: &'a [u32; 16],
     since: &[u64; 16],
     fastest: &[u32; 16],
     tick: u64,
-    tempos: &mut [u32; 16],
-    gaps: &mut [u32; 16],
+    asked: &mut [u32; 32],
 ) -> bool
-    requires { ⌜ Timed mask peak (now ticks) (now pulses) (now since) (now fastest) (now tempos) (now gaps) ⌝ }
-    ensures { λ r. ⌜ SoonIs mask peak (now (ticks .entry)) (now (pulses .entry)) (now (longest .entry)) (now (since .entry)) (now (fastest .entry)) tick r (now (tempos .exit)) (now (gaps .exit)) ⌝ }
+    requires { ⌜ Timed mask peak (now paces) (now since) (now fastest) (now asked) ⌝ }
+    ensures { λ r. ⌜ SoonIs mask peak (now (paces .entry)) (now (longest .entry)) (now (since .entry)) (now (fastest .entry)) tick r (now (asked .exit)) ⌝ }
 {
     let mut rest = mask;
     while rest != 0 {
@@ -96,14 +92,12 @@ fn too_soon<'a>(
         if soon_at(
             u,
             peak,
-            ticks,
-            pulses,
+            paces,
             longest,
             since,
             fastest,
             tick,
-            &mut *tempos,
-            &mut *gaps,
+            &mut *asked,
         ) {
             return true;
         }
@@ -132,19 +126,17 @@ fn admitted(words: Words) -> Advanced
 // source comes is asked first: that is what a processor foretells least.
 fn hear<'a>(
     rows: &[u64; 576],
-    ticks: &'a [u32; 16],
-    pulses: &'a [u32; 16],
+    paces: &'a [u32; 32],
     longest: &'a [u32; 16],
     sources: usize,
     call: Call,
     w: Words,
     since: &mut [u64; 16],
     fastest: &mut [u32; 16],
-    tempos: &mut [u32; 16],
-    gaps: &mut [u32; 16],
+    asked: &mut [u32; 32],
 ) -> Advanced
-    requires { ⌜ Hearing (now rows) (now ticks) (now pulses) (now longest) sources (call .mask) w (now since) (now fastest) (now tempos) (now gaps) ⌝ }
-    ensures { λ r. ⌜ Hears (now (rows .entry)) (now (ticks .entry)) (now (pulses .entry)) (now (longest .entry)) sources call w (now (since .entry)) (now (fastest .entry)) r (now (since .exit)) (now (fastest .exit)) (now (tempos .exit)) (now (gaps .exit)) ⌝ }
+    requires { ⌜ Hearing (now rows) (now paces) (now longest) sources (call .mask) w (now since) (now fastest) (now asked) ⌝ }
+    ensures { λ r. ⌜ Hears (now (rows .entry)) (now (paces .entry)) (now (longest .entry)) sources call w (now (since .entry)) (now (fastest .entry)) r (now (since .exit)) (now (fastest .exit)) (now (asked .exit)) ⌝ }
 {
     let mask = call.mask;
     let t = call.tempo;
@@ -164,14 +156,12 @@ fn hear<'a>(
     if too_soon(
         mask,
         peak,
-        ticks,
-        pulses,
+        paces,
         longest,
         since,
         fastest,
         w.tick,
-        tempos,
-        gaps,
+        asked,
     ) {
         return refused(Refusal::TooSoon, w);
     }
@@ -201,8 +191,7 @@ pub fn advance<'a>(
     p: Policy,
     rows: &'a [u64; 576],
     runs: &'a [u32; 32],
-    ticks: &'a [u32; 16],
-    pulses: &'a [u32; 16],
+    paces: &'a [u32; 32],
     longest: &'a [u32; 16],
     sources: usize,
     call: Call,
@@ -210,24 +199,21 @@ pub fn advance<'a>(
     used: &mut [u32; 32],
     since: &mut [u64; 16],
     fastest: &mut [u32; 16],
-    tempos: &mut [u32; 16],
-    gaps: &mut [u32; 16],
+    asked: &mut [u32; 32],
 ) -> Advanced
-    requires { ⌜ Going p (now rows) (now runs) (now ticks) (now pulses) (now longest) sources (call .mask) w (now used) (now since) (now fastest) (now tempos) (now gaps) ⌝ }
-    ensures { λ r. ⌜ Advances p (now (rows .entry)) (now (runs .entry)) (now (ticks .entry)) (now (pulses .entry)) (now (longest .entry)) sources call w (now (used .entry)) (now (since .entry)) (now (fastest .entry)) r (now (used .exit)) (now (since .exit)) (now (fastest .exit)) (now (tempos .exit)) (now (gaps .exit)) ⌝ }
+    requires { ⌜ Going p (now rows) (now runs) (now paces) (now longest) sources (call .mask) w (now used) (now since) (now fastest) (now asked) ⌝ }
+    ensures { λ r. ⌜ Advances p (now (rows .entry)) (now (runs .entry)) (now (paces .entry)) (now (longest .entry)) sources call w (now (used .entry)) (now (since .entry)) (now (fastest .entry)) r (now (used .exit)) (now (since .exit)) (now (fastest .exit)) (now (asked .exit)) ⌝ }
 {
     let heard = hear(
         rows,
-        ticks,
-        pulses,
+        paces,
         longest,
         sources,
         call,
         w,
         since,
         fastest,
-        tempos,
-        gaps,
+        asked,
     );
     let outcome = heard.outcome;
     let Outcome::Done = outcome else {

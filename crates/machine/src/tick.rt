@@ -67,15 +67,13 @@ pub fn tick_judged(
     let mut since = packed.since;
     let mut used = m.used;
     let mut fastest = m.fastest;
-    let mut tempos = [0u32; 16];
-    let mut gaps = [0u32; 16];
+    let mut asked = [0u32; 32];
     let sources = w.sources;
     let done = advance(
         p,
         &w.rows,
         &w.runs,
-        &s.ticks,
-        &s.pulses,
+        &s.paces,
         &longest,
         sources,
         call,
@@ -83,8 +81,7 @@ pub fn tick_judged(
         &mut used,
         &mut since,
         &mut fastest,
-        &mut tempos,
-        &mut gaps,
+        &mut asked,
     );
     let outcome = done.outcome;
     let left = done.words;

@@ -75,7 +75,7 @@ fn put_plain(p: Policy, file: &[u8], page: &mut [u8], at: usize) -> usize
         t.tasks,
     );
     let shown = shown_tempo(quote);
-    let gaps = gaps_by(&t.sources.ticks, &t.sources.pulses, t.sources.count, shown);
+    let gaps = gaps_by(&t.sources.paces, t.sources.count, shown);
     let slots = slots_at(p, d, &t.levels, &t.starts, &t.tails, &t.orders, &gaps);
     let behind = tempo_line(&mut *page, at, quote);
     link_lines(&mut *page, behind, d, slots)

@@ -59,8 +59,7 @@ pub fn run_wired(
     let mut used = [0u32; 32];
     let mut since = since_of(&longest);
     let mut fastest = [0u32; 16];
-    let mut tempos = [0u32; 16];
-    let mut gaps = [0u32; 16];
+    let mut asked = [0u32; 32];
     let mut i: usize = 0;
     let mut head = peek(calls, 0, n);
     while i < n {
@@ -74,8 +73,7 @@ pub fn run_wired(
             p,
             &w.rows,
             &w.runs,
-            &s.ticks,
-            &s.pulses,
+            &s.paces,
             &longest,
             sources,
             call,
@@ -83,8 +81,7 @@ pub fn run_wired(
             &mut used,
             &mut since,
             &mut fastest,
-            &mut tempos,
-            &mut gaps,
+            &mut asked,
         );
         let outcome = done.outcome;
         outcomes[i] = code(outcome);
@@ -136,6 +133,6 @@ pub fn run_judged(p: Policy, d: Description, calls: &[u8], outcomes: &mut [u8]) 
     ensures { λ r. ⌜ RunOf p d (callsIn (now (calls .entry))) (now (outcomes .entry)) (now (outcomes .exit)) r ⌝ }
 {
     let s = sources_of(d);
-    let longest = gaps_by(&s.ticks, &s.pulses, s.count, 200);
+    let longest = gaps_by(&s.paces, s.count, 200);
     run_wired(p, wiring_of(d), s, longest, calls, outcomes)
 }

@@ -13,19 +13,19 @@ use Rattle.model.specs.Refusals.{noSource}
 use Rattle.model.specs.Field.{onScale}
 use Rattle.model.specs.Delays.{spacing, spacingOf}
 use Rattle.model.specs.Verdicts.{onKnob}
-use Rattle.lemmas.proofs.Tests.{at-or-not, within}
+use Rattle.lemmas.proofs.Tests.{Cmp, less, same, more, cmp, at-or-not, within}
 use Rattle.lemmas.proofs.Table.{stored, getD-same}
 use Rattle.theory.proofs.WellFormed.{WellFormed}
 use Rattle.theory.proofs.Spacing.{spacing-some, spacing-most}
 use Rattle.spacings.specs.declared.Sources.{Sources}
-use Rattle.spacings.specs.Sources.{spacingBy, PlainOf, SourcesOf, Scaled}
+use Rattle.spacings.specs.Sources.{ticksAt, pulsesAt, spacingAt, PlainOf, SourcesOf, Scaled}
 use Rattle.spacings.specs.Gaps.{Room, Asked, Fit, GapsBy, GapsOf}
 use Rattle.spacings.proofs.SourceLaws.{plain-spacing}
 
 -- the spacings of the first n sources
 pub record GapsTo (s : Sources) (t n : ℕ) (gaps : List ℕ) : Type 0 where
   pub sized : length gaps ≡ 16
-  pub at : (u : ℕ) → u < n → getD gaps u 0 ≡ spacingBy (getD (s .ticks) u 0) (getD (s .pulses) u 0) t
+  pub at : (u : ℕ) → u < n → getD gaps u 0 ≡ spacingAt (s .paces) u t
   pub fit : Fit n gaps
 
 pub zeros-most : (n j : ℕ) → getD (replicate n 0) j 0 ≤ 1000000000
@@ -37,12 +37,12 @@ zeros-room = record { sized = refl; most = zeros-most 16 }
 pub gaps-none : (s : Sources) (t : ℕ) (gaps : List ℕ) → Room gaps → GapsTo s t 0 gaps
 gaps-none s t gaps r = record { sized = r .sized; at = λ u p. absurd (omega arith); fit = record { some = λ u p. absurd (omega arith); most = r .most } }
 
-pub gaps-more : (s : Sources) (t n v : ℕ) (gaps : List ℕ) → 1 ≤ t → t ≤ 3000 → n < 16 → (x : Source) → PlainOf x (getD (s .ticks) n 0) (getD (s .pulses) n 0) → v ≡ spacingBy (getD (s .ticks) n 0) (getD (s .pulses) n 0) t → length (set gaps n v) ≡ length gaps → GapsTo s t n gaps → GapsTo s t (n + 1) (set gaps n v)
+pub gaps-more : (s : Sources) (t n v : ℕ) (gaps : List ℕ) → 1 ≤ t → t ≤ 3000 → n < 16 → (x : Source) → PlainOf x (ticksAt (s .paces) n) (pulsesAt (s .paces) n) → v ≡ spacingAt (s .paces) n t → length (set gaps n v) ≡ length gaps → GapsTo s t n gaps → GapsTo s t (n + 1) (set gaps n v)
 gaps-more s t n v gaps lo hi h x k e z r =
     let is : v ≡ spacing x t = e ∙ plain-spacing k t in
     record {
       sized = z ∙ r .sized;
-      at = stored (λ i y. y ≡ spacingBy (getD (s .ticks) i 0) (getD (s .pulses) i 0) t) 0 gaps n v (omega (arith, r .sized)) (r .at) e;
+      at = stored (λ i y. y ≡ spacingAt (s .paces) i t) 0 gaps n v (omega (arith, r .sized)) (r .at) e;
       fit = record {
         some = stored (λ i y. 1 ≤ y) 0 gaps n v (omega (arith, r .sized)) (r .fit .some) (rw is (spacing-some x t (k .on) lo hi));
         most = λ j. at-or-not (λ i. getD (set gaps n v) i 0 ≤ 1000000000) n j
@@ -59,7 +59,7 @@ gap-place d t u =
     ap (λ (k : ℕ). spacing (getD (d .sources) k noSource .source) t) (sym e)
 
 -- the sources of a description have its spacings
-pub gap-of : (d : Description) (s : Sources) (t u : ℕ) → SourcesOf d s → u < d .«source_count» → spacingBy (getD (s .ticks) u 0) (getD (s .pulses) u 0) t ≡ spacingOf d t (33 + u)
+pub gap-of : (d : Description) (s : Sources) (t u : ℕ) → SourcesOf d s → u < d .«source_count» → spacingAt (s .paces) u t ≡ spacingOf d t (33 + u)
 gap-of d s t u h p = plain-spacing (h .at u (omega (arith, h .counted))) t ∙ gap-place d t u
 
 pub gaps-of : (d : Description) (s : Sources) (t : ℕ) (gaps : List ℕ) → SourcesOf d s → GapsBy s t gaps → GapsOf d t gaps
@@ -84,15 +84,18 @@ pub knob-is : (t : ℕ) → onKnob t ≡ true → (200 ≤ t) × (t ≤ 3000)
 knob-is t e = within 200 t 3000 e
 
 -- spacings that were asked for: none yet, and one more
-pub asked-none : (ticks pulses : List ℕ) → Asked ticks pulses (replicate 16 0) (replicate 16 0)
-asked-none ticks pulses = record { many = refl; sized = refl; at = λ u h p. absurd (omega (arith, getD-same {A = ℕ} 16 u 0)) }
+pub asked-none : (paces : List ℕ) → Asked paces (replicate 32 0)
+asked-none paces = record { sized = refl; at = λ u h p. absurd (omega (arith, getD-same {A = ℕ} 32 u 0)) }
 
-pub asked-more : (ticks pulses tempos gaps : List ℕ) (u t g : ℕ) → u < 16 → g ≡ spacingBy (getD ticks u 0) (getD pulses u 0) t → Asked ticks pulses tempos gaps → Asked ticks pulses (set tempos u t) (set gaps u g)
-asked-more ticks pulses tempos gaps u t g h e a = record {
-  many = length-set tempos u t ∙ a .many;
-  sized = length-set gaps u g ∙ a .sized;
-  at = λ k p. at-or-not (λ i. i < 16 → 1 ≤ getD (set tempos u t) i 0 → getD (set gaps u g) i 0 ≡ spacingBy (getD ticks i 0) (getD pulses i 0) (getD (set tempos u t) i 0)) u k
-      (λ q s. rw (getD-set-same gaps u g 0 (omega (arith, a .sized)), getD-set-same tempos u t 0 (omega (arith, a .many))) e)
-      (λ ne q s. rw (getD-set-other gaps u k g 0 ne, getD-set-other tempos u k t 0 ne) (a .at k q (rw (getD-set-other tempos u k t 0 ne) at s)))
-      p;
-}
+pub asked-more : (paces asked : List ℕ) (u t g : ℕ) → u < 16 → g ≡ spacingAt paces u t → Asked paces asked → Asked paces (set (set asked u t) (16 + u) g)
+asked-more paces asked u t g h e a = record { sized = length-set (set asked u t) (16 + u) g ∙ length-set asked u t ∙ a .sized; at = λ k p. go k p (cmp k u) }
+  where
+    other : (k : ℕ) → k < 16 → (k ≡ u → ⊥) → 1 ≤ getD (set (set asked u t) (16 + u) g) k 0 → getD (set (set asked u t) (16 + u) g) (16 + k) 0 ≡ spacingAt paces k (getD (set (set asked u t) (16 + u) g) k 0)
+    other k p ne =
+        rw (getD-set-other (set asked u t) (16 + u) k g 0 (λ x. omega arith), getD-set-other asked u k t 0 ne, getD-set-other (set asked u t) (16 + u) (16 + k) g 0 (λ x. ne (omega arith)), getD-set-other asked u (16 + k) t 0 (λ x. omega arith)) (a .at k p)
+
+    go : (k : ℕ) → k < 16 → Cmp k u → 1 ≤ getD (set (set asked u t) (16 + u) g) k 0 → getD (set (set asked u t) (16 + u) g) (16 + k) 0 ≡ spacingAt paces k (getD (set (set asked u t) (16 + u) g) k 0)
+    go k p (less x) = other k p (λ y. omega arith)
+    go k p (same x) = λ q.
+        rw (x, getD-set-other (set asked u t) (16 + u) u g 0 (λ y. omega arith), getD-set-same asked u t 0 (omega (arith, a .sized)), getD-set-same (set asked u t) (16 + u) g 0 (omega (arith, length-set asked u t, a .sized))) e
+    go k p (more x) = other k p (λ y. omega arith)

@@ -16,7 +16,7 @@ use Rattle.model.specs.Field.{onScale}
 use Rattle.model.specs.Delays.{spacing}
 use Rattle.lemmas.proofs.Tests.{Cmp, less, same, more, cmp}
 use Rattle.theory.proofs.Spacing.{paced-scale, swung-scale}
-use Rattle.spacings.specs.Sources.{ticksIn, pulsesIn, spacingBy, PlainOf}
+use Rattle.spacings.specs.Sources.{ticksIn, pulsesIn, ticksAt, pulsesAt, spacingBy, PlainOf}
 
 -- the spacing of a source from its plain numbers
 source-spacing : (x : Source) (t : ℕ) → onScale (OfSource x) ≡ true → spacing x t ≡ spacingBy (ticksIn x) (pulsesIn x) t
@@ -38,20 +38,20 @@ module _ {x : Source} {ticks pulses : ℕ} (k : PlainOf x ticks pulses) where
   plain-pulses = rw (k .pulses-are) (source-pulses x (k .on))
 
 -- the first n sources
-pub record SourcesTo (d : Description) (ticks pulses : List ℕ) (n : ℕ) : Type 0 where
-  pub ticks-sized : length ticks ≡ 16
-  pub pulses-sized : length pulses ≡ 16
-  pub at : (u : ℕ) → u < n → PlainOf (getD (d .sources) u noSource .source) (getD ticks u 0) (getD pulses u 0)
+pub record SourcesTo (d : Description) (paces : List ℕ) (n : ℕ) : Type 0 where
+  pub sized : length paces ≡ 32
+  pub at : (u : ℕ) → u < n → PlainOf (getD (d .sources) u noSource .source) (ticksAt paces u) (pulsesAt paces u)
 
-pub sources-more : (d : Description) (ticks pulses : List ℕ) (n a b : ℕ) → n < 16 → PlainOf (getD (d .sources) n noSource .source) a b → SourcesTo d ticks pulses n → SourcesTo d (set ticks n a) (set pulses n b) (n + 1)
-sources-more d ticks pulses n a b h k r =
+pub sources-more : (d : Description) (paces : List ℕ) (n a b : ℕ) → n < 16 → PlainOf (getD (d .sources) n noSource .source) a b → SourcesTo d paces n → SourcesTo d (set (set paces n a) (16 + n) b) (n + 1)
+sources-more d paces n a b h k r =
     record {
-      ticks-sized = length-set ticks n a ∙ r .ticks-sized;
-      pulses-sized = length-set pulses n b ∙ r .pulses-sized;
+      sized = length-set (set paces n a) (16 + n) b ∙ length-set paces n a ∙ r .sized;
       at = λ u q. go u q (cmp u n);
     }
   where
-    go : (u : ℕ) → u < n + 1 → Cmp u n → PlainOf (getD (d .sources) u noSource .source) (getD (set ticks n a) u 0) (getD (set pulses n b) u 0)
-    go u q (less x) = rw (getD-set-other ticks n u a 0 (λ e. omega arith), getD-set-other pulses n u b 0 (λ e. omega arith)) (r .at u x)
-    go u q (same x) = rw (x, getD-set-same ticks n a 0 (omega (arith, r .ticks-sized)), getD-set-same pulses n b 0 (omega (arith, r .pulses-sized))) k
+    go : (u : ℕ) → u < n + 1 → Cmp u n → PlainOf (getD (d .sources) u noSource .source) (ticksAt (set (set paces n a) (16 + n) b) u) (pulsesAt (set (set paces n a) (16 + n) b) u)
+    go u q (less x) =
+        rw (getD-set-other (set paces n a) (16 + n) u b 0 (λ e. omega arith), getD-set-other paces n u a 0 (λ e. omega arith), getD-set-other (set paces n a) (16 + n) (16 + u) b 0 (λ e. omega arith), getD-set-other paces n (16 + u) a 0 (λ e. omega arith)) (r .at u x)
+    go u q (same x) =
+        rw (x, getD-set-other (set paces n a) (16 + n) n b 0 (λ e. omega arith), getD-set-same paces n a 0 (omega (arith, r .sized)), getD-set-same (set paces n a) (16 + n) b 0 (omega (arith, length-set paces n a, r .sized))) k
     go u q (more x) = absurd (omega arith)

@@ -6,18 +6,17 @@ use lib.ListN.{length, getD}
 use Rattle.model.specs.declared.Description.{Description}
 use Rattle.model.specs.Delays.{spacingOf}
 use Rattle.spacings.specs.declared.Sources.{Sources}
-use Rattle.spacings.specs.Sources.{spacingBy}
+use Rattle.spacings.specs.Sources.{spacingAt}
 
 -- a table of spacings, filled or not: 16 places, and nothing in it beyond the scale
 pub record Room (gaps : List ℕ) : Type 0 where
   pub sized : length gaps ≡ 16
   pub most : (u : ℕ) → getD gaps u 0 ≤ 1000000000
 
--- tempos that were asked for, 0 for none, and the spacings at them
-pub record Asked (ticks pulses tempos gaps : List ℕ) : Type 0 where
-  pub many : length tempos ≡ 16
-  pub sized : length gaps ≡ 16
-  pub at : (u : ℕ) → u < 16 → 1 ≤ getD tempos u 0 → getD gaps u 0 ≡ spacingBy (getD ticks u 0) (getD pulses u 0) (getD tempos u 0)
+-- tempos that were asked for, 0 for none, and 16 places on the spacings at them
+pub record Asked (paces asked : List ℕ) : Type 0 where
+  pub sized : length asked ≡ 32
+  pub at : (u : ℕ) → u < 16 → 1 ≤ getD asked u 0 → getD asked (16 + u) 0 ≡ spacingAt paces u (getD asked u 0)
 
 -- spacings of n sources from the scale
 pub record Fit (n : ℕ) (gaps : List ℕ) : Type 0 where
@@ -35,5 +34,5 @@ GapsOf d t gaps = GapsIn (spacingOf d t) (d .«source_count») gaps
 
 -- the same of sources in plain numbers
 pub record GapsBy (s : Sources) (t : ℕ) (gaps : List ℕ) : Type 0 where
-  pub at : (u : ℕ) → u < s .count → getD gaps u 0 ≡ spacingBy (getD (s .ticks) u 0) (getD (s .pulses) u 0) t
+  pub at : (u : ℕ) → u < s .count → getD gaps u 0 ≡ spacingAt (s .paces) u t
   pub fit : Fit (s .count) gaps

@@ -9,15 +9,14 @@ ghost use Rattle.model.specs.declared.Field.the-variants.{OfSource};
 ghost use Rattle.model.specs.Field.{onScale};
 ghost use Rattle.model.specs.Verdicts.{onKnob};
 ghost use Rattle.theory.proofs.WellFormed.{WellFormed};
-ghost use Rattle.spacings.specs.Sources.{pacedTicks, ticksIn, pulsesIn, spacingBy, sourcesWith, SourcesOf, Scaled};
+ghost use Rattle.spacings.specs.Sources.{pacedTicks, ticksIn, pulsesIn, pulsesAt, spacingBy, spacingAt, sourcesWith, SourcesOf, Scaled};
 ghost use Rattle.spacings.specs.Gaps.{Room, Asked, GapsBy, GapsOf};
 
-// The sources of a description in plain numbers: a paced one has pulses, and its spacing is its ticks divided by tempo and pulses; of a fixed one
-// the pulses are 0, and its spacing is its ticks.
+// The sources of a description in plain numbers, as one row that can be lent: the ticks of source 33 + u at place u, its pulses at 16 + u. A paced
+// one has pulses, and its spacing is its ticks divided by tempo and pulses; of a fixed one the pulses are 0, and its spacing is its ticks.
 pub struct Sources {
     pub count: usize,
-    pub ticks: [u32; 16],
-    pub pulses: [u32; 16],
+    pub paces: [u32; 32],
 }
 
 // Whether a tempo is on the knob (11).
@@ -63,20 +62,18 @@ pub fn sources_of(d: Description) -> Sources
     requires { ⌜ WellFormed d ⌝ }
     ensures { λ r. ⌜ SourcesOf d r ⌝ }
 {
-    let mut ticks = [0u32; 16];
-    let mut pulses = [0u32; 16];
+    let mut paces = [0u32; 32];
     let mut u: usize = 0;
     while u < d.source_count {
         let slot = d.sources[u];
         let source = slot.source;
-        ticks[u] = ticks_in(source);
-        pulses[u] = pulses_in(source);
+        paces[u] = ticks_in(source);
+        paces[16 + u] = pulses_in(source);
         u += 1;
     }
     Sources {
         count: d.source_count,
-        ticks,
-        pulses,
+        paces,
     }
 }
 
@@ -91,53 +88,40 @@ fn spacing_by(ticks: u32, pulses: u32, t: u32) -> u32
     ticks / (t * pulses)
 }
 
-// The spacing of source u at tempo t. The tables have for each source the tempo that was asked for last, 0 for none, and the spacing at it: a
-// spacing is worked out only where another tempo is asked for.
-pub fn gap_at<'a>(
-    ticks: &'a [u32; 16],
-    pulses: &'a [u32; 16],
-    u: usize,
-    t: u32,
-    tempos: &mut [u32; 16],
-    gaps: &mut [u32; 16],
-) -> u32
-    requires { ⌜ (u < 16) × (getD (now pulses) u 0 ≤ 960) × (200 ≤ t) × (t ≤ 3000) × Asked (now ticks) (now pulses) (now tempos) (now gaps) ⌝ }
-    ensures { λ r. ⌜ (r ≡ spacingBy (getD (now (ticks .entry)) u 0) (getD (now (pulses .entry)) u 0) t) × Asked (now (ticks .entry)) (now (pulses .entry)) (now (tempos .exit)) (now (gaps .exit)) ⌝ }
+// The spacing of source u at tempo t. A table has for each source the tempo that was asked for last at place u, 0 for none, and the spacing at it at
+// 16 + u: a spacing is worked out only where another tempo is asked for.
+pub fn gap_at(paces: &[u32; 32], u: usize, t: u32, asked: &mut [u32; 32]) -> u32
+    requires { ⌜ (u < 16) × (pulsesAt (now paces) u ≤ 960) × (200 ≤ t) × (t ≤ 3000) × Asked (now paces) (now asked) ⌝ }
+    ensures { λ r. ⌜ (r ≡ spacingAt (now (paces .entry)) u t) × Asked (now (paces .entry)) (now (asked .exit)) ⌝ }
 {
-    if tempos[u] == t {
-        return gaps[u];
+    if asked[u] == t {
+        return asked[16 + u];
     }
-    let gap = spacing_by(ticks[u], pulses[u], t);
-    tempos[u] = t;
-    gaps[u] = gap;
+    let gap = spacing_by(paces[u], paces[16 + u], t);
+    asked[u] = t;
+    asked[16 + u] = gap;
     gap
 }
 
-// Fills a lent table with the spacing of each of m sources at tempo t, from their ticks and pulses.
-pub fn fill_gaps<'a>(
-    ticks: &'a [u32; 16],
-    pulses: &'a [u32; 16],
-    m: usize,
-    t: u32,
-    gaps: &mut [u32; 16],
-)
-    requires { ⌜ Scaled (sourcesWith m (now ticks) (now pulses)) × (200 ≤ t) × (t ≤ 3000) × Room (now gaps) ⌝ }
-    ensures { λ _. ⌜ GapsBy (sourcesWith m (now (ticks .entry)) (now (pulses .entry))) t (now (gaps .exit)) × Room (now (gaps .exit)) ⌝ }
+// Fills a lent table with the spacing of each of m sources at tempo t, from their plain numbers.
+pub fn fill_gaps(paces: &[u32; 32], m: usize, t: u32, gaps: &mut [u32; 16])
+    requires { ⌜ Scaled (sourcesWith m (now paces)) × (200 ≤ t) × (t ≤ 3000) × Room (now gaps) ⌝ }
+    ensures { λ _. ⌜ GapsBy (sourcesWith m (now (paces .entry))) t (now (gaps .exit)) × Room (now (gaps .exit)) ⌝ }
 {
     let mut u: usize = 0;
     while u < m {
-        gaps[u] = spacing_by(ticks[u], pulses[u], t);
+        gaps[u] = spacing_by(paces[u], paces[16 + u], t);
         u += 1;
     }
 }
 
 // The same in a new table.
-pub fn gaps_by<'a>(ticks: &'a [u32; 16], pulses: &'a [u32; 16], m: usize, t: u32) -> [u32; 16]
-    requires { ⌜ Scaled (sourcesWith m (now ticks) (now pulses)) × (200 ≤ t) × (t ≤ 3000) ⌝ }
-    ensures { λ r. ⌜ GapsBy (sourcesWith m (now (ticks .entry)) (now (pulses .entry))) t r ⌝ }
+pub fn gaps_by(paces: &[u32; 32], m: usize, t: u32) -> [u32; 16]
+    requires { ⌜ Scaled (sourcesWith m (now paces)) × (200 ≤ t) × (t ≤ 3000) ⌝ }
+    ensures { λ r. ⌜ GapsBy (sourcesWith m (now (paces .entry))) t r ⌝ }
 {
     let mut gaps = [0u32; 16];
-    fill_gaps(ticks, pulses, m, t, &mut gaps);
+    fill_gaps(paces, m, t, &mut gaps);
     gaps
 }
 
@@ -147,5 +131,5 @@ pub fn gaps_of(d: Description, t: u32) -> [u32; 16]
     ensures { λ r. ⌜ GapsOf d t r ⌝ }
 {
     let s = sources_of(d);
-    gaps_by(&s.ticks, &s.pulses, s.count, t)
+    gaps_by(&s.paces, s.count, t)
 }

@@ -142,12 +142,7 @@ pub fn verdicts(p: Policy, d: Description, t: u32) -> Verdicts
         return refused(Refusal::OffKnob, 0);
     }
     let tables = tables_of(p, d, &judged.brings, &judged.works);
-    let gaps = gaps_by(
-        &tables.sources.ticks,
-        &tables.sources.pulses,
-        tables.sources.count,
-        t,
-    );
+    let gaps = gaps_by(&tables.sources.paces, tables.sources.count, t);
     let slots = slots_at(
         p,
         d,

@@ -9,20 +9,20 @@ use Rattle.quotes.proofs.held_at.Tie as tie
 
 fill-gaps-requires : tie.Need-fill-gaps-requires
 fill-gaps-requires c κs =
-    let a = c .before .args in
-    let p = c .before .pre in
+    let a = @args@ in
+    let p = @pre@ in
     (scaled-of (p .0 .of) (sourcesWith (a .m) (a .ticks .now) (a .pulses .now)) (p .0 .from .good) (p .0 .from .sources-are), omega (arith, p .1), omega (arith, p .2), p .3)
 
 level-held-requires : tie.Need-level-held-requires
 level-held-requires c κs =
-    let a = c .before .before .before .args in
-    let w = c .before .before .before .pre .0 in
-    from-on (w .model) (w .of) (w .at) (levelWith (a .start) (a .loads .now) (a .tail) (a .critical)) (sourcesWith (a .m) (a .ticks .now) (a .pulses .now)) (a .t) _ (w .from) (c .before .fill-gaps .ensures .0)
+    let a = @args@ in
+    let w = @pre@ .0 in
+    from-on (w .model) (w .of) (w .at) (levelWith (a .start) (a .loads .now) (a .tail) (a .critical)) (sourcesWith (a .m) (a .ticks .now) (a .pulses .now)) (a .t) _ (w .from) (@fill-gaps@ .ensures .0)
 
 returns : tie.Need-returns
 returns c =
-    let a = c .before .before .before .before .args in
-    (λ pol d j f. held-from pol d j (levelWith (a .start) (a .loads .now) (a .tail) (a .critical)) (sourcesWith (a .m) (a .ticks .now) (a .pulses .now)) (a .t) _ (c .level-held .result) f (c .before .before .fill-gaps .ensures .0) (c .level-held .ensures), c .before .before .fill-gaps .ensures .1)
+    let a = @args@ in
+    (λ pol d j f. held-from pol d j (levelWith (a .start) (a .loads .now) (a .tail) (a .critical)) (sourcesWith (a .m) (a .ticks .now) (a .pulses .now)) (a .t) _ (@level-held@ .result) f (@fill-gaps@ .ensures .0) (@level-held@ .ensures), @fill-gaps@ .ensures .1)
 
 pub held-at-spec : {M : Type 1} → statement M
 held-at-spec = tie.close (tie.spec fill-gaps-requires level-held-requires returns)

@@ -29,13 +29,13 @@ abbrev μ-loop : tie.MeasureT-loop
 μ-loop start loads tail critical ticks pulses m doubtful gaps₀ low₀ high₀ gaps low high = high - low
 
 held-at-requires : tie.Need-held-at-requires Inv-loop μ-loop
-held-at-requires c κs = (c .before .pre .0, omega arith, omega arith, zeros-room)
+held-at-requires c κs = (@pre@ .0, omega arith, omega arith, zeros-room)
 
 returns : tie.Need-returns Inv-loop μ-loop
-returns c = λ pol d j f e. slower-none pol d j (c .before .before .before .args .doubtful) (sym (c .before .held-at .ensures .0 pol d j f) ∙ not-true _ (c .if1 .taken))
+returns c = λ pol d j f e. slower-none pol d j (@args@ .doubtful) (sym (@held-at@ .ensures .0 pol d j f) ∙ not-true _ (@if1@ .taken))
 
 loop-holds : tie.Need-loop-holds Inv-loop μ-loop
-loop-holds c = (c .before .held-at .ensures .1, omega arith, c .before .before .before .pre .1, omega arith, λ pol d j f e. (sym (c .before .held-at .ensures .0 pol d j f) ∙ not-false _ (c .if1 .left), e))
+loop-holds c = (@held-at@ .ensures .1, omega arith, @pre@ .1, omega arith, λ pol d j f e. (sym (@held-at@ .ensures .0 pol d j f) ∙ not-false _ (@if1@ .left), e))
 
 sub-loop : tie.Need-sub-loop Inv-loop μ-loop
 sub-loop c = omega arith
@@ -44,25 +44,25 @@ sub-middle : tie.Need-sub-middle Inv-loop μ-loop
 sub-middle c = omega arith
 
 add-middle : tie.Need-add-middle Inv-loop μ-loop
-add-middle c = omega (arith, c .before .before .before .before .before .pre .2, c .before .loop .inv .3)
+add-middle c = omega (arith, @pre@ .2, @loop@ .inv .3)
 
 held-at-requires-2 : tie.Need-held-at-requires-2 Inv-loop μ-loop
-held-at-requires-2 c κs = (c .before .before .before .before .before .before .pre .0, omega (arith, c .before .before .loop .inv .1), omega (arith, c .before .before .before .before .before .before .pre .2, c .before .before .loop .inv .3), c .before .before .loop .inv .0)
+held-at-requires-2 c κs = (@pre@ .0, omega (arith, @loop@ .inv .1), omega (arith, @pre@ .2, @loop@ .inv .3), @loop@ .inv .0)
 
 loop-less : tie.Need-loop-less Inv-loop μ-loop
 loop-less c = omega arith
 
 loop-again : tie.Need-loop-again Inv-loop μ-loop
-loop-again c = let L = c .before .before .before .before .loop in (c .before .held-at2 .ensures .1, omega arith, omega arith, L .inv .3, λ pol d j f e. (sym (c .before .held-at2 .ensures .0 pol d j f) ∙ c .if2 .taken, L .inv .4 pol d j f e .1))
+loop-again c = let L = @loop@ in (@held-at2@ .ensures .1, omega arith, omega arith, L .inv .3, λ pol d j f e. (sym (@held-at2@ .ensures .0 pol d j f) ∙ @if2@ .taken, L .inv .4 pol d j f e .1))
 
 loop-less-2 : tie.Need-loop-less-2 Inv-loop μ-loop
 loop-less-2 c = omega arith
 
 loop-again-2 : tie.Need-loop-again-2 Inv-loop μ-loop
-loop-again-2 c = let L = c .before .before .before .before .loop in (c .before .held-at2 .ensures .1, L .inv .1, omega arith, omega (arith, L .inv .3), λ pol d j f e. (L .inv .4 pol d j f e .0, sym (c .before .held-at2 .ensures .0 pol d j f) ∙ c .if2 .left))
+loop-again-2 c = let L = @loop@ in (@held-at2@ .ensures .1, L .inv .1, omega arith, omega (arith, L .inv .3), λ pol d j f e. (L .inv .4 pol d j f e .0, sym (@held-at2@ .ensures .0 pol d j f) ∙ @if2@ .left))
 
 returns-2 : tie.Need-returns-2 Inv-loop μ-loop
-returns-2 c = let L = c .before .loop in λ pol d j f e. slower-found pol d j (c .before .before .before .before .before .args .doubtful) (L .low) (L .high) (L .inv .1) (L .inv .2) (L .inv .3) (omega (arith, L .inv .2, c .loop-test .left)) (L .inv .4 pol d j f e .0) (L .inv .4 pol d j f e .1)
+returns-2 c = let L = @loop@ in λ pol d j f e. slower-found pol d j (@args@ .doubtful) (L .low) (L .high) (L .inv .1) (L .inv .2) (L .inv .3) (omega (arith, L .inv .2, @loop-test@ .left)) (L .inv .4 pol d j f e .0) (L .inv .4 pol d j f e .1)
 
 pub slower-spec : {M : Type 1} → statement M
 slower-spec =

@@ -10,19 +10,22 @@ use Rattle.spacings.proofs.fill_gaps.Statement.{statement}
 use Rattle.spacings.proofs.fill_gaps.Tie as tie
 
 abbrev Inv-loop : tie.InvT-loop
-Inv-loop ticks pulses m t gaps₀ u₀ gaps u = (u ≤ m) × GapsTo (sourcesWith m ticks pulses) t u gaps
+Inv-loop paces m t gaps₀ u₀ gaps u = (u ≤ m) × GapsTo (sourcesWith m paces) t u gaps
 
 abbrev μ-loop : tie.MeasureT-loop
-μ-loop ticks pulses m t gaps₀ u₀ gaps u = m - u
+μ-loop paces m t gaps₀ u₀ gaps u = m - u
 
 loop-holds : tie.Need-loop-holds Inv-loop μ-loop
-loop-holds c = (omega arith, gaps-none (sourcesWith (c .args .m) (c .args .ticks .now) (c .args .pulses .now)) (c .args .t) (c .args .gaps .now) (c .pre .3))
+loop-holds c = (omega arith, gaps-none (sourcesWith (c .args .m) (c .args .paces .now)) (c .args .t) (c .args .gaps .now) (c .pre .3))
 
 mul-spacing-by : tie.Need-mul-spacing-by Inv-loop μ-loop
 mul-spacing-by c = omega (arith, c .before .before .pre .0 .few)
 
 element-copy-out-spacing-by : tie.Need-element-copy-out-spacing-by Inv-loop μ-loop
 element-copy-out-spacing-by c = omega (arith, c .before .before .pre .0 .few)
+
+add-spacing-by : tie.Need-add-spacing-by Inv-loop μ-loop
+add-spacing-by c = omega (arith, c .before .before .before .pre .0 .few)
 
 mul-spacing-by-2 : tie.Need-mul-spacing-by-2 Inv-loop μ-loop
 mul-spacing-by-2 c = omega (arith, c .before .before .before .pre .0 .few)
@@ -49,7 +52,7 @@ loop-again : tie.Need-loop-again Inv-loop μ-loop
 loop-again c =
     let L = c .before .before .before .before .loop in
     let S = c .before .before .before .before .before in
-    (omega arith, gaps-more (sourcesWith (S .args .m) (S .args .ticks .now) (S .args .pulses .now)) (S .args .t) (L .u) (c .spacing-by .result) (L .gaps) (omega (arith, S .pre .1)) (S .pre .2) (omega (arith, S .pre .0 .few)) (S .pre .0 .at (L .u) (omega arith) .0) (S .pre .0 .at (L .u) (omega arith) .1) (c .spacing-by .ensures) (length-set (L .gaps) (L .u) (c .spacing-by .result)) (L .inv .1))
+    (omega arith, gaps-more (sourcesWith (S .args .m) (S .args .paces .now)) (S .args .t) (L .u) (c .spacing-by .result) (L .gaps) (omega (arith, S .pre .1)) (S .pre .2) (omega (arith, S .pre .0 .few)) (S .pre .0 .at (L .u) (omega arith) .0) (S .pre .0 .at (L .u) (omega arith) .1) (c .spacing-by .ensures) (length-set (L .gaps) (L .u) (c .spacing-by .result)) (L .inv .1))
 
 returns : tie.Need-returns Inv-loop μ-loop
 returns c =
@@ -67,6 +70,7 @@ fill-gaps-spec =
     loop-holds
     mul-spacing-by
     element-copy-out-spacing-by
+    add-spacing-by
     mul-spacing-by-2
     element-copy-out-spacing-by-2
     spacing-by-requires

@@ -9,13 +9,13 @@ use Rattle.spacings.proofs.sources_of.Statement.{statement}
 use Rattle.spacings.proofs.sources_of.Tie as tie
 
 abbrev Inv-loop : tie.InvT-loop
-Inv-loop d ticks₀ pulses₀ u₀ ticks pulses u = (u ≤ d .«source_count») × SourcesTo d ticks pulses u
+Inv-loop d paces₀ u₀ paces u = (u ≤ d .«source_count») × SourcesTo d paces u
 
 abbrev μ-loop : tie.MeasureT-loop
-μ-loop d ticks₀ pulses₀ u₀ ticks pulses u = d .«source_count» - u
+μ-loop d paces₀ u₀ paces u = d .«source_count» - u
 
 loop-holds : tie.Need-loop-holds Inv-loop μ-loop
-loop-holds c = (omega arith, record { ticks-sized = refl; pulses-sized = refl; at = λ u p. absurd (omega arith) })
+loop-holds c = (omega arith, record { sized = refl; at = λ u p. absurd (omega arith) })
 
 mul-slot : tie.Need-mul-slot Inv-loop μ-loop
 mul-slot c = omega (arith, c .before .before .pre .fields .few-sources)
@@ -26,20 +26,23 @@ element-copy-out-slot c = omega (arith, c .before .before .pre .fields .few-sour
 ticks-in-requires : tie.Need-ticks-in-requires Inv-loop μ-loop
 ticks-in-requires c κs = let S = c .before .before .before in source-on (S .args .t1) (c .before .before .loop .u) (S .pre) (omega arith)
 
-mul-ticks : tie.Need-mul-ticks Inv-loop μ-loop
-mul-ticks c = omega (arith, c .before .before .before .before .pre .fields .few-sources)
+mul-paces : tie.Need-mul-paces Inv-loop μ-loop
+mul-paces c = omega (arith, c .before .before .before .before .pre .fields .few-sources)
 
-array-write-ticks : tie.Need-array-write-ticks Inv-loop μ-loop
-array-write-ticks c = omega (arith, c .before .before .before .before .pre .fields .few-sources)
+array-write-paces : tie.Need-array-write-paces Inv-loop μ-loop
+array-write-paces c = omega (arith, c .before .before .before .before .pre .fields .few-sources)
 
 pulses-in-requires : tie.Need-pulses-in-requires Inv-loop μ-loop
 pulses-in-requires c κs = search needs
 
-mul-pulses : tie.Need-mul-pulses Inv-loop μ-loop
-mul-pulses c = omega (arith, c .before .before .before .before .before .pre .fields .few-sources)
+add-paces : tie.Need-add-paces Inv-loop μ-loop
+add-paces c = omega (arith, c .before .before .before .before .before .pre .fields .few-sources)
 
-array-write-pulses : tie.Need-array-write-pulses Inv-loop μ-loop
-array-write-pulses c = omega (arith, c .before .before .before .before .before .pre .fields .few-sources)
+mul-paces-2 : tie.Need-mul-paces-2 Inv-loop μ-loop
+mul-paces-2 c = omega (arith, c .before .before .before .before .before .pre .fields .few-sources)
+
+array-write-paces-2 : tie.Need-array-write-paces-2 Inv-loop μ-loop
+array-write-paces-2 c = omega (arith, c .before .before .before .before .before .pre .fields .few-sources)
 
 add-u : tie.Need-add-u Inv-loop μ-loop
 add-u c = omega (arith, c .before .before .before .before .before .pre .fields .few-sources)
@@ -51,7 +54,7 @@ loop-again : tie.Need-loop-again Inv-loop μ-loop
 loop-again c =
     let L = c .before .before .before .before .loop in
     let S = c .before .before .before .before .before in
-    (omega arith, sources-more (S .args .t1) (L .ticks) (L .pulses) (L .u) (c .before .ticks-in .result) (c .pulses-in .result) (omega (arith, S .pre .fields .few-sources)) (record { on = source-on (S .args .t1) (L .u) (S .pre) (omega arith); ticks-are = c .before .ticks-in .ensures; pulses-are = c .pulses-in .ensures }) (L .inv .1))
+    (omega arith, sources-more (S .args .t1) (L .paces) (L .u) (c .before .ticks-in .result) (c .pulses-in .result) (omega (arith, S .pre .fields .few-sources)) (record { on = source-on (S .args .t1) (L .u) (S .pre) (omega arith); ticks-are = c .before .ticks-in .ensures; pulses-are = c .pulses-in .ensures }) (L .inv .1))
 
 returns : tie.Need-returns Inv-loop μ-loop
 returns c = let L = c .before .loop in record { counted = refl; at = λ u p. L .inv .1 .at u (omega (arith, c .loop-test .left)) }
@@ -66,11 +69,12 @@ sources-of-spec =
     mul-slot
     element-copy-out-slot
     ticks-in-requires
-    mul-ticks
-    array-write-ticks
+    mul-paces
+    array-write-paces
     pulses-in-requires
-    mul-pulses
-    array-write-pulses
+    add-paces
+    mul-paces-2
+    array-write-paces-2
     add-u
     loop-less
     loop-again

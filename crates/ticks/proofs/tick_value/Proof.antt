@@ -28,23 +28,23 @@ sources-of-requires : tie.Need-sources-of-requires
 sources-of-requires c κs = at-known (c .before .before .before .args .d) (c .before .before .before .args .t) (typed-widths (c .before .before .before .args .d) _ (c .before .before .before .good .1 .0)) (sym (c .before .before .judge-at .ensures) ∙ c .enum-told .given .1) .0
 
 gaps-by-requires : tie.Need-gaps-by-requires
-gaps-by-requires c κs = (scaled-of (c .before .before .before .before .before .before .before .args .d) (c .before .before .before .sources-of .result) (at-known (c .before .before .before .before .before .before .before .args .d) (c .before .before .before .before .before .before .before .args .t) (typed-widths (c .before .before .before .before .before .before .before .args .d) _ (c .before .before .before .before .before .before .before .good .1 .0)) (sym (c .before .before .before .before .before .before .judge-at .ensures) ∙ c .before .before .before .before .enum-told .given .1) .0) (c .before .before .before .sources-of .ensures), omega arith, omega arith)
+gaps-by-requires c κs = (scaled-of (c .before .before .before .before .before .before .args .d) (c .before .before .sources-of .result) (at-known (c .before .before .before .before .before .before .args .d) (c .before .before .before .before .before .before .args .t) (typed-widths (c .before .before .before .before .before .before .args .d) _ (c .before .before .before .before .before .before .good .1 .0)) (sym (c .before .before .before .before .before .judge-at .ensures) ∙ c .before .before .before .enum-told .given .1) .0) (c .before .before .sources-of .ensures), omega arith, omega arith)
 
 wiring-of-requires : tie.Need-wiring-of-requires
-wiring-of-requires c κs = at-known (c .before .before .before .before .before .before .before .before .args .d) (c .before .before .before .before .before .before .before .before .args .t) (typed-widths (c .before .before .before .before .before .before .before .before .args .d) _ (c .before .before .before .before .before .before .before .before .good .1 .0)) (sym (c .before .before .before .before .before .before .before .judge-at .ensures) ∙ c .before .before .before .before .before .enum-told .given .1) .0
+wiring-of-requires c κs = at-known (c .before .before .before .before .before .before .before .args .d) (c .before .before .before .before .before .before .before .args .t) (typed-widths (c .before .before .before .before .before .before .before .args .d) _ (c .before .before .before .before .before .before .before .good .1 .0)) (sym (c .before .before .before .before .before .before .judge-at .ensures) ∙ c .before .before .before .before .enum-told .given .1) .0
 
 tick-judged-requires : tie.Need-tick-judged-requires
 tick-judged-requires c κs = record {
-  description = c .before .before .before .before .before .before .before .before .before .args .d;
+  description = c .before .before .before .before .before .before .before .before .args .d;
   wired = c .wiring-of .ensures;
-  same-sources = c .before .before .before .before .before .sources-of .ensures;
-  spaced = gaps-of (c .before .before .before .before .before .before .before .before .before .args .d) (c .before .before .before .before .before .sources-of .result) 200 (c .before .gaps-by .result) (c .before .before .before .before .before .sources-of .ensures) (c .before .gaps-by .ensures);
-  judged = knob-known (c .before .before .before .before .before .before .before .before .before .args .d) (c .before .before .before .before .before .before .before .before .before .args .t) (sym (c .before .before .before .before .before .before .before .before .judge-at .ensures) ∙ c .before .before .before .before .before .before .enum-told .given .1) .0;
+  same-sources = c .before .before .before .before .sources-of .ensures;
+  spaced = gaps-of (c .before .before .before .before .before .before .before .before .args .d) (c .before .before .before .before .sources-of .result) 200 (c .before .gaps-by .result) (c .before .before .before .before .sources-of .ensures) (c .before .gaps-by .ensures);
+  judged = knob-known (c .before .before .before .before .before .before .before .before .args .d) (c .before .before .before .before .before .before .before .before .args .t) (sym (c .before .before .before .before .before .before .before .judge-at .ensures) ∙ c .before .before .before .before .before .enum-told .given .1) .0;
 }
 
 returns-2 : tie.Need-returns-2
 returns-2 c =
-    c .tick-judged .ensures (c .before .before .before .before .before .before .before .before .before .before .args .d) (c .before .wiring-of .ensures) (c .before .before .before .before .before .before .sources-of .ensures) (gaps-of (c .before .before .before .before .before .before .before .before .before .before .args .d) (c .before .before .before .before .before .before .sources-of .result) 200 (c .before .before .gaps-by .result) (c .before .before .before .before .before .before .sources-of .ensures) (c .before .before .gaps-by .ensures)) (sym (c .before .before .before .before .before .before .before .before .before .judge-at .ensures) ∙ c .before .before .before .before .before .before .before .enum-told .given .1)
+    c .tick-judged .ensures (c .before .before .before .before .before .before .before .before .before .args .d) (c .before .wiring-of .ensures) (c .before .before .before .before .before .sources-of .ensures) (gaps-of (c .before .before .before .before .before .before .before .before .before .args .d) (c .before .before .before .before .before .sources-of .result) 200 (c .before .before .gaps-by .result) (c .before .before .before .before .before .sources-of .ensures) (c .before .before .gaps-by .ensures)) (sym (c .before .before .before .before .before .before .before .before .judge-at .ensures) ∙ c .before .before .before .before .before .before .enum-told .given .1)
 
 pub tick-value-spec : {M : Type 1} → statement M
 tick-value-spec =

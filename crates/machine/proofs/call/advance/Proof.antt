@@ -15,8 +15,8 @@ use Rattle.machine.proofs.call.advance.Tie as tie
 
 hear-requires : tie.Need-hear-requires
 hear-requires c κs =
-    let A = c .before .before .before .before .args in
-    record { policy = A .p; runs = A .runs .now; used = A .used .now; going = c .before .before .before .before .pre }
+    let A = c .before .before .before .args in
+    record { policy = A .p; runs = A .runs .now; used = A .used .now; going = c .before .before .before .pre }
 
 enum-told : tie.Need-enum-told
 enum-told c = search needs
@@ -26,11 +26,11 @@ enum-told-2 c = search needs
 
 returns : tie.Need-returns
 returns c =
-    let A = c .before .before .before .before .before .before .before .args in
+    let A = c .before .before .before .before .before .before .args in
     let h = c .before .before .hear in
     let told = c .enum-told2 .given in
-    let since = h .last .1 .1 .1 .1 .1 .1 .1 .0 in
-    let fastest = h .last .1 .1 .1 .1 .1 .1 .1 .1 .0 in
+    let since = h .last .1 .1 .1 .1 .1 .1 .0 in
+    let fastest = h .last .1 .1 .1 .1 .1 .1 .1 .0 in
     record {
       ends = λ d m T j l R. ap (λ (x : Ticked). x .outcome) (h .ensures .refuses (told .0 .0) (told .0 .1 .0) (told .1) (A .p) d (A .runs .now) (A .used .now) m T j l R .0);
       leaves = λ d m T j l R.
@@ -42,8 +42,8 @@ returns c =
 
 run-on-requires : tie.Need-run-on-requires
 run-on-requires c κs =
-    let A = c .before .before .before .before .before .before .before .before .args in
-    let p = c .before .before .before .before .before .before .before .before .pre in
+    let A = c .before .before .before .before .before .before .before .args in
+    let p = c .before .before .before .before .before .before .before .pre in
     let h = c .before .before .before .hear in
     let d = p .description in
     let g = p .tables .formed in
@@ -52,7 +52,7 @@ run-on-requires c κs =
 
 returns-2 : tie.Need-returns-2
 returns-2 c =
-    let A = c .before .before .before .before .before .before .before .before .before .args in
+    let A = c .before .before .before .before .before .before .before .before .args in
     let t = A .call .tempo in
     let mask = A .call .mask in
     let finish = A .call .finish in
@@ -60,8 +60,8 @@ returns-2 c =
     let w = h .result .words in
     let v = c .run-on in
     let o = c .before .before .enum-told .given .1 in
-    let since = h .last .1 .1 .1 .1 .1 .1 .1 .0 in
-    let fastest = h .last .1 .1 .1 .1 .1 .1 .1 .1 .0 in
+    let since = h .last .1 .1 .1 .1 .1 .1 .0 in
+    let fastest = h .last .1 .1 .1 .1 .1 .1 .1 .0 in
     let used = v .last .1 .1 .1 .1 .1 .0 in
     record {
       ends = λ d m T j l R.

@@ -6,7 +6,7 @@ use mathlib.Core.Logic.{inl, inr}
 use lib.ListN.{getD}
 use borrow.Author.Tests.{ltb-true, ltb-false, not-true}
 use Rattle.lemmas.proofs.Tests.{not-both}
-use Rattle.spacings.specs.Sources.{spacingBy}
+use Rattle.spacings.specs.Sources.{spacingAt}
 use Rattle.machine.specs.Calls.{dueBy}
 use borrow.Author.Needs.{needs}
 use Rattle.machine.proofs.call.soon_at.Statement.{statement}
@@ -58,9 +58,9 @@ young-requires-2 c κs = search needs
 
 returns-2 : tie.Need-returns-2
 returns-2 c =
-    let A = c .before .before .before .before .before .before .before .before .before .before .before .args in
+    let A = c .before .before .before .before .before .before .before .before .before .before .args in
     let since = getD (A .since .now) (A .u) 0 in
-    let due : c .before .before .gap-at .result ≡ dueBy (A .ticks .now) (A .pulses .now) (A .fastest .now) (A .peak) (A .u) = c .before .before .gap-at .ensures .0 ∙ ap (spacingBy (getD (A .ticks .now) (A .u) 0) (getD (A .pulses .now) (A .u) 0)) (c .before .before .before .before .before .larger .ensures) in
+    let due : c .before .before .gap-at .result ≡ dueBy (A .paces .now) (A .fastest .now) (A .peak) (A .u) = c .before .before .gap-at .ensures .0 ∙ ap (spacingAt (A .paces .now) (A .u)) (c .before .before .before .before .larger .ensures) in
     record {
       soon = λ e. subst (λ x. A .tick < since + x) due (ltb-true _ _ (sym (c .young2 .ensures) ∙ e));
       late = λ e. inl (subst (λ x. since + x ≤ A .tick) due (ltb-false _ _ (sym (c .young2 .ensures) ∙ e)));

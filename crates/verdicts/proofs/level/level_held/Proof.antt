@@ -11,25 +11,25 @@ use Rattle.verdicts.proofs.level.level_held.Statement.{statement}
 use Rattle.verdicts.proofs.level.level_held.Tie as tie
 
 returns : tie.Need-returns
-returns c = let a = c .before .args in λ pol d gap j g o k e z. level-empty pol d g j o (levelWith (a .start) (a .loads .now) (a .tail) (a .critical)) k gap (λ u p. ap (λ s. member s u) (c .if1 .taken) ∙ member-none u)
+returns c = let a = @args@ in λ pol d gap j g o k e z. level-empty pol d g j o (levelWith (a .start) (a .loads .now) (a .tail) (a .critical)) k gap (λ u p. ap (λ s. member s u) (@if1@ .taken) ∙ member-none u)
 
 narrowest-requires : tie.Need-narrowest-requires
 narrowest-requires c κs = search needs
 
 returns-2 : tie.Need-returns-2
-returns-2 c = let a = c .before .before .before .args in λ pol d gap j g o k e z. level-beyond pol d g j o (levelWith (a .start) (a .loads .now) (a .tail) (a .critical)) k gap (a .gaps .now) (rw e at z) (c .before .narrowest .result) (rw e at (c .before .narrowest .ensures)) (c .if2 .taken)
+returns-2 c = let a = @args@ in λ pol d gap j g o k e z. level-beyond pol d g j o (levelWith (a .start) (a .loads .now) (a .tail) (a .critical)) k gap (a .gaps .now) (rw e at z) (@narrowest@ .result) (rw e at (@narrowest@ .ensures)) (@if2@ .taken)
 
 room-requires : tie.Need-room-requires
 room-requires c κs = search needs
 
 level-reach-requires : tie.Need-level-reach-requires
-level-reach-requires c κs = let S = c .before .before .before .before in (S .pre, omega (arith, c .room .ensures, c .before .if2 .left))
+level-reach-requires c κs = let S = @start@ in (S .pre, omega (arith, @room@ .ensures, @if2@ .left))
 
 returns-3 : tie.Need-returns-3
 returns-3 c =
-    let a = c .before .before .before .before .before .args in
-    let r = c .before .before .before .narrowest .result in
-    λ pol d gap j g o k e z. ap (λ x. ltb x (c .before .room .result)) (c .level-reach .ensures) ∙ rw (c .before .room .ensures) (rw e (level-narrow pol d g j o (levelWith (a .start) (a .loads .now) (a .tail) (a .critical)) k gap (a .gaps .now) (rw e at z) r (rw e at (c .before .before .before .narrowest .ensures)) (c .before .before .if2 .left)))
+    let a = @args@ in
+    let r = @narrowest@ .result in
+    λ pol d gap j g o k e z. ap (λ x. ltb x (@room@ .result)) (@level-reach@ .ensures) ∙ rw (@room@ .ensures) (rw e (level-narrow pol d g j o (levelWith (a .start) (a .loads .now) (a .tail) (a .critical)) k gap (a .gaps .now) (rw e at z) r (rw e at (@narrowest@ .ensures)) (@if2@ .left)))
 
 pub level-held-spec : {M : Type 1} → statement M
 level-held-spec =

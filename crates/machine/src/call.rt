@@ -89,16 +89,7 @@ fn too_soon<'a>(
     let mut rest = mask;
     while rest != 0 {
         let u = sets::first(rest);
-        if soon_at(
-            u,
-            peak,
-            paces,
-            longest,
-            since,
-            fastest,
-            tick,
-            &mut *asked,
-        ) {
+        if soon_at(u, peak, paces, longest, since, fastest, tick, &mut *asked) {
             return true;
         }
         rest = sets::rest(rest);
@@ -153,16 +144,7 @@ fn hear<'a>(
         return refused(Refusal::Stranger, w);
     }
     let peak = larger(w.peak, t);
-    if too_soon(
-        mask,
-        peak,
-        paces,
-        longest,
-        since,
-        fastest,
-        w.tick,
-        asked,
-    ) {
+    if too_soon(mask, peak, paces, longest, since, fastest, w.tick, asked) {
         return refused(Refusal::TooSoon, w);
     }
     admitted(arrive(rows, t, peak, mask, w, since, fastest))

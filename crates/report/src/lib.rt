@@ -76,7 +76,7 @@ fn put_plain(p: Policy, file: &[u8], page: &mut [u8], at: usize) -> usize
     );
     let shown = shown_tempo(quote);
     let gaps = gaps_by(&t.sources.paces, t.sources.count, shown);
-    let slots = slots_at(p, d, &t.levels, &t.starts, &t.tails, &t.orders, &gaps);
+    let slots = slots_at(d, &t.levels, &t.starts, &t.tails, &t.orders, &gaps);
     let behind = tempo_line(&mut *page, at, quote);
     link_lines(&mut *page, behind, d, slots)
 }

@@ -31,8 +31,10 @@ use Rattle.loads.specs.Tables.{LoadsOf, held}
 use Rattle.loads.proofs.Columns.{top-cong}
 use Rattle.spacings.specs.Gaps.{Fit, GapsIn}
 use Rattle.rounds.specs.Level.{LevelOn, roundIn, reachIn}
+use Rattle.sets.specs.Sets.{member}
 use Rattle.spacings.specs.declared.Sources.{Sources}
-use Rattle.verdicts.specs.Tables.{belowOf, LevelsOf, StartsOf, TailsOf, LevelTables, LoadsAt, levelWith, LevelOf}
+use Rattle.verdicts.specs.declared.Tables.{Tables}
+use Rattle.verdicts.specs.Tables.{belowOf, LevelsOf, StartsOf, TailsOf, LevelTables, LoadsAt, termsAt, levelIn, LevelOf, TablesOf}
 use Rattle.verdicts.specs.Slots.{verdictBy, gapBy, byTables, slotBy, slotOf, LimitsOf, reachWith, ReachesOf, Leveled, SlotTables}
 use Rattle.verdicts.proofs.LevelRounds.{spaced-in, level-light, start-light, tail-light, reach-is}
 
@@ -96,17 +98,21 @@ run-tails d j p =
     sym (run-is d (suc j) (omega arith) ∙ ap (λ i. getD (d .runs) i 0) f)
 
 -- a level of the tables is the description's
-pub level-of-tables : (pol : Policy) (d : Description) (levels starts tails critical : List ℕ) (sources : Sources) (tasks j : ℕ) (loads : List ℕ) (tail : ℕ) → LevelTables pol d levels starts tails critical sources tasks → j < tasks → LoadsAt levels (sources .count) j loads → tail ≡ getD tails j 0 → LevelOf pol d (suc j) (levelWith (getD starts j 0) loads tail (getD critical j 0))
-level-of-tables pol d levels starts tails critical sources tasks j loads tail t p a e =
+pub level-of-tables : (pol : Policy) (d : Description) (levels starts tails critical : List ℕ) (sources : Sources) (tasks j : ℕ) (loads terms : List ℕ) → LevelTables pol d levels starts tails critical sources tasks → j < tasks → LoadsAt levels (sources .count) j loads → terms ≡ termsAt starts tails critical j → LevelOf pol d (suc j) (levelIn loads terms)
+level-of-tables pol d levels starts tails critical sources tasks j loads terms t p a e =
     record {
-      start-is = t .by-start j (omega (arith, t .counted));
+      start-is = ap (λ (x : List ℕ). getD x 0 0) e ∙ t .by-start j (omega (arith, t .counted));
       load-is = λ u q. a u (omega (arith, t .by-source .counted)) ∙ t .by-level j u low q;
-      tail-is = e ∙ t .by-tail j (omega (arith, t .counted));
-      critical-is = λ u. t .by-critical j u low;
+      tail-is = ap (λ (x : List ℕ). getD x 1 0) e ∙ t .by-tail j (omega (arith, t .counted));
+      critical-is = λ u. ap (λ (x : List ℕ). member (getD x 2 0) u) e ∙ t .by-critical j u low;
     }
   where
     low : j < 32
     low = omega (arith, t .counted, t .good .fields .few-tasks)
+
+-- the tables of a description have all that its verdicts are worked out from
+pub slot-tables : (pol : Policy) (d : Description) (t : Tables) → TablesOf pol d t → SlotTables pol d (t .levels) (t .starts) (t .tails) (t .orders)
+slot-tables pol d t a = let x = a .by-levels in record { good = x .good; by-level = x .by-level; by-start = x .by-start; by-tail = x .by-tail; by-order = a .by-order }
 
 module _ (pol : Policy) (d : Description) (levels starts tails : List ℕ) (orders : List Bool) (tables : SlotTables pol d levels starts tails orders) where
   g : WellFormed d

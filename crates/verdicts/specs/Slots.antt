@@ -85,6 +85,15 @@ pub record SlotTables (p : Policy) (d : Description) (levels starts tails : List
   pub by-tail : TailsOf p d tails
   pub by-order : OrdersOf d orders
 
+-- there is a model that they are of
+pub record SlotTabled (d : Description) (levels starts tails : List ℕ) (orders : List Bool) : Type 0 where
+  pub model : Policy
+  pub tables : SlotTables model d levels starts tails orders
+
+-- the verdicts at the spacings of a table, whatever model the tables are of
+abbrev pub SlotsBy : Description → List ℕ → List ℕ → List ℕ → List Bool → List ℕ → List VerdictSlot → Type 0
+SlotsBy d levels starts tails orders gaps r = (p : Policy) → SlotTables p d levels starts tails orders → SlotsAt p d gaps r
+
 -- beside a refusal every verdict is free
 abbrev pub refusedVerdicts : Refusal → ℕ → Verdicts
 refusedVerdicts r place = record { outcome = Refused r place; slots = replicate 256 freeSlot }

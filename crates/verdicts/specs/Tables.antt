@@ -2,7 +2,7 @@
 use Prim.Native.Nat.{ℕ, suc, _+_, _*_, _≤_, _<_}
 use mathlib.Core.Path.{_≡_}
 use mathlib.Core.Bool.{Bool, true, cond, _&&_}
-use mathlib.Core.List.{List}
+use mathlib.Core.List.{List, [], _∷_}
 use lib.ListN.{getD}
 use lib.Dec.{ltb}
 use Rattle.model.specs.declared.Description.{Description}
@@ -72,6 +72,14 @@ pub record Level : Type 0 where
 -- the level with these numbers, as they are lent
 abbrev pub levelWith : ℕ → List ℕ → ℕ → ℕ → Level
 levelWith start loads tail critical = record { start = start; loads = loads; tail = tail; critical = critical }
+
+-- the same of the loads and, in a row of their own, the three other numbers: the terms of the level
+abbrev pub levelIn : List ℕ → List ℕ → Level
+levelIn loads terms = levelWith (getD terms 0 0) loads (getD terms 1 0) (getD terms 2 0)
+
+-- the terms of task j + 1, as the tables have them
+abbrev pub termsAt : List ℕ → List ℕ → List ℕ → ℕ → List ℕ
+termsAt starts tails critical j = getD starts j 0 ∷ getD tails j 0 ∷ getD critical j 0 ∷ []
 
 -- the level of task j of a description
 pub record LevelOf (p : Policy) (d : Description) (j : ℕ) (v : Level) : Type 0 where

@@ -12,10 +12,11 @@ ghost use mathlib.Core.Path.{_≡_};
 ghost use mathlib.Core.Bool.{_||_, _&&_};
 ghost use Prim.Native.Nat.{ℕ, _+_, _-_, _≤_, _<_};
 ghost use lib.Dec.{eqb};
+ghost use lib.ListN.{getD};
 ghost use Rattle.theory.proofs.WellFormed.{WellFormed};
 ghost use Rattle.sets.specs.Sets.{member};
 ghost use Rattle.rounds.specs.Level.{LevelOn};
-ghost use Rattle.verdicts.specs.Tables.{CriticalOf, LoadsAt, levelWith, HeldBy, narrowerOf, NarrowestIn};
+ghost use Rattle.verdicts.specs.Tables.{CriticalOf, LoadsAt, termsAt, levelIn, HeldBy, narrowerOf, NarrowestIn};
 
 // A set of sources with the one of a critical link besides.
 fn with_source(set: u64, link: Link) -> u64
@@ -55,6 +56,20 @@ pub fn level_loads(levels: &[u64; 528], m: usize, j: usize) -> [u64; 16]
     loads_at(levels, m, j)
 }
 
+// What else the rounds of task j + 1 go by, from the tables: their start, what its delay has beyond them, and its critical set.
+pub fn level_terms<'a>(
+    starts: &'a [u64; 32],
+    tails: &'a [u32; 32],
+    critical: &'a [u64; 32],
+    j: usize,
+) -> [u64; 3]
+    requires { ⌜ j < 32 ⌝ }
+    ensures { λ r. ⌜ r ≡ termsAt (now (starts .entry)) (now (tails .entry)) (now (critical .entry)) j ⌝ }
+{
+    let tail = wide(tails[j]);
+    [starts[j], tail, critical[j]]
+}
+
 // The narrower of two spacings, where the second counts.
 fn narrower(best: u64, counts: bool, gap: u64) -> u64
     ensures { λ r. ⌜ r ≡ narrowerOf best counts gap ⌝ }
@@ -92,20 +107,13 @@ pub fn room(gap: u64, tail: u64) -> u64
     gap - tail
 }
 
-// Whether every critical link from a source to a task is held, at the spacings of m sources: by the start of the task's rounds, the load of each
-// source that they go by, what its delay has beyond them, and the set of sources with a critical link to it. The link of the source with the
-// narrowest spacing decides.
-pub fn level_held(
-    start: u64,
-    loads: &[u64; 16],
-    tail: u64,
-    critical: u64,
-    gaps: &[u32; 16],
-    m: usize,
-) -> bool
-    requires { ⌜ LevelOn start (now loads) (now gaps) m ⌝ }
-    ensures { λ r. ⌜ HeldBy (levelWith start (now (loads .entry)) tail critical) (now (gaps .entry)) m r ⌝ }
+// Whether every critical link from a source to a task is held, at the spacings of m sources: by the load of each source that the task's rounds go by,
+// and by its terms. The link of the source with the narrowest spacing decides.
+pub fn level_held(loads: &[u64; 16], terms: &[u64; 3], gaps: &[u32; 16], m: usize) -> bool
+    requires { ⌜ LevelOn (getD (now terms) 0 0) (now loads) (now gaps) m ⌝ }
+    ensures { λ r. ⌜ HeldBy (levelIn (now (loads .entry)) (now (terms .entry))) (now (gaps .entry)) m r ⌝ }
 {
+    let critical = terms[2];
     if critical == 0 {
         return true;
     }
@@ -113,6 +121,7 @@ pub fn level_held(
     if 1000000000 < narrow {
         return true;
     }
+    let tail = terms[1];
     let limit = room(narrow, tail);
-    level_reach(start, loads, gaps, m, limit) < limit
+    level_reach(terms[0], loads, gaps, m, limit) < limit
 }

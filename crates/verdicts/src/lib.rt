@@ -144,7 +144,6 @@ pub fn verdicts(p: Policy, d: Description, t: u32) -> Verdicts
     let tables = tables_of(p, d, &judged.brings, &judged.works);
     let gaps = gaps_by(&tables.sources.paces, tables.sources.count, t);
     let slots = slots_at(
-        p,
         d,
         &tables.levels,
         &tables.starts,

@@ -5,7 +5,6 @@ use loads::levels::larger;
 use loads::levels::loads_at;
 use model::Description;
 use model::Link;
-use model::Policy;
 use model::Verdict;
 use model::VerdictSlot;
 use numbers::index;
@@ -17,7 +16,7 @@ ghost use lib.ListN.{getD};
 ghost use Rattle.model.specs.Basics.{tab};
 ghost use Rattle.theory.proofs.WellFormed.{WellFormed};
 ghost use Rattle.spacings.specs.Gaps.{Fit};
-ghost use Rattle.verdicts.specs.Slots.{verdictBy, gapBy, byTables, slotBy, SlotsAt, limitBy, LimitsOf, Leveled, ReachesBy, SlotTables};
+ghost use Rattle.verdicts.specs.Slots.{verdictBy, gapBy, byTables, slotBy, limitBy, LimitsOf, Leveled, ReachesBy, SlotTabled, SlotsBy};
 
 // The spacing of a critical link's source, or 0 for any other link.
 fn limit_by(link: Link, gaps: &[u32; 16]) -> u64
@@ -140,7 +139,6 @@ fn decide_all(
 
 // The verdicts on all links at the spacings of a table, from the tables that are worked out once.
 pub fn slots_at<'a>(
-    p: Policy,
     d: Description,
     levels: &'a [u64; 528],
     starts: &'a [u64; 32],
@@ -148,8 +146,8 @@ pub fn slots_at<'a>(
     orders: &'a [bool; 256],
     gaps: &[u32; 16],
 ) -> [VerdictSlot; 256]
-    requires { ⌜ SlotTables p d (now levels) (now starts) (now tails) (now orders) × Fit (d .«source_count») (now gaps) ⌝ }
-    ensures { λ r. ⌜ SlotsAt p d (now (gaps .entry)) r ⌝ }
+    requires { ⌜ SlotTabled d (now levels) (now starts) (now tails) (now orders) × Fit (d .«source_count») (now gaps) ⌝ }
+    ensures { λ r. ⌜ SlotsBy d (now (levels .entry)) (now (starts .entry)) (now (tails .entry)) (now (orders .entry)) (now (gaps .entry)) r ⌝ }
 {
     let n = d.task_count;
     let m = d.source_count;

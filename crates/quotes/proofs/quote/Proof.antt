@@ -14,19 +14,19 @@ enum-known-outcome : tie.Need-enum-known-outcome
 enum-known-outcome c = search needs
 
 returns : tie.Need-returns
-returns c = quote-refused (@args@ .p) (@args@ .d) _ _ (sym (@examine-record@ .ensures .judged) ∙ @outcome@ .given .1)
+returns c = quote-refused (c .before .before .before .before .args .p) (c .before .before .before .before .args .d) _ _ (sym (c .before .before .before .examine-record .ensures .judged) ∙ c .before .outcome .given .1)
 
 enum-told : tie.Need-enum-told
 enum-told c = search needs
 
 tables-of-requires : tie.Need-tables-of-requires
-tables-of-requires c κs = let S = @start@ in (judge-well-formed (S .args .d) (typed-widths (S .args .d) _ (S .good .1 .0)) (sym (@examine-record@ .ensures .judged) ∙ @enum-told@ .given .1), rw (@examine-record@ .ensures .same) at (@examine-record@ .ensures .worked (sym (@examine-record@ .ensures .judged) ∙ @enum-told@ .given .1)))
+tables-of-requires c κs = let S = c .before .before .before .before .before .before in (judge-well-formed (S .args .d) (typed-widths (S .args .d) _ (S .good .1 .0)) (sym (c .before .before .before .before .before .examine-record .ensures .judged) ∙ c .before .before .before .enum-told .given .1), rw (c .before .before .before .before .before .examine-record .ensures .same) at (c .before .before .before .before .before .examine-record .ensures .worked (sym (c .before .before .before .before .before .examine-record .ensures .judged) ∙ c .before .before .before .enum-told .given .1)))
 
 quote-by-requires : tie.Need-quote-by-requires
-quote-by-requires c κs = record { model = @args@ .p; of = @args@ .d; tables = @tables-of@ .ensures .by-levels }
+quote-by-requires c κs = record { model = c .before .before .before .before .before .before .before .before .before .before .before .before .before .args .p; of = c .before .before .before .before .before .before .before .before .before .before .before .before .before .args .d; tables = c .before .before .before .before .before .before .tables-of .ensures .by-levels }
 
 returns-2 : tie.Need-returns-2
-returns-2 c = let t = @tables-of@ .ensures in @quote-by@ .ensures (@args@ .p) (@args@ .d) (t .by-levels) (t .all-ordered) ∙ quote-judged (@args@ .p) (@args@ .d) (sym (@examine-record@ .ensures .judged) ∙ @enum-told@ .given .1)
+returns-2 c = let t = c .before .before .before .before .before .before .before .tables-of .ensures in c .quote-by .ensures (c .before .before .before .before .before .before .before .before .before .before .before .before .before .before .args .p) (c .before .before .before .before .before .before .before .before .before .before .before .before .before .before .args .d) (t .by-levels) (t .all-ordered) ∙ quote-judged (c .before .before .before .before .before .before .before .before .before .before .before .before .before .before .args .p) (c .before .before .before .before .before .before .before .before .before .before .before .before .before .before .args .d) (sym (c .before .before .before .before .before .before .before .before .before .before .before .before .before .examine-record .ensures .judged) ∙ c .before .before .before .before .before .before .before .before .before .before .before .enum-told .given .1)
 
 pub quote-spec : {M : Type 1} → statement M
 quote-spec =

@@ -12,22 +12,22 @@ enum-known-outcome : tie.Need-enum-known-outcome
 enum-known-outcome c = search needs
 
 returns : tie.Need-returns
-returns c = file-refused (@args@ .p) (@args@ .file .now) _ _ (sym (@examine@ .ensures .judged) ∙ @outcome@ .given .1)
+returns c = file-refused (c .before .before .before .before .before .args .p) (c .before .before .before .before .before .args .file .now) _ _ (sym (c .before .before .before .examine .ensures .judged) ∙ c .before .outcome .given .1)
 
 enum-told : tie.Need-enum-told
 enum-told c = search needs
 
 tables-of-requires : tie.Need-tables-of-requires
-tables-of-requires c κs = (@examine@ .ensures .good (sym (@examine@ .ensures .judged) ∙ @enum-told@ .given .1), @examine@ .ensures .worked (sym (@examine@ .ensures .judged) ∙ @enum-told@ .given .1))
+tables-of-requires c κs = (c .before .before .before .before .before .before .examine .ensures .good (sym (c .before .before .before .before .before .before .examine .ensures .judged) ∙ c .before .before .before .before .enum-told .given .1), c .before .before .before .before .before .before .examine .ensures .worked (sym (c .before .before .before .before .before .before .examine .ensures .judged) ∙ c .before .before .before .before .enum-told .given .1))
 
 quote-by-requires : tie.Need-quote-by-requires
-quote-by-requires c κs = record { model = @args@ .p; of = @examine@ .result .description; tables = @tables-of@ .ensures .by-levels }
+quote-by-requires c κs = record { model = c .before .before .before .before .before .before .before .before .before .before .before .before .before .before .before .args .p; of = c .before .before .before .before .before .before .before .before .before .before .before .before .before .examine .result .description; tables = c .before .before .before .before .before .before .tables-of .ensures .by-levels }
 
 returns-2 : tie.Need-returns-2
 returns-2 c =
-    let t = @tables-of@ .ensures in
-    let d = @examine@ .result .description in
-    @quote-by@ .ensures (@args@ .p) d (t .by-levels) (t .all-ordered) ∙ file-quoted (@args@ .p) (@args@ .file .now) (λ i. @shared-slice-known@ .given i .fits) d (@examine@ .ensures .same) (sym (@examine@ .ensures .judged) ∙ @enum-told@ .given .1)
+    let t = c .before .before .before .before .before .before .before .tables-of .ensures in
+    let d = c .before .before .before .before .before .before .before .before .before .before .before .before .before .before .examine .result .description in
+    c .quote-by .ensures (c .before .before .before .before .before .before .before .before .before .before .before .before .before .before .before .before .args .p) d (t .by-levels) (t .all-ordered) ∙ file-quoted (c .before .before .before .before .before .before .before .before .before .before .before .before .before .before .before .before .args .p) (c .before .before .before .before .before .before .before .before .before .before .before .before .before .before .before .before .args .file .now) (λ i. c .before .before .before .before .before .before .before .before .before .before .before .before .before .before .before .shared-slice-known .given i .fits) d (c .before .before .before .before .before .before .before .before .before .before .before .before .before .before .examine .ensures .same) (sym (c .before .before .before .before .before .before .before .before .before .before .before .before .before .before .examine .ensures .judged) ∙ c .before .before .before .before .before .before .before .before .before .before .before .before .enum-told .given .1)
 
 pub quote-file-spec : {M : Type 1} → statement M
 quote-file-spec =

@@ -11,7 +11,7 @@ use Rattle.model.specs.Report.{tempoLine, refusedLine, shownTempo, plainReport}
 use Rattle.theory.proofs.WellFormed.{WellFormed}
 use Rattle.spacings.specs.Gaps.{GapsOf}
 use Rattle.spacings.proofs.GapLaws.{gaps-of, scaled-of}
-use Rattle.verdicts.proofs.TableLaws.{slots-at-tempo}
+use Rattle.verdicts.proofs.TableLaws.{slot-tables, slots-at-tempo}
 use Rattle.text.proofs.Pages.{put-then, put-same}
 use Rattle.report.specs.Listing.{listing}
 use Rattle.report.proofs.ReportLength.{refusal-length}
@@ -21,27 +21,27 @@ use Rattle.report.proofs.put_plain.Statement.{statement}
 use Rattle.report.proofs.put_plain.Tie as tie
 
 -- what is known of an accepted description
-good : (c : tie.After-enum-told) → WellFormed (@examine@ .result .description)
-good c = stage-good (@args@ .p) (@args@ .file .now) (@examine@ .result) (@examine@ .ensures) (@enum-told@ .given .1)
+good : (c : tie.After-enum-told) → WellFormed (c .before .before .examine .result .description)
+good c = stage-good (c .before .before .before .before .before .args .p) (c .before .before .before .before .before .args .file .now) (c .before .before .examine .result) (c .before .before .examine .ensures) (c .enum-told .given .1)
 
 -- its tables and its quote
-quoted : (c : tie.After-quote-by) → @quote-by@ .result ≡ largestBelow (allHeld (@args@ .p) (@examine@ .result .description)) 2801
-quoted c = let t = @tables-of@ .ensures in @quote-by@ .ensures (@args@ .p) (@examine@ .result .description) (t .by-levels) (t .all-ordered)
+quoted : (c : tie.After-quote-by) → c .quote-by .result ≡ largestBelow (allHeld (c .before .before .before .before .before .before .before .before .before .before .before .before .before .before .before .before .before .args .p) (c .before .before .before .before .before .before .before .before .before .before .before .before .before .before .examine .result .description)) 2801
+quoted c = let t = c .before .before .before .before .before .before .before .tables-of .ensures in c .quote-by .ensures (c .before .before .before .before .before .before .before .before .before .before .before .before .before .before .before .before .before .args .p) (c .before .before .before .before .before .before .before .before .before .before .before .before .before .before .examine .result .description) (t .by-levels) (t .all-ordered)
 
 -- the spacings at the tempo shown
-spaced : (c : tie.After-gaps-by) → GapsOf (@examine@ .result .description) (shownTempo (@quote-by@ .result)) (@gaps-by@ .result)
+spaced : (c : tie.After-gaps-by) → GapsOf (c .before .before .before .before .before .before .before .before .before .before .before .before .before .before .before .before .before .before .examine .result .description) (shownTempo (c .before .before .before .before .quote-by .result)) (c .gaps-by .result)
 spaced c =
-    let z = gaps-of (@examine@ .result .description) (@tables-of@ .result .sources) (@shown-tempo@ .result) (@gaps-by@ .result) (@tables-of@ .ensures .by-levels .by-source) (@gaps-by@ .ensures) in
-    rw (@shown-tempo@ .ensures) at z
+    let z = gaps-of (c .before .before .before .before .before .before .before .before .before .before .before .before .before .before .before .before .before .before .examine .result .description) (c .before .before .before .before .before .before .before .before .before .before .before .tables-of .result .sources) (c .before .before .before .shown-tempo .result) (c .gaps-by .result) (c .before .before .before .before .before .before .before .before .before .before .before .tables-of .ensures .by-levels .by-source) (c .gaps-by .ensures) in
+    rw (c .before .before .before .shown-tempo .ensures) at z
 
 -- what is known once the verdicts are there: the parts of the report, and that they fit
-parts : (c : tie.After-slots-at) → tempoLine (@quote-by@ .result) ++ listing (@examine@ .result .description) (@slots-at@ .result) (@examine@ .result .description .«link_count») ≡ plainReport (@args@ .p) (@args@ .file .now)
-parts c = stage-parts (@args@ .p) (@args@ .file .now) (@examine@ .result) (@examine@ .ensures) (@enum-told@ .given .1) (@quote-by@ .result) (@slots-at@ .result) (quoted (c .before .before .before .before .before .before .before .before .before .before .before .before)) (@slots-at@ .ensures (spacingOf (@examine@ .result .description) (shownTempo (@quote-by@ .result))) (spaced (c .before .before .before .before .before .before .before)) ∙ slots-at-tempo (@args@ .p) (@examine@ .result .description) (shownTempo (@quote-by@ .result)))
+parts : (c : tie.After-slots-at) → tempoLine (c .before .before .before .before .before .before .before .before .before .before .before .quote-by .result) ++ listing (c .before .before .before .before .before .before .before .before .before .before .before .before .before .before .before .before .before .before .before .before .before .before .before .before .before .examine .result .description) (c .slots-at .result) (c .before .before .before .before .before .before .before .before .before .before .before .before .before .before .before .before .before .before .before .before .before .before .before .before .before .examine .result .description .«link_count») ≡ plainReport (c .before .before .before .before .before .before .before .before .before .before .before .before .before .before .before .before .before .before .before .before .before .before .before .before .before .before .before .before .args .p) (c .before .before .before .before .before .before .before .before .before .before .before .before .before .before .before .before .before .before .before .before .before .before .before .before .before .before .before .before .args .file .now)
+parts c = stage-parts (c .before .before .before .before .before .before .before .before .before .before .before .before .before .before .before .before .before .before .before .before .before .before .before .before .before .before .before .before .args .p) (c .before .before .before .before .before .before .before .before .before .before .before .before .before .before .before .before .before .before .before .before .before .before .before .before .before .before .before .before .args .file .now) (c .before .before .before .before .before .before .before .before .before .before .before .before .before .before .before .before .before .before .before .before .before .before .before .before .before .examine .result) (c .before .before .before .before .before .before .before .before .before .before .before .before .before .before .before .before .before .before .before .before .before .before .before .before .before .examine .ensures) (c .before .before .before .before .before .before .before .before .before .before .before .before .before .before .before .before .before .before .before .before .before .before .before .enum-told .given .1) (c .before .before .before .before .before .before .before .before .before .before .before .quote-by .result) (c .slots-at .result) (quoted (c .before .before .before .before .before .before .before .before .before .before .before)) (c .slots-at .ensures (c .before .before .before .before .before .before .before .before .before .before .before .before .before .before .before .before .before .before .before .before .before .before .before .before .before .before .before .before .args .p) (slot-tables (c .before .before .before .before .before .before .before .before .before .before .before .before .before .before .before .before .before .before .before .before .before .before .before .before .before .before .before .before .args .p) (c .before .before .before .before .before .before .before .before .before .before .before .before .before .before .before .before .before .before .before .before .before .before .before .before .before .examine .result .description) (c .before .before .before .before .before .before .before .before .before .before .before .before .before .before .before .before .before .before .tables-of .result) (c .before .before .before .before .before .before .before .before .before .before .before .before .before .before .before .before .before .before .tables-of .ensures)) (spacingOf (c .before .before .before .before .before .before .before .before .before .before .before .before .before .before .before .before .before .before .before .before .before .before .before .before .before .examine .result .description) (shownTempo (c .before .before .before .before .before .before .before .before .before .before .before .quote-by .result))) (spaced (c .before .before .before .before .before .before .before)) ∙ slots-at-tempo (c .before .before .before .before .before .before .before .before .before .before .before .before .before .before .before .before .before .before .before .before .before .before .before .before .before .before .before .before .args .p) (c .before .before .before .before .before .before .before .before .before .before .before .before .before .before .before .before .before .before .before .before .before .before .before .before .before .examine .result .description) (shownTempo (c .before .before .before .before .before .before .before .before .before .before .before .quote-by .result)))
 
-room : (c : tie.After-slots-at) → length (tempoLine (@quote-by@ .result)) + length (listing (@examine@ .result .description) (@slots-at@ .result) (@examine@ .result .description .«link_count»)) ≤ 11168
+room : (c : tie.After-slots-at) → length (tempoLine (c .before .before .before .before .before .before .before .before .before .before .before .quote-by .result)) + length (listing (c .before .before .before .before .before .before .before .before .before .before .before .before .before .before .before .before .before .before .before .before .before .before .before .before .before .examine .result .description) (c .slots-at .result) (c .before .before .before .before .before .before .before .before .before .before .before .before .before .before .before .before .before .before .before .before .before .before .before .before .before .examine .result .description .«link_count»)) ≤ 11168
 room c =
-    let d = @examine@ .result .description in
-    omega (arith, plain-length (@args@ .p) (@args@ .file .now) (λ i. @shared-slice-known@ .given i .fits), sym (ap length (parts c)) ∙ length-append (tempoLine (@quote-by@ .result)) (listing d (@slots-at@ .result) (d .«link_count»)))
+    let d = c .before .before .before .before .before .before .before .before .before .before .before .before .before .before .before .before .before .before .before .before .before .before .before .before .before .examine .result .description in
+    omega (arith, plain-length (c .before .before .before .before .before .before .before .before .before .before .before .before .before .before .before .before .before .before .before .before .before .before .before .before .before .before .before .before .args .p) (c .before .before .before .before .before .before .before .before .before .before .before .before .before .before .before .before .before .before .before .before .before .before .before .before .before .before .before .before .args .file .now) (λ i. c .before .before .before .before .before .before .before .before .before .before .before .before .before .before .before .before .before .before .before .before .before .before .before .before .before .before .before .shared-slice-known .given i .fits), sym (ap length (parts c)) ∙ length-append (tempoLine (c .before .before .before .before .before .before .before .before .before .before .before .quote-by .result)) (listing d (c .slots-at .result) (d .«link_count»)))
 
 examine-requires : tie.Need-examine-requires
 examine-requires c κs = search needs
@@ -50,55 +50,55 @@ enum-known-outcome : tie.Need-enum-known-outcome
 enum-known-outcome c = search needs
 
 refused-line-requires : tie.Need-refused-line-requires
-refused-line-requires c κs = let w = @outcome@ .given in omega (arith, @pre@, refusal-length (w .0 .0) (w .0 .1 .0))
+refused-line-requires c κs = let w = c .before .before .outcome .given in omega (arith, c .before .before .before .before .before .before .before .pre, refusal-length (w .0 .0) (w .0 .1 .0))
 
 same-length : tie.Need-same-length
 same-length c = search needs
 
 returns : tie.Need-returns
 returns c =
-    let w = @outcome@ .given in
-    put-same (refusedLine (w .0 .0) (w .0 .1 .0)) _ (stage-refused (@args@ .p) (@args@ .file .now) (@examine@ .result) (@examine@ .ensures) (w .0 .0) (w .0 .1 .0) (w .1)) (@refused-line@ .ensures)
+    let w = c .before .before .before .before .before .outcome .given in
+    put-same (refusedLine (w .0 .0) (w .0 .1 .0)) _ (stage-refused (c .before .before .before .before .before .before .before .before .before .before .args .p) (c .before .before .before .before .before .before .before .before .before .before .args .file .now) (c .before .before .before .before .before .before .before .examine .result) (c .before .before .before .before .before .before .before .examine .ensures) (w .0 .0) (w .0 .1 .0) (w .1)) (c .before .before .refused-line .ensures)
 
 enum-told : tie.Need-enum-told
 enum-told c = search needs
 
 tables-of-requires : tie.Need-tables-of-requires
 tables-of-requires c κs =
-    let S = @start@ in
-    (good (c .before .before .before .before), @examine@ .ensures .worked (told-done (S .args .p) (S .args .file .now) (@examine@ .result) (@examine@ .ensures) (@enum-told@ .given .1)))
+    let S = c .before .before .before .before .before .before .before .before .before in
+    (good (c .before .before .before .before), c .before .before .before .before .before .before .examine .ensures .worked (told-done (S .args .p) (S .args .file .now) (c .before .before .before .before .before .before .examine .result) (c .before .before .before .before .before .before .examine .ensures) (c .before .before .before .before .enum-told .given .1)))
 
 quote-by-requires : tie.Need-quote-by-requires
-quote-by-requires c κs = record { model = @args@ .p; of = @examine@ .result .description; tables = @tables-of@ .ensures .by-levels }
+quote-by-requires c κs = record { model = c .before .before .before .before .before .before .before .before .before .before .before .before .before .before .before .before .args .p; of = c .before .before .before .before .before .before .before .before .before .before .before .before .before .examine .result .description; tables = c .before .before .before .before .before .before .tables-of .ensures .by-levels }
 
 shown-tempo-requires : tie.Need-shown-tempo-requires
 shown-tempo-requires c κs = search needs
 
 gaps-by-requires : tie.Need-gaps-by-requires
 gaps-by-requires c κs =
-    let on = shown-on (@args@ .p) (@examine@ .result .description) (@quote-by@ .result) (quoted (c .before .before .before .before)) in
-    (scaled-of (@examine@ .result .description) (@tables-of@ .result .sources) (good (c .before .before .before .before .before .before .before .before .before .before .before .before .before .before .before .before)) (@tables-of@ .ensures .by-levels .by-source), omega (arith, on .0, @shown-tempo@ .ensures), omega (arith, on .1, @shown-tempo@ .ensures))
+    let on = shown-on (c .before .before .before .before .before .before .before .before .before .before .before .before .before .before .before .before .before .before .before .before .args .p) (c .before .before .before .before .before .before .before .before .before .before .before .before .before .before .before .before .before .examine .result .description) (c .before .before .before .quote-by .result) (quoted (c .before .before .before)) in
+    (scaled-of (c .before .before .before .before .before .before .before .before .before .before .before .before .before .before .before .before .before .examine .result .description) (c .before .before .before .before .before .before .before .before .before .before .tables-of .result .sources) (good (c .before .before .before .before .before .before .before .before .before .before .before .before .before .before .before)) (c .before .before .before .before .before .before .before .before .before .before .tables-of .ensures .by-levels .by-source), omega (arith, on .0, c .before .before .shown-tempo .ensures), omega (arith, on .1, c .before .before .shown-tempo .ensures))
 
 slots-at-requires : tie.Need-slots-at-requires
 slots-at-requires c κs =
-    let t = @tables-of@ .ensures in
-    (record { good = t .by-levels .good; by-level = t .by-levels .by-level; by-start = t .by-levels .by-start; by-tail = t .by-levels .by-tail; by-order = t .by-order }, spaced (c .before .before .before .before .before .before) .fit)
+    let t = c .before .before .before .before .before .before .before .before .before .before .before .before .before .before .before .before .before .tables-of .ensures in
+    (record { model = c .before .before .before .before .before .before .before .before .before .before .before .before .before .before .before .before .before .before .before .before .before .before .before .before .before .before .before .args .p; tables = slot-tables (c .before .before .before .before .before .before .before .before .before .before .before .before .before .before .before .before .before .before .before .before .before .before .before .before .before .before .before .args .p) (c .before .before .before .before .before .before .before .before .before .before .before .before .before .before .before .before .before .before .before .before .before .before .before .before .examine .result .description) (c .before .before .before .before .before .before .before .before .before .before .before .before .before .before .before .before .before .tables-of .result) t }, spaced (c .before .before .before .before .before .before) .fit)
 
 tempo-line-requires : tie.Need-tempo-line-requires
-tempo-line-requires c κs = omega (arith, @pre@, room (c .before))
+tempo-line-requires c κs = omega (arith, c .before .before .before .before .before .before .before .before .before .before .before .before .before .before .before .before .before .before .before .before .before .before .before .before .before .before .before .before .before .pre, room (c .before))
 
 link-lines-requires : tie.Need-link-lines-requires
 link-lines-requires c κs =
-    let t = @tempo-line@ .ensures in
-    (good (c .before .before .before .before .before .before .before .before .before .before .before .before .before .before .before .before .before .before .before .before .before .before .before .before .before .before .before .before .before) .fields .few-links, omega (arith, @pre@, room (c .before .before .before .before .before), t .put-end, t .put-size))
+    let t = c .before .before .before .tempo-line .ensures in
+    (good (c .before .before .before .before .before .before .before .before .before .before .before .before .before .before .before .before .before .before .before .before .before .before .before .before .before .before .before .before) .fields .few-links, omega (arith, c .before .before .before .before .before .before .before .before .before .before .before .before .before .before .before .before .before .before .before .before .before .before .before .before .before .before .before .before .before .before .before .before .before .pre, room (c .before .before .before .before .before), t .put-end, t .put-size))
 
 same-length-2 : tie.Need-same-length-2
 same-length-2 c = search needs
 
 returns-2 : tie.Need-returns-2
 returns-2 c =
-    let d = @examine@ .result .description in
-    put-same _ (plainReport (@args@ .p) (@args@ .file .now)) (parts (c .before .before .before .before .before .before .before .before)) (put-then (tempoLine (@quote-by@ .result)) (listing d (@slots-at@ .result) (d .«link_count»)) (@tempo-line@ .ensures) (@link-lines@ .ensures))
+    let d = c .before .before .before .before .before .before .before .before .before .before .before .before .before .before .before .before .before .before .before .before .before .before .before .before .before .before .before .before .before .before .before .before .before .examine .result .description in
+    put-same _ (plainReport (c .before .before .before .before .before .before .before .before .before .before .before .before .before .before .before .before .before .before .before .before .before .before .before .before .before .before .before .before .before .before .before .before .before .before .before .before .args .p) (c .before .before .before .before .before .before .before .before .before .before .before .before .before .before .before .before .before .before .before .before .before .before .before .before .before .before .before .before .before .before .before .before .before .before .before .before .args .file .now)) (parts (c .before .before .before .before .before .before .before .before)) (put-then (tempoLine (c .before .before .before .before .before .before .before .before .before .before .before .before .before .before .before .before .before .before .before .quote-by .result)) (listing d (c .before .before .before .before .before .before .before .before .slots-at .result) (d .«link_count»)) (c .before .before .before .before .before .before .tempo-line .ensures) (c .before .before .link-lines .ensures))
 
 pub put-plain-spec : {M : Type 1} → statement M
 put-plain-spec =

@@ -18,67 +18,67 @@ loop-holds : tie.Need-loop-holds Inv-loop μ-loop
 loop-holds c = (omega arith, refl, λ pol d gap g a b t e f z k p. absurd (omega arith))
 
 loads-at-requires : tie.Need-loads-at-requires Inv-loop μ-loop
-loads-at-requires c κs = let S = @start@ in (S .pre .0 .few-sources, omega (arith, S .pre .0 .few-tasks))
+loads-at-requires c κs = let S = c .before .before in (S .pre .0 .few-sources, omega (arith, S .pre .0 .few-tasks))
 
 mul-wide : tie.Need-mul-wide Inv-loop μ-loop
-mul-wide c = let S = @start@ in omega (arith, S .pre .0 .few-tasks)
+mul-wide c = let S = c .before .before .before in omega (arith, S .pre .0 .few-tasks)
 
 element-copy-out-wide : tie.Need-element-copy-out-wide Inv-loop μ-loop
-element-copy-out-wide c = let S = @start@ in omega (arith, S .pre .0 .few-tasks)
+element-copy-out-wide c = let S = c .before .before .before in omega (arith, S .pre .0 .few-tasks)
 
 wide-requires : tie.Need-wide-requires Inv-loop μ-loop
 wide-requires c κs = search needs
 
 mul-room : tie.Need-mul-room Inv-loop μ-loop
-mul-room c = let S = @start@ in omega (arith, S .pre .0 .few-tasks)
+mul-room c = let S = c .before .before .before .before .before in omega (arith, S .pre .0 .few-tasks)
 
 element-copy-out-room : tie.Need-element-copy-out-room Inv-loop μ-loop
-element-copy-out-room c = let S = @start@ in omega (arith, S .pre .0 .few-tasks)
+element-copy-out-room c = let S = c .before .before .before .before .before in omega (arith, S .pre .0 .few-tasks)
 
 room-requires : tie.Need-room-requires Inv-loop μ-loop
 room-requires c κs = search needs
 
 mul-level-reach : tie.Need-mul-level-reach Inv-loop μ-loop
-mul-level-reach c = let S = @start@ in omega (arith, S .pre .0 .few-tasks)
+mul-level-reach c = let S = c .before .before .before .before .before .before .before in omega (arith, S .pre .0 .few-tasks)
 
 element-copy-out-level-reach : tie.Need-element-copy-out-level-reach Inv-loop μ-loop
-element-copy-out-level-reach c = let S = @start@ in omega (arith, S .pre .0 .few-tasks)
+element-copy-out-level-reach c = let S = c .before .before .before .before .before .before .before in omega (arith, S .pre .0 .few-tasks)
 
 level-reach-requires : tie.Need-level-reach-requires Inv-loop μ-loop
 level-reach-requires c κs =
-    let S = @start@ in
+    let S = c .before .before .before .before .before .before .before .before .before in
     let a = S .args in
-    let L = @loop@ in
-    (level-scaled (a .levels .now) (a .starts .now) (a .tails .now) (a .gaps .now) (a .n) (a .m) (L .j) (@loads-at@ .result) (S .pre .0) (S .pre .1) (omega arith) (@loads-at@ .ensures), omega (arith, @room@ .ensures, S .pre .2 (L .j)))
+    let L = c .before .before .before .before .before .before .before .before .loop in
+    (level-scaled (a .levels .now) (a .starts .now) (a .tails .now) (a .gaps .now) (a .n) (a .m) (L .j) (c .before .before .before .before .before .before .loads-at .result) (S .pre .0) (S .pre .1) (omega arith) (c .before .before .before .before .before .before .loads-at .ensures), omega (arith, c .before .before .room .ensures, S .pre .2 (L .j)))
 
 add-reaches : tie.Need-add-reaches Inv-loop μ-loop
 add-reaches c =
-    let S = @start@ in
+    let S = c .before .before .before .before .before .before .before .before .before .before in
     let a = S .args in
-    let L = @loop@ in
-    omega (arith, reach-most (getD (a .starts .now) (L .j) 0) (@loads-at@ .result) (a .gaps .now) (a .m) (@room@ .result), @level-reach@ .ensures, @room@ .ensures, S .pre .2 (L .j), @wide@ .ensures, S .pre .0 .tail-most (L .j) (omega arith))
+    let L = c .before .before .before .before .before .before .before .before .before .loop in
+    omega (arith, reach-most (getD (a .starts .now) (L .j) 0) (c .before .before .before .before .before .before .before .loads-at .result) (a .gaps .now) (a .m) (c .before .before .before .room .result), c .level-reach .ensures, c .before .before .before .room .ensures, S .pre .2 (L .j), c .before .before .before .before .before .wide .ensures, S .pre .0 .tail-most (L .j) (omega arith))
 
 mul-reaches : tie.Need-mul-reaches Inv-loop μ-loop
-mul-reaches c = let S = @start@ in omega (arith, S .pre .0 .few-tasks)
+mul-reaches c = let S = c .before .before .before .before .before .before .before .before .before .before in omega (arith, S .pre .0 .few-tasks)
 
 array-write-reaches : tie.Need-array-write-reaches Inv-loop μ-loop
-array-write-reaches c = let S = @start@ in omega (arith, S .pre .0 .few-tasks)
+array-write-reaches c = let S = c .before .before .before .before .before .before .before .before .before .before in omega (arith, S .pre .0 .few-tasks)
 
 add-j : tie.Need-add-j Inv-loop μ-loop
-add-j c = let S = @start@ in omega (arith, S .pre .0 .few-tasks)
+add-j c = let S = c .before .before .before .before .before .before .before .before .before .before in omega (arith, S .pre .0 .few-tasks)
 
 loop-less : tie.Need-loop-less Inv-loop μ-loop
 loop-less c = omega arith
 
 loop-again : tie.Need-loop-again Inv-loop μ-loop
 loop-again c =
-    let S = @start@ in
+    let S = c .before .before .before .before .before .before .before .before .before .before in
     let a = S .args in
-    let L = @loop@ in
-    (omega arith, length-set (L .reaches) (L .j) (@level-reach@ .result + @wide@ .result) ∙ L .inv .1, reaches-more (a .levels .now) (a .starts .now) (a .tails .now) (a .gaps .now) (a .limits .now) (a .n) (a .m) (L .reaches) (L .j) (@loads-at@ .result) (@level-reach@ .result) (@wide@ .result) (@room@ .result) (omega arith) (S .pre .0 .few-tasks) (L .inv .1) (@loads-at@ .ensures) (@wide@ .ensures) (@room@ .ensures) (@level-reach@ .ensures) (L .inv .2))
+    let L = c .before .before .before .before .before .before .before .before .before .loop in
+    (omega arith, length-set (L .reaches) (L .j) (c .level-reach .result + c .before .before .before .before .before .wide .result) ∙ L .inv .1, reaches-more (a .levels .now) (a .starts .now) (a .tails .now) (a .gaps .now) (a .limits .now) (a .n) (a .m) (L .reaches) (L .j) (c .before .before .before .before .before .before .before .loads-at .result) (c .level-reach .result) (c .before .before .before .before .before .wide .result) (c .before .before .before .room .result) (omega arith) (S .pre .0 .few-tasks) (L .inv .1) (c .before .before .before .before .before .before .before .loads-at .ensures) (c .before .before .before .before .before .wide .ensures) (c .before .before .before .room .ensures) (c .level-reach .ensures) (L .inv .2))
 
 returns : tie.Need-returns Inv-loop μ-loop
-returns c = let L = @loop@ in λ pol d gap g a b t e f z k p. L .inv .2 pol d gap g a b t e f z k (omega (arith, L .inv .0, @loop-test@ .left))
+returns c = let L = c .before .loop in λ pol d gap g a b t e f z k p. L .inv .2 pol d gap g a b t e f z k (omega (arith, L .inv .0, c .loop-test .left))
 
 pub reaches-at-spec : {M : Type 1} → statement M
 reaches-at-spec =

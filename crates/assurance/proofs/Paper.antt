@@ -1,7 +1,7 @@
 -- The printed page alone: its line `tempo a.b` says that the file is accepted, what its quote is and that the promise holds up to it, and each line
 -- of a held source link says how long its events wait. Assumes nothing.
 use Prim.Native.Nat.{ℕ, suc, _-_, _≤_, _<_}
-use mathlib.Core.Path.{_≡_, refl, sym, ap}
+use mathlib.Core.Path.{_≡_, refl, sym, ap, _∙_}
 use mathlib.Core.Bool.{not}
 use mathlib.Core.List.{List, _++_}
 use native.Mathlib.Omega.{arith}
@@ -20,7 +20,7 @@ use Rattle.model.specs.File.{Widths, readFile, filledBy}
 use Rattle.model.specs.Delays.{spacingOf}
 use Rattle.model.specs.Verdicts.{verdictAt, doubtful, allHeld, largestBelow, quoteOf, quotedFile}
 use Rattle.model.specs.Report.{refusedLine, reportFor, plainReport, policyLine, reportOf, reported, pageReported, printed}
-use Rattle.model.specs.Page.{TempoLine, HasLine, tempoWords, heldWords, HeldLine, FromPage, Paper}
+use Rattle.model.specs.Page.{TempoLine, HasLine, tempoWords, heldWords, HeldLine, FromPage, TellsModel, Paper, CallPaper}
 use Rattle.lemmas.proofs.Range.{all-at}
 use Rattle.theory.proofs.WellFormed.{Fielded}
 use Rattle.theory.proofs.NumberBytes.{Bytes}
@@ -113,12 +113,14 @@ quoted-page pol file q b e = go (readFile file .outcome) refl
         rw (a, k) (tempo-line pol (reportFor pol d (Tempo q)) (tempoWords q) .1 (page-first pol d (Tempo q)))
 
 -- what holds of the report holds of the page that the program prints for its input
-pub from-printed : (pol : Policy) (input : List ℕ) (q : ℕ) → Bytes input → TempoLine pol (printed pol input) (tempoWords q) → FromPage pol input (printed pol input) q
-from-printed pol input q b e = rw (printed-whole pol input) (from-report pol input q b (rw (printed-whole pol input) at e))
+pub from-printed : (made p : Policy) (input : List ℕ) (q : ℕ) → Bytes input → TellsModel p (printed made input) → TempoLine p (printed made input) (tempoWords q) → FromPage p input (printed made input) q
+from-printed made p input q b t e =
+    let w = printed-whole made input in
+    rw w (from-page made p input q b (rw w at t) (rw w at e))
 
 -- and of the page that the report call leaves at the front of a lent buffer
-pub from-buffer : (pol : Policy) (file buffer : List ℕ) (n q : ℕ) → Bytes file → reported pol file buffer ≡ Filled.Bytes n → TempoLine pol (take n (pageReported pol file buffer)) (tempoWords q) → FromPage pol file (take n (pageReported pol file buffer)) q
+pub from-buffer : CallPaper
 unfolding reported pageReported
-from-buffer pol file buffer n q b f e =
-    let p : take n (filledBy (reportOf pol file) buffer) ≡ reportOf pol file = filled-page (reportOf pol file) buffer n f in
-    rw p (from-report pol file q b (rw p at e))
+from-buffer made p file buffer buffer′ r n q b c f t e =
+    let w : take n buffer′ ≡ reportOf made file = ap (take n) (c .1) ∙ filled-page (reportOf made file) buffer n (sym (c .0) ∙ f) in
+    rw w (from-page made p file q b (rw w at t) (rw w at e))

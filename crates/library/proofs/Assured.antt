@@ -1,5 +1,5 @@
--- What the header promises of a run: of the bytes that `bench_run` leaves, up to the number that `bench_quote` answers, and on the hold-on model of those
--- of `bench_hold_run` and `bench_hold_quote`. Assumes nothing.
+-- What the header promises of a run: of the bytes that `bench_run` leaves, up to the number that `bench_quote` answers; and of a page, that `bench_report`
+-- leaves. On the hold-on model of those of `bench_hold_run`, `bench_hold_quote` and `bench_hold_report`. Assumes nothing.
 use Prim.Native.Nat.{ℕ, zero, suc, _+_, _*_, _/_, _≤_, _<_}
 use mathlib.Core.Path.{_≡_, refl, sym, ap, _∙_}
 use mathlib.Core.Bool.{Bool, true, false, cond, _||_}
@@ -30,13 +30,16 @@ use Rattle.model.specs.declared.Quote.the-variants.{Tempo, Unquoted}
 use Rattle.model.specs.declared.Refusal.{Refusal}
 use Rattle.model.specs.declared.Refusal.the-variants.{ShortPage}
 use Rattle.model.specs.declared.Outcome.{Outcome}
+use Rattle.model.specs.declared.Filled.{Filled}
 use Rattle.model.specs.declared.Outcome.the-variants.{Done, Refused}
-use Rattle.model.specs.Refusals.{numberOf, refusal, ofOutcome, ofQuote}
+use Rattle.model.specs.Refusals.{numberOf, refusal, ofOutcome, ofFilled, ofQuote}
 use Rattle.model.specs.File.{readFile, filledBy}
 use Rattle.model.specs.Verdicts.{quotedFile}
 use Rattle.model.specs.Machine.{idle}
 use Rattle.model.specs.History.{Call, plainCall, answers, left, observe, isDone, ticks}
 use Rattle.model.specs.Promise.{UpTo}
+use Rattle.model.specs.Report.{reported}
+use Rattle.model.specs.Page.{TellsModel, TempoLine, tempoWords, FromPage}
 use Rattle.model.specs.Run.{callsIn, codes, page}
 use Rattle.lemmas.proofs.Tests.{or-false-right, not-both}
 use Rattle.lemmas.proofs.Outcomes.{refused-not}
@@ -46,10 +49,13 @@ use Rattle.theory.proofs.QuotedFile.{QuotedFile, quoted-file}
 use Rattle.assurance.proofs.Replay.{callAt, tick-refused}
 use Rattle.assurance.proofs.Demand3.{up-next}
 use Rattle.assurance.proofs.PlainCalls.{plain-calls, plain-assured}
+use Rattle.assurance.proofs.Paper.{from-buffer}
 use Rattle.runs.proofs.RunLaws.{calls-length, calls-at, codes-length}
-use Rattle.library.specs.Replies.{reply, runOutcome, QuoteReplied, RunReplied, RunAssured, CallsUpTo}
+use Rattle.library.specs.Replies.{reply, runOutcome, ReportReplied, QuoteReplied, RunReplied, RunAssured, CallsUpTo}
 use Rattle.layout.specs.Layout.{recordByte, recordBytes}
 use Rattle.library.proofs.Laws.{numbered, reply-refused, reply-done}
+use Rattle.library.proofs.bench_report as report
+use Rattle.library.proofs.bench_hold_report as hold-report
 use Rattle.library.proofs.bench_quote as quote
 use Rattle.library.proofs.bench_hold_quote as hold-quote
 use Rattle.library.proofs.bench_run as run
@@ -75,6 +81,17 @@ refusal-low r p n e = not-both (neg-low (10000 * numberOf r + p) (omega (arith, 
 pub quote-told : (x : Quote) (q : ℕ) → reply (ofQuote x) ≡ pos q → x ≡ Tempo q
 quote-told (Tempo t) q e = ap Tempo (ap size (reply-done t ∙ e))
 quote-told (Unquoted r p) q e = absurd (refusal-low r p q e)
+
+-- a report call that answers n of 0 or more has filled n bytes
+filled-told : (x : Filled) (n : ℕ) → reply (ofFilled x) ≡ pos n → x ≡ Filled.Bytes n
+filled-told (Filled.Bytes k) n e = ap Filled.Bytes (ap size (reply-done k ∙ e))
+filled-told (Filled.Unfilled r p) n e = absurd (refusal-low r p n e)
+
+-- the page of such a call assures what `Page.CallPaper` says of it
+pub bench-paper : (made p : Policy) (s out out′ : List ℕ) (r : ℤ) (n q : ℕ) → AllBytes s → ReportReplied made s out out′ r → r ≡ pos n
+    → TellsModel p (take n out′) → TempoLine p (take n out′) (tempoWords q) → FromPage p s (take n out′) q
+bench-paper made p s out out′ r n q b c f =
+    from-buffer made p s out out′ (reported made s out) n q b (refl, c .1) (filled-told (reported made s out) n (sym (c .0) ∙ f))
 
 -- a run call that answers 0 is done
 run-done : (o : Outcome) → reply (ofOutcome o) ≡ pos 0 → o ≡ Done
@@ -133,8 +150,16 @@ bench-assured pol s calls outcomes out outcomes′ out′ q quoted ran b told e 
       assured = plain-assured pol d q (k .widths) (k .quoted) cs slow;
     }
 
--- What the checker has as the `ensures` of the quote and run calls is what this asks of them, on each model: with a weaker one these fail.
+-- What the checker has as the `ensures` of the report, quote and run calls is what this asks of them, on each model: with a weaker one these fail.
 module _ {M : Type 1} (𝓤 : URA M) (H : Heap 𝓤) (A : Atoms 𝓤) (mem : Memory → SProp 𝓤) (does : Routine → Fun 𝓤) where
+  pub report-meets : (κs : Lfts 2) (x : Args report.signature κs) (r : ℤ) (e : AtExit report.ended κs)
+      → ent 𝓤 (report.clauses 𝓤 H A mem does κs x .ensures tt r e) (fact 𝓤 (ReportReplied Preemptive (now (x .0)) (now (x .1 .0)) (now (e .1 .0)) r))
+  report-meets κs x r e = id⊢ 𝓤 _
+
+  pub hold-report-meets : (κs : Lfts 2) (x : Args hold-report.signature κs) (r : ℤ) (e : AtExit hold-report.ended κs)
+      → ent 𝓤 (hold-report.clauses 𝓤 H A mem does κs x .ensures tt r e) (fact 𝓤 (ReportReplied HoldOn (now (x .0)) (now (x .1 .0)) (now (e .1 .0)) r))
+  hold-report-meets κs x r e = id⊢ 𝓤 _
+
   pub quote-meets : (κs : Lfts 1) (x : Args quote.signature κs) (r : ℤ) (e : AtExit quote.ended κs)
       → ent 𝓤 (quote.clauses 𝓤 H A mem does κs x .ensures tt r e) (fact 𝓤 (QuoteReplied Preemptive (now (x .0)) r))
   quote-meets κs x r e = id⊢ 𝓤 _

@@ -4,7 +4,7 @@ use mathlib.Core.Bool.{true, false}
 use mathlib.Core.List.{List, [], _∷_, _++_}
 use mathlib.Core.Path.{_≡_}
 use mathlib.Core.Logic.{_↔_}
-use lib.ListN.{length, getD}
+use lib.ListN.{length, getD, take}
 use lib.Dec.{eqb}
 use Rattle.model.specs.declared.Description.{Description}
 use Rattle.model.specs.declared.Policy.{Policy}
@@ -12,6 +12,7 @@ use Rattle.model.specs.declared.Policy.the-variants.{Preemptive, HoldOn}
 use Rattle.model.specs.declared.Machine.{Machine}
 use Rattle.model.specs.declared.Ticked.{Ticked}
 use Rattle.model.specs.declared.Outcome.the-variants.{Done}
+use Rattle.model.specs.declared.Filled.{Filled}
 use Rattle.model.specs.declared.Verdict.the-variants.{Held}
 use Rattle.model.specs.declared.Quote.the-variants.{Tempo}
 use Rattle.model.specs.Graph.{linkAt}
@@ -20,7 +21,7 @@ use Rattle.model.specs.Delays.{spacingOf}
 use Rattle.model.specs.Verdicts.{verdictAt, quotedFile}
 use Rattle.model.specs.History.{Call, history, fires, tickAt, waitOf}
 use Rattle.model.specs.Promise.{StartMeets, Calls, UpTo, Assured}
-use Rattle.model.specs.Report.{decimal, tempoText, wTempo, wLink, wHeld, wOf, wHold, reportOf}
+use Rattle.model.specs.Report.{decimal, tempoText, wTempo, wLink, wHeld, wOf, wHold, reportOf, ReportMeets}
 
 -- a text cut into lines, "each line ends in one line feed": what stands before each, and a rest if there is one
 abbrev pub longer : ℕ → List (List ℕ) → List (List ℕ)
@@ -99,3 +100,9 @@ pub record FromPage (p : Policy) (file page : List ℕ) (q : ℕ) : Type 0 where
 abbrev pub Paper : Type 0
 Paper = (made p : Policy) (file : List ℕ) (q : ℕ) → ((i : ℕ) → getD file i 0 < 256)
     → TellsModel p (reportOf made file) → TempoLine p (reportOf made file) (tempoWords q) → FromPage p file (reportOf made file) q
+
+-- the same of what a report call leaves at the front of a lent buffer
+abbrev pub CallPaper : Type 0
+CallPaper = (made p : Policy) (file buffer buffer′ : List ℕ) (r : Filled) (n q : ℕ) → ((i : ℕ) → getD file i 0 < 256)
+    → ReportMeets made file buffer r buffer′ → r ≡ Filled.Bytes n
+    → TellsModel p (take n buffer′) → TempoLine p (take n buffer′) (tempoWords q) → FromPage p file (take n buffer′) q

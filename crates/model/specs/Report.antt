@@ -2,6 +2,7 @@
 use Prim.Native.Nat.{ℕ, zero, suc, _+_, _/_, _%_}
 use mathlib.Core.Bool.{true, false}
 use mathlib.Core.List.{List, [], _∷_, _++_}
+use mathlib.Core.Path.{_≡_}
 use lib.ListN.{take}
 use lib.Dec.{ltb}
 use Rattle.model.specs.declared.Link.{Link}
@@ -136,6 +137,10 @@ reported p file buffer = fillWith (reportOf p file) buffer
 
 unfoldable pub pageReported : Policy → List ℕ → List ℕ → List ℕ
 pageReported p file buffer = filledBy (reportOf p file) buffer
+
+-- its answer, and the buffer after it
+abbrev pub ReportMeets : Policy → List ℕ → List ℕ → Filled → List ℕ → Type 0
+ReportMeets p file buffer r buffer′ = (r ≡ reported p file buffer) × (buffer′ ≡ pageReported p file buffer)
 
 -- what the program of a model prints: it "reads the first 4,096 bytes of standard input and ignores the rest"
 unfoldable pub printed : Policy → List ℕ → List ℕ

@@ -24,8 +24,8 @@ use Rattle.verdicts.specs.Held.{levelHeld}
 use Rattle.verdicts.specs.Tables.{LoadsAt, termsAt, levelIn, LevelTables}
 use Rattle.verdicts.proofs.LevelLaws.{levels-all, not-level, not-orders}
 use Rattle.verdicts.proofs.TableLaws.{level-of-tables}
-use Rattle.tempos.specs.Search.{LevelFrom, Slower}
-use Rattle.tempos.proofs.Laws.{level-slower}
+use Rattle.tempo_search.specs.Search.{LevelFrom, Slower}
+use Rattle.tempo_search.proofs.Laws.{level-slower}
 use Rattle.quotes.specs.Best.{Best}
 
 -- the levels of tables, on the scale of the rounds

@@ -9,7 +9,7 @@ use model::Quote;
 use model::Refusal;
 use spacings::Sources;
 use spacings::gaps_by;
-use tempos::slower;
+use tempo_search::slower;
 use verdicts::level::level_held;
 use verdicts::level::level_loads;
 use verdicts::level::level_terms;

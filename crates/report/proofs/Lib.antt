@@ -2,3 +2,4 @@
 pub mod ReportLength
 pub mod ReportLaws
 pub mod Stages
+pub mod Assured

@@ -11,8 +11,8 @@ use Rattle.spacings.proofs.GapLaws.{scaled-of}
 use Rattle.verdicts.specs.Held.{levelHeld}
 use Rattle.verdicts.specs.Tables.{levelIn, LevelTables}
 use Rattle.verdicts.proofs.NarrowLaws.{level-unmarked}
-use Rattle.tempos.specs.Search.{LevelFrom}
-use Rattle.tempos.proofs.Laws.{from-on, held-from}
+use Rattle.tempo_search.specs.Search.{LevelFrom}
+use Rattle.tempo_search.proofs.Laws.{from-on, held-from}
 use Rattle.quotes.specs.Best.{Best}
 use Rattle.quotes.proofs.Laws.{level-from, best-none, best-held, best-slower, best-quote, no-level, no-order}
 use Rattle.quotes.proofs.quote_by.Statement.{statement}

@@ -1,11 +1,11 @@
--- `tempos::held_at` meets its contract: the spacings of the tempo are those of every description that the sources are of. Assumes nothing.
+-- `tempo_search::held_at` meets its contract: the spacings of the tempo are those of every description that the sources are of. Assumes nothing.
 use native.Mathlib.Omega.{arith}
 use Rattle.spacings.specs.Sources.{sourcesWith}
 use Rattle.spacings.proofs.GapLaws.{scaled-of}
 use Rattle.verdicts.specs.Tables.{levelIn}
-use Rattle.tempos.proofs.Laws.{from-on, held-from}
-use Rattle.tempos.proofs.held_at.Statement.{statement}
-use Rattle.tempos.proofs.held_at.Tie as tie
+use Rattle.tempo_search.proofs.Laws.{from-on, held-from}
+use Rattle.tempo_search.proofs.held_at.Statement.{statement}
+use Rattle.tempo_search.proofs.held_at.Tie as tie
 
 fill-gaps-requires : tie.Need-fill-gaps-requires
 fill-gaps-requires c κs =

@@ -18,7 +18,7 @@ use Rattle.verdicts.specs.Held.{levelHeld}
 use Rattle.verdicts.specs.Tables.{Level, HeldBy}
 use Rattle.verdicts.proofs.LevelLaws.{level-wider}
 use Rattle.verdicts.proofs.LevelRounds.{level-on}
-use Rattle.tempos.specs.Search.{LevelFrom, Slower}
+use Rattle.tempo_search.specs.Search.{LevelFrom, Slower}
 
 -- a level that is held at one tempo is held at every lower one
 pub level-slower : (pol : Policy) (d : Description) → WellFormed d → (t t′ j : ℕ) → 1 ≤ t → t ≤ t′ → t′ ≤ 3000 → levelHeld pol d (spacingOf d t′) j ≡ true → levelHeld pol d (spacingOf d t) j ≡ true

@@ -13,7 +13,7 @@ ghost use Rattle.spacings.specs.Sources.{sourcesWith};
 ghost use Rattle.spacings.specs.Gaps.{Room};
 ghost use Rattle.verdicts.specs.Held.{levelHeld};
 ghost use Rattle.verdicts.specs.Tables.{levelIn};
-ghost use Rattle.tempos.specs.Search.{LevelFrom, Searched, Slower};
+ghost use Rattle.tempo_search.specs.Search.{LevelFrom, Searched, Slower};
 
 // Whether every critical link from a source to a level's task is held at tempo t. One more tempo costs its spacings and the level's rounds, and
 // copies nothing.

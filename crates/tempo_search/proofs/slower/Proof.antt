@@ -1,4 +1,4 @@
--- `tempos::slower` meets its contract: the level is held at `low` and not at `high`, which close in on each other. Assumes nothing.
+-- `tempo_search::slower` meets its contract: the level is held at `low` and not at `high`, which close in on each other. Assumes nothing.
 use Prim.Native.Nat.{ℕ, _≤_, _-_}
 use mathlib.Core.Path.{_≡_, sym, _∙_}
 use mathlib.Core.Bool.{true, false}
@@ -13,10 +13,10 @@ use Rattle.spacings.specs.Gaps.{Room}
 use Rattle.spacings.proofs.GapLaws.{zeros-room}
 use Rattle.verdicts.specs.Held.{levelHeld}
 use Rattle.verdicts.specs.Tables.{Level, levelIn}
-use Rattle.tempos.specs.Search.{LevelFrom}
-use Rattle.tempos.proofs.Laws.{slower-found, slower-none}
-use Rattle.tempos.proofs.slower.Statement.{statement}
-use Rattle.tempos.proofs.slower.Tie as tie
+use Rattle.tempo_search.specs.Search.{LevelFrom}
+use Rattle.tempo_search.proofs.Laws.{slower-found, slower-none}
+use Rattle.tempo_search.proofs.slower.Statement.{statement}
+use Rattle.tempo_search.proofs.slower.Tie as tie
 
 -- of every description that the level is of and in doubt: held at one tempo and not at another
 abbrev Between : Level → Sources → ℕ → ℕ → ℕ → Type 0

@@ -121,7 +121,7 @@ module _ (d e : Description) (s : SameStructure d e) (w : WellFormed d) (w′ : 
     linked-same u j p l =
         let x : u < 33 + d .«source_count» = linked-source (system d) (shaped d w) u j p l in
         let y : u < 33 + e .«source_count» = linked-source (system e) w′ u j p (ap (λ (q : System). q .link u j) (sym structure-system) ∙ l) in
-        (x, y, g u p x y)
+        (x, y, g u p (omega arith) (omega arith))
 
     -- every rule that goes by spacings tells the same of a link
     pub ruled-same : {A : Type 0} (rule : Rule A) → BySpacings rule → (l : ℕ) → l < d .«link_count» → ruled rule d t l ≡ ruled rule e t′ l

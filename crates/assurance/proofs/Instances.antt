@@ -26,7 +26,7 @@ use Rattle.model.specs.Loads.{workF, work, added, load, tooHeavy}
 use Rattle.model.specs.File.{SourceFits, Widths, fileOf, lastChecks, parseFrom, parseFile, readFile, overfull, judge}
 use Rattle.model.specs.Delays.{spacing, spacingOf, spacings, startOf, roundOf, settle, delayOf}
 use Rattle.model.specs.Order.{visit, walk, inOrder}
-use Rattle.model.specs.Verdicts.{sourceVerdict, orderVerdict, verdictOf, verdictAt, allHeld, largestBelow, quoteOf}
+use Rattle.model.specs.Verdicts.{sourceVerdict, orderVerdict, verdictOf, verdictAt, allHeld, tempos, largestBelow, quoteOf}
 use Rattle.model.specs.Machine.{idle}
 use Rattle.model.specs.History.{Call, ticks, tickAt, fires, waitOf}
 use Rattle.model.specs.Promise.{UpTo}
@@ -124,7 +124,7 @@ box-swept arrivals finish n =
 pub box-page : reportOf Preemptive boxFile ≡ boxPage
 unfolding reportOf plainReport quoteOf
 box-page =
-    let q : largestBelow (allHeld Preemptive box) 2801 ≡ Tempo 1783 = rw box-judged at box-quote in
+    let q : largestBelow (allHeld Preemptive box) tempos ≡ Tempo 1783 = rw box-judged at box-quote in
     rw (figures .p2-read, q) (figures .page-box)
 
 box-bytes : (i : ℕ) → getD boxFile i 0 < 256
@@ -253,7 +253,7 @@ box-hold-assured = plain-assured HoldOn box 1248 box-widths box-hold-quote
 pub box-hold-page : reportOf HoldOn boxFile ≡ boxHoldPage
 unfolding reportOf plainReport quoteOf
 box-hold-page =
-    let q : largestBelow (allHeld HoldOn box) 2801 ≡ Tempo 1248 = rw box-judged at box-hold-quote in
+    let q : largestBelow (allHeld HoldOn box) tempos ≡ Tempo 1248 = rw box-judged at box-hold-quote in
     rw (figures .p2-read, q) (hold-figures .page-box)
 
 pub box-hold-paper : FromPage HoldOn boxFile boxHoldPage 1248

@@ -19,7 +19,7 @@ use Rattle.model.specs.Loads.{sheet}
 use Rattle.model.specs.Field.{fieldBytes, fieldOf, fieldCount}
 use Rattle.model.specs.File.{SameTo, trimmed, fileOf, overfull, judge, written, pageAfter, loadSheet}
 use Rattle.model.specs.Delays.{spacing, spacingOf}
-use Rattle.model.specs.Verdicts.{judgeAt, verdicts, largestBelow, quoteOf}
+use Rattle.model.specs.Verdicts.{judgeAt, verdicts, tempos, largestBelow, quoteOf}
 use Rattle.lemmas.proofs.Table.{joined-cong}
 use Rattle.theory.specs.Structure.{SameStructure, SameSpacings}
 use Rattle.theory.proofs.WellFormed.{WellFormed, Shaped}
@@ -113,7 +113,7 @@ module _ (d e : Description) (s : SameTo d e) where
 
     pub same-quote : (pol : Policy) → quoteOf pol d ≡ quoteOf pol e
     unfolding quoteOf
-    same-quote pol = done-same (judge d) (judge e) _ _ _ same-judge (λ j. ap (λ f. largestBelow f 2801) (fun-ext (λ t. held-same d e same-structure (known j) (same-shape (known j)) t t (same-spacings t) pol)))
+    same-quote pol = done-same (judge d) (judge e) _ _ _ same-judge (λ j. ap (λ f. largestBelow f tempos) (fun-ext (λ t. held-same d e same-structure (known j) (same-shape (known j)) t t (same-spacings t) pol)))
 
     pub same-verdicts : (pol : Policy) (t : ℕ) → verdicts pol d t ≡ verdicts pol e t
     unfolding verdicts

@@ -1,9 +1,10 @@
--- The promise at two files of document 01, on both models, and at a swung one, and verdicts by spacings at Box with a pulse of each kind: hypotheses met by computation, so that the
+-- The promise at two files of document 01, on both models, and at a swung one, and verdicts by spacings at Box with a pulse of each kind and with a source more: hypotheses met by computation, so that the
 -- theorems are known to speak of something. Assumes nothing.
 use Prim.Native.Nat.{ℕ, suc, _+_, _%_, _^_, _≤_, _<_}
 use mathlib.Core.Path.{_≡_, refl, sym, _∙_}
 use mathlib.Core.Bool.{Bool, true, false}
 use mathlib.Core.List.{List}
+use mathlib.Core.Logic.{inl, inr, ⊎-elim}
 use native.Mathlib.Omega.{arith}
 use lib.ListN.{length, getD}
 use lib.Dec.{ltb}
@@ -25,7 +26,7 @@ use Rattle.model.specs.Loads.{workF, work, added, load, tooHeavy}
 use Rattle.model.specs.File.{SourceFits, Widths, fileOf, lastChecks, parseFrom, parseFile, readFile, overfull, judge}
 use Rattle.model.specs.Delays.{spacing, spacingOf, spacings, startOf, roundOf, settle, delayOf}
 use Rattle.model.specs.Order.{visit, walk, inOrder}
-use Rattle.model.specs.Verdicts.{sourceVerdict, orderVerdict, verdictOf, verdictAt, allHeld, largestBelow, quoteOf}
+use Rattle.model.specs.Verdicts.{sourceVerdict, orderVerdict, verdictOf, verdictAt, allHeld, tempos, largestBelow, quoteOf}
 use Rattle.model.specs.Machine.{idle}
 use Rattle.model.specs.History.{Call, ticks, tickAt, fires, waitOf}
 use Rattle.model.specs.Promise.{UpTo}
@@ -34,7 +35,7 @@ use Rattle.model.specs.Page.{HeldLine, FromPage}
 use Rattle.model.specs.figures.Marked.{boxWith, box, boxFile, boxPage, twin}
 use Rattle.model.specs.figures.Hold.{boxHoldPage}
 use Rattle.model.specs.figures.Swing.{swungBox}
-use Rattle.model.specs.figures.Spacings.{fixedBox}
+use Rattle.model.specs.figures.Spacings.{fixedBox, spareBox}
 use Rattle.model.proofs.figures.Marked.{figures}
 use Rattle.model.proofs.figures.Hold.{hold-figures}
 use Rattle.model.proofs.figures.Spacings.{spacing-figures}
@@ -42,7 +43,8 @@ use Rattle.lemmas.proofs.Tests.{Cmp, less, same, more, cmp}
 use Rattle.lemmas.proofs.Range.{all-at}
 use Rattle.lemmas.proofs.Decimal.{every-at}
 use Rattle.theory.specs.Structure.{SameSpacings}
-use Rattle.theory.proofs.WellFormed.{WellFormed}
+use Rattle.theory.proofs.WellFormed.{WellFormed, Shaped}
+use Rattle.theory.proofs.Fielded.{shaped}
 use Rattle.theory.proofs.FileLaws.{judge-well-formed}
 use Rattle.theory.proofs.Levels.{Overloaded, test-6-link}
 use Rattle.theory.proofs.Quotes.{quote-at}
@@ -89,6 +91,9 @@ box-judged : judge box ≡ Done
 unfolding computing
 box-judged = refl
 
+box-formed : WellFormed box
+box-formed = judge-well-formed box box-widths box-judged
+
 box-held : allHeld Preemptive box 1783 ≡ true
 unfolding computing
 box-held = refl
@@ -119,7 +124,7 @@ box-swept arrivals finish n =
 pub box-page : reportOf Preemptive boxFile ≡ boxPage
 unfolding reportOf plainReport quoteOf
 box-page =
-    let q : largestBelow (allHeld Preemptive box) 2801 ≡ Tempo 1783 = rw box-judged at box-quote in
+    let q : largestBelow (allHeld Preemptive box) tempos ≡ Tempo 1783 = rw box-judged at box-quote in
     rw (figures .p2-read, q) (figures .page-box)
 
 box-bytes : (i : ℕ) → getD boxFile i 0 < 256
@@ -162,16 +167,20 @@ keys t = refl
 
 box-spacings : (x : Source) (t : ℕ) → spacing x t ≡ 701 → SameSpacings box 1783 (boxWith x) t
 unfolding spacingOf
-box-spacings x t e u p q = go (cmp u 33)
+box-spacings x t e u p q r = go (cmp u 33)
   where
     go : Cmp u 33 → spacing (sourceAt box u) 1783 ≡ spacing (sourceAt (boxWith x) u) t
     go (less y) = absurd (omega arith)
     go (same y) = rw y (spacing-figures .paced ∙ sym e)
     go (more y) = let z : u ≡ 34 = omega arith in rw z (keys t)
 
+box-shaped : (x : Source) → Shaped (system (boxWith x))
+unfolding system linked
+box-shaped x = shaped box box-formed
+
 pub kinds-alike : (x : Source) (t l : ℕ) → spacing x t ≡ 701 → l < 4 → verdictAt Preemptive box 1783 l ≡ verdictAt Preemptive (boxWith x) t l
 kinds-alike x t l e h =
-    verdict-same box (boxWith x) (record { tasks = refl; sources = refl; links = refl; run = λ k q. refl; link = λ k q. refl }) (judge-well-formed box box-widths box-judged) 1783 t (box-spacings x t e) Preemptive l h
+    verdict-same box (boxWith x) (record { tasks = refl; links = refl; run = λ k q. refl; link = λ k q. refl }) box-formed (box-shaped x) 1783 t (box-spacings x t e) Preemptive l h
 
 -- with a swing of 66 at 121.2, and with a fixed pulse at any tempo
 pub swung-alike : (l : ℕ) → l < 4 → verdictAt Preemptive box 1783 l ≡ verdictAt Preemptive swungBox 1212 l
@@ -180,6 +189,26 @@ swung-alike l = kinds-alike (Swung 480 66) 1212 l (spacing-figures .swung)
 pub fixed-alike : (t l : ℕ) → l < 4 → verdictAt Preemptive box 1783 l ≡ verdictAt Preemptive fixedBox t l
 unfolding spacing
 fixed-alike t l = kinds-alike (Fixed 701) t l refl
+
+-- Box and Box with one more source, which no link leaves: the verdicts are the same at every tempo, on both models
+spare-shaped : (x : Source) → Shaped (system (spareBox x))
+unfolding system linked
+spare-shaped x =
+    let s : Shaped (system box) = box-shaped (Paced 480) in
+    record { few = s .few; runs = s .runs; to-task = s .to-task; from-node = λ i j l. ⊎-elim inl (λ u. inr (u .0, omega (arith, u .1))) (s .from-node i j l) }
+
+spare-spacings : (x : Source) (t : ℕ) → SameSpacings box t (spareBox x) t
+unfolding spacingOf
+spare-spacings x t u p q r = go (cmp u 33)
+  where
+    go : Cmp u 33 → spacing (sourceAt box u) t ≡ spacing (sourceAt (spareBox x) u) t
+    go (less y) = absurd (omega arith)
+    go (same y) = rw y refl
+    go (more y) = let z : u ≡ 34 = omega arith in rw z refl
+
+pub spare-alike : (pol : Policy) (x : Source) (t l : ℕ) → l < 4 → verdictAt pol box t l ≡ verdictAt pol (spareBox x) t l
+spare-alike pol x t =
+    verdict-same box (spareBox x) (record { tasks = refl; links = refl; run = λ k q. refl; link = λ k q. refl }) box-formed (spare-shaped x) t t (spare-spacings x t) pol
 
 -- Twin with spacing 9: quoted at 300.0
 twin-widths : Widths (twin 9)
@@ -224,7 +253,7 @@ box-hold-assured = plain-assured HoldOn box 1248 box-widths box-hold-quote
 pub box-hold-page : reportOf HoldOn boxFile ≡ boxHoldPage
 unfolding reportOf plainReport quoteOf
 box-hold-page =
-    let q : largestBelow (allHeld HoldOn box) 2801 ≡ Tempo 1248 = rw box-judged at box-hold-quote in
+    let q : largestBelow (allHeld HoldOn box) tempos ≡ Tempo 1248 = rw box-judged at box-hold-quote in
     rw (figures .p2-read, q) (hold-figures .page-box)
 
 pub box-hold-paper : FromPage HoldOn boxFile boxHoldPage 1248

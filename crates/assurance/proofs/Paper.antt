@@ -18,7 +18,7 @@ use Rattle.model.specs.declared.Filled.{Filled}
 use Rattle.model.specs.Graph.{linkAt}
 use Rattle.model.specs.File.{Widths, readFile, filledBy}
 use Rattle.model.specs.Delays.{spacingOf}
-use Rattle.model.specs.Verdicts.{verdictAt, doubtful, allHeld, largestBelow, quoteOf, quotedFile}
+use Rattle.model.specs.Verdicts.{verdictAt, doubtful, allHeld, tempos, largestBelow, quoteOf, quotedFile}
 use Rattle.model.specs.Report.{refusedLine, reportFor, plainReport, policyLine, reportOf, reported, pageReported, printed}
 use Rattle.model.specs.Page.{TempoLine, HasLine, tempoWords, heldWords, HeldLine, FromPage, TellsModel, Paper, CallPaper}
 use Rattle.lemmas.proofs.Range.{all-at}
@@ -70,12 +70,12 @@ from-report pol file q b e = go (readFile file .outcome) refl
     d = readFile file .description
 
     found : Quote
-    found = largestBelow (allHeld pol d) 2801
+    found = largestBelow (allHeld pol d) tempos
 
     go : (o : Outcome) → readFile file .outcome ≡ o → FromPage pol file (reportOf pol file) q
     go (Refused r place) a = absurd (refused-no-tempo r place q (tempo-line pol (refusedLine r place) (tempoWords q) .0 (rw a at e)))
     go Done a =
-        let k : found ≡ Tempo q = page-tempo pol d found q (λ t f. omega (arith, largest-found (allHeld pol d) 2801 t f .high)) (tempo-line pol (reportFor pol d found) (tempoWords q) .0 (rw a at e)) in
+        let k : found ≡ Tempo q = page-tempo pol d found q (λ t f. omega (arith, largest-found (allHeld pol d) tempos t f .high)) (tempo-line pol (reportFor pol d found) (tempoWords q) .0 (rw a at e)) in
         let w : Widths d = read-whence file b a .widths in
         let z : quoteOf pol d ≡ Tempo q = rw (read-judged file b a) k in
         let page : reportOf pol file ≡ policyLine pol ++ reportFor pol d (Tempo q) = rw a (ap (λ (x : Quote). policyLine pol ++ reportFor pol d x) k) in
@@ -109,7 +109,7 @@ quoted-page pol file q b e = go (readFile file .outcome) refl
     go : (o : Outcome) → readFile file .outcome ≡ o → TempoLine pol (reportOf pol file) (tempoWords q)
     go (Refused r place) a = absurd (not-tempo r place (rw a at e))
     go Done a =
-        let k : largestBelow (allHeld pol d) 2801 ≡ Tempo q = rw (a, read-judged file b a) at e in
+        let k : largestBelow (allHeld pol d) tempos ≡ Tempo q = rw (a, read-judged file b a) at e in
         rw (a, k) (tempo-line pol (reportFor pol d (Tempo q)) (tempoWords q) .1 (page-first pol d (Tempo q)))
 
 -- what holds of the report holds of the page that the program prints for its input

@@ -11,7 +11,7 @@ use mir.Val.{boolByte}
 use borrow.Author.Tests.{lt-ltb, le-ltb, eq-eqb, ne-eqb}
 use Rattle.model.specs.declared.Machine.{Machine}
 use Rattle.lemmas.proofs.Table.{length-tab, getD-tab, store-more}
-use Rattle.layout.specs.Layout.{bit, byteIn, recordByte, recordBytes, Puts}
+use Rattle.layout.specs.Layout.{recordLength, bit, byteIn, recordByte, recordBytes, Puts}
 
 -- a number's four bytes
 pub byte-0 : (n k : ℕ) → k ≡ 0 → n / 16777216 % 256 ≡ byteIn n k
@@ -64,9 +64,9 @@ module _ (m : Machine) (i : ℕ) where
   unfolding recordByte
   byte-late a = rw (le-ltb i 32 (omega arith), le-ltb i 160 (omega arith), le-ltb i 416 (omega arith), le-ltb i 672 (omega arith), le-ltb i 736 (omega arith), le-ltb i 768 (omega arith), le-ltb i 800 a) refl
 
-record-length : (m : Machine) → length (recordBytes m) ≡ 1056
+record-length : (m : Machine) → length (recordBytes m) ≡ recordLength
 unfolding recordBytes
-record-length m = length-tab 1056 (recordByte m)
+record-length m = length-tab recordLength (recordByte m)
 
 -- bytes put one by one
 pub puts-none : (byte : ℕ → ℕ) (at : ℕ) (out : List ℕ) → Puts 0 byte at out out
@@ -84,15 +84,15 @@ puts-more byte at out out₁ k b p e =
 
 -- a record is put part by part
 module _ (m : Machine) where
-  at-byte : (i : ℕ) → i < 1056 → getD (recordBytes m) i 0 ≡ recordByte m i
+  at-byte : (i : ℕ) → i < recordLength → getD (recordBytes m) i 0 ≡ recordByte m i
   unfolding recordBytes
-  at-byte i h = getD-tab 1056 (recordByte m) 0 i h
+  at-byte i h = getD-tab recordLength (recordByte m) 0 i h
 
   marks : (at k : ℕ) → at + k - at ≡ k
   marks at k = omega arith
 
-  module _ (out a₁ a₂ a₃ a₄ a₅ a₆ a₇ a₈ : List ℕ) (h : 1056 ≤ length out) (n₁ n₂ n₃ n₄ n₅ n₆ n₇ n₈ : ℕ) (e₁ : n₁ ≡ 32) (e₂ : n₂ ≡ 32) (e₃ : n₃ ≡ 256) (e₄ : n₄ ≡ 256) (e₅ : n₅ ≡ 16) (e₆ : n₆ ≡ 16) (e₇ : n₇ ≡ 32) (e₈ : n₈ ≡ 256) where
-    pub record-put : Puts n₁ (λ k. bit (getD (m .awake) k false)) 0 out a₁ → Puts (4 * n₂) (λ k. byteIn (getD (m .used) (k / 4) 0) (k % 4)) 32 a₁ a₂ → Puts n₃ (λ k. bit (getD (m .waiting) k false)) 160 a₂ a₃ → Puts n₄ (λ k. bit (getD (m .dropped) k false)) 416 a₃ a₄ → Puts (4 * n₅) (λ k. byteIn (getD (m .ages) (k / 4) 0) (k % 4)) 672 a₄ a₅ → Puts (2 * n₆) (λ k. byteIn (getD (m .fastest) (k / 2) 0) (k % 2 + 2)) 736 a₅ a₆ → Puts n₇ (λ k. bit (getD (m .again) k false)) 768 a₆ a₇ → Puts n₈ (λ k. bit (getD (m .late) k false)) 800 a₇ a₈ → a₈ ≡ recordBytes m ++ drop 1056 out
+  module _ (out a₁ a₂ a₃ a₄ a₅ a₆ a₇ a₈ : List ℕ) (h : recordLength ≤ length out) (n₁ n₂ n₃ n₄ n₅ n₆ n₇ n₈ : ℕ) (e₁ : n₁ ≡ 32) (e₂ : n₂ ≡ 32) (e₃ : n₃ ≡ 256) (e₄ : n₄ ≡ 256) (e₅ : n₅ ≡ 16) (e₆ : n₆ ≡ 16) (e₇ : n₇ ≡ 32) (e₈ : n₈ ≡ 256) where
+    pub record-put : Puts n₁ (λ k. bit (getD (m .awake) k false)) 0 out a₁ → Puts (4 * n₂) (λ k. byteIn (getD (m .used) (k / 4) 0) (k % 4)) 32 a₁ a₂ → Puts n₃ (λ k. bit (getD (m .waiting) k false)) 160 a₂ a₃ → Puts n₄ (λ k. bit (getD (m .dropped) k false)) 416 a₃ a₄ → Puts (4 * n₅) (λ k. byteIn (getD (m .ages) (k / 4) 0) (k % 4)) 672 a₄ a₅ → Puts (2 * n₆) (λ k. byteIn (getD (m .fastest) (k / 2) 0) (k % 2 + 2)) 736 a₅ a₆ → Puts n₇ (λ k. bit (getD (m .again) k false)) 768 a₆ a₇ → Puts n₈ (λ k. bit (getD (m .late) k false)) 800 a₇ a₈ → a₈ ≡ recordBytes m ++ drop recordLength out
     record-put p₁ p₂ p₃ p₄ p₅ p₆ p₇ p₈ =
         let l = record-length m in
         let q₁ : 0 + n₁ ≡ 32 = omega arith in
@@ -102,7 +102,7 @@ module _ (m : Machine) where
         let q₅ : 672 + 4 * n₅ ≡ 736 = omega arith in
         let q₆ : 736 + 2 * n₆ ≡ 768 = omega arith in
         let q₇ : 768 + n₇ ≡ 800 = omega arith in
-        let q₈ : 800 + n₈ ≡ 1056 = omega arith in
+        let q₈ : 800 + n₈ ≡ recordLength = omega arith in
         let b₁ : a₁ ≡ take 32 (recordBytes m) ++ drop 32 out = p₁ .bytes (recordBytes m) out (omega arith) (omega arith) (λ k j. at-byte (0 + k) (omega arith) ∙ sym (byte-awake m (0 + k) (omega arith)) ∙ ap (λ i. bit (getD (m .awake) i false)) (zero-add k)) refl ∙ ap up q₁ in
         let b₂ : a₂ ≡ take 160 (recordBytes m) ++ drop 160 out = p₂ .bytes (recordBytes m) out (omega arith) (omega arith) (λ k j. at-byte (32 + k) (omega arith) ∙ sym (byte-used m (32 + k) (omega arith) (omega arith)) ∙ ap (λ i. byteIn (getD (m .used) (i / 4) 0) (i % 4)) (marks 32 k)) b₁ ∙ ap up q₂ in
         let b₃ : a₃ ≡ take 416 (recordBytes m) ++ drop 416 out = p₃ .bytes (recordBytes m) out (omega arith) (omega arith) (λ k j. at-byte (160 + k) (omega arith) ∙ sym (byte-waiting m (160 + k) (omega arith) (omega arith)) ∙ ap (λ i. bit (getD (m .waiting) i false)) (marks 160 k)) b₂ ∙ ap up q₃ in
@@ -110,8 +110,8 @@ module _ (m : Machine) where
         let b₅ : a₅ ≡ take 736 (recordBytes m) ++ drop 736 out = p₅ .bytes (recordBytes m) out (omega arith) (omega arith) (λ k j. at-byte (672 + k) (omega arith) ∙ sym (byte-ages m (672 + k) (omega arith) (omega arith)) ∙ ap (λ i. byteIn (getD (m .ages) (i / 4) 0) (i % 4)) (marks 672 k)) b₄ ∙ ap up q₅ in
         let b₆ : a₆ ≡ take 768 (recordBytes m) ++ drop 768 out = p₆ .bytes (recordBytes m) out (omega arith) (omega arith) (λ k j. at-byte (736 + k) (omega arith) ∙ sym (byte-fastest m (736 + k) (omega arith) (omega arith)) ∙ ap (λ i. byteIn (getD (m .fastest) (i / 2) 0) (i % 2 + 2)) (marks 736 k)) b₅ ∙ ap up q₆ in
         let b₇ : a₇ ≡ take 800 (recordBytes m) ++ drop 800 out = p₇ .bytes (recordBytes m) out (omega arith) (omega arith) (λ k j. at-byte (768 + k) (omega arith) ∙ sym (byte-again m (768 + k) (omega arith) (omega arith)) ∙ ap (λ i. bit (getD (m .again) i false)) (marks 768 k)) b₆ ∙ ap up q₇ in
-        let b₈ : a₈ ≡ take 1056 (recordBytes m) ++ drop 1056 out = p₈ .bytes (recordBytes m) out (omega arith) (omega arith) (λ k j. at-byte (800 + k) (omega arith) ∙ sym (byte-late m (800 + k) (omega arith)) ∙ ap (λ i. bit (getD (m .late) i false)) (marks 800 k)) b₇ ∙ ap up q₈ in
-        b₈ ∙ ap (λ (x : List ℕ). x ++ drop 1056 out) (take-all 1056 (recordBytes m) (omega arith))
+        let b₈ : a₈ ≡ take recordLength (recordBytes m) ++ drop recordLength out = p₈ .bytes (recordBytes m) out (omega arith) (omega arith) (λ k j. at-byte (800 + k) (omega arith) ∙ sym (byte-late m (800 + k) (omega arith)) ∙ ap (λ i. bit (getD (m .late) i false)) (marks 800 k)) b₇ ∙ ap up q₈ in
+        b₈ ∙ ap (λ (x : List ℕ). x ++ drop recordLength out) (take-all recordLength (recordBytes m) (omega arith))
       where
         up : ℕ → List ℕ
         up i = take i (recordBytes m) ++ drop i out

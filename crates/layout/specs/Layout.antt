@@ -8,8 +8,11 @@ use lib.Dec.{ltb, eqb}
 use Rattle.model.specs.declared.Machine.{Machine}
 use Rattle.model.specs.Basics.{tab}
 
--- a machine's record in 1,056 bytes: 32 awake, 32 times 4 used, 256 waiting, 256 dropped, 16 times 4 ages, 16 times 2 fastest tempos, 32 again and
+-- how many bytes a machine's record has: 32 awake, 32 times 4 used, 256 waiting, 256 dropped, 16 times 4 ages, 16 times 2 fastest tempos, 32 again and
 -- 256 late, numbers high byte first
+abbrev pub recordLength : ℕ
+recordLength = 1056
+
 abbrev pub bit : Bool → ℕ
 bit b = cond b 1 0
 
@@ -29,7 +32,7 @@ recordByte m i =
     (bit (getD (m .late) (i - 800) false))))))))
 
 unfoldable pub recordBytes : Machine → List ℕ
-recordBytes m = tab 1056 (recordByte m)
+recordBytes m = tab recordLength (recordByte m)
 
 -- n bytes are put from a place on: a buffer that has a text's bytes up to there has them up to the end of the n
 pub record Puts (n : ℕ) (byte : ℕ → ℕ) (at : ℕ) (out out′ : List ℕ) : Type 0 where

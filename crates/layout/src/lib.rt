@@ -6,7 +6,10 @@ ghost use mathlib.Core.Bool.{false};
 ghost use Prim.Native.Nat.{_+_, _*_, _/_, _%_, _≤_};
 ghost use mathlib.Core.List.{_++_};
 ghost use lib.ListN.{length, getD, drop};
-ghost use Rattle.layout.specs.Layout.{bit, byteIn, recordBytes, Puts};
+ghost use Rattle.layout.specs.Layout.{recordLength, bit, byteIn, recordBytes, Puts};
+
+// The bytes of a record.
+pub const RECORD: usize = 1056;
 
 // Byte k of a number's four, high byte first.
 fn byte_of(n: u32, k: usize) -> u8
@@ -62,8 +65,8 @@ fn put_tempos(tempos: &[u32], out: &mut [u8], at: usize)
 
 // A machine's record into a buffer that takes it.
 pub fn put_record(m: Machine, out: &mut [u8])
-    requires { ⌜ 1056 ≤ length (now out) ⌝ }
-    ensures { λ _. ⌜ now (out .exit) ≡ recordBytes m ++ drop 1056 (now (out .entry)) ⌝ }
+    requires { ⌜ recordLength ≤ length (now out) ⌝ }
+    ensures { λ _. ⌜ now (out .exit) ≡ recordBytes m ++ drop recordLength (now (out .entry)) ⌝ }
 {
     put_marks(&m.awake, &mut *out, 0);
     put_numbers(&m.used, &mut *out, 32);

@@ -1,6 +1,6 @@
 -- Laws of the sums, largest values, tests and repeated steps over a range. Assumes nothing.
 use Prim.Native.Nat.{ℕ, zero, suc, _+_, _-_, _*_, _≤_, _<_, max}
-use mathlib.Core.Path.{_≡_, refl, ap, _∙_}
+use mathlib.Core.Path.{_≡_, refl, sym, ap, _∙_}
 use mathlib.Core.Bool.{Bool, true, false, _||_, _&&_}
 use native.Mathlib.Omega.{arith}
 use native.Mathlib.Nat.{zero-add, add-zero, add-suc, add-assoc}
@@ -75,6 +75,20 @@ pub sumN-split : (f : ℕ → ℕ) (a n m : ℕ) → sumN f a (n + m) ≡ sumN f
 unfolding sumN
 sumN-split f a n zero = rw add-zero (omega arith)
 sumN-split f a n (suc m) = rw (add-suc n m, sumN, sumN-split f a n m, add-assoc a n m) (omega arith)
+
+-- two sums of the same terms are equal if what only one of them has is 0
+pub sumN-spare : (f : ℕ → ℕ) (a n m : ℕ) → ((k : ℕ) → a + n ≤ k → f k ≡ 0) → ((k : ℕ) → a + m ≤ k → f k ≡ 0) → sumN f a n ≡ sumN f a m
+sumN-spare f a n m p q = go (cmp n m)
+  where
+    longer : (x y : ℕ) → x ≤ y → ((k : ℕ) → a + x ≤ k → f k ≡ 0) → sumN f a y ≡ sumN f a x
+    longer x y h z =
+        let e : y ≡ x + (y - x) = omega arith in
+        ap (sumN f a) e ∙ omega (arith, sumN-split f a x (y - x), sumN-zero f (a + x) (y - x) (λ k u v. z k u))
+
+    go : Cmp n m → sumN f a n ≡ sumN f a m
+    go (less r) = sym (longer n m (omega arith) p)
+    go (same r) = ap (sumN f a) r
+    go (more r) = longer m n (omega arith) q
 
 sumN-one : (f : ℕ → ℕ) (a : ℕ) → sumN f a 1 ≡ f a
 unfolding sumN

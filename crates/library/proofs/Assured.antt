@@ -52,7 +52,7 @@ use Rattle.assurance.proofs.PlainCalls.{plain-calls, plain-assured}
 use Rattle.assurance.proofs.Paper.{from-buffer}
 use Rattle.runs.proofs.RunLaws.{calls-length, calls-at, codes-length}
 use Rattle.library.specs.Replies.{reply, runOutcome, ReportReplied, QuoteReplied, RunReplied, RunAssured, CallsUpTo}
-use Rattle.layout.specs.Layout.{recordByte, recordBytes}
+use Rattle.layout.specs.Layout.{recordLength, recordByte, recordBytes}
 use Rattle.library.proofs.Laws.{numbered, reply-refused, reply-done}
 use Rattle.library.proofs.bench_report as report
 use Rattle.library.proofs.bench_hold_report as hold-report
@@ -105,8 +105,8 @@ short-not false e = refl
 enough : (s calls outcomes out : List ℕ) → readFile s .outcome ≡ Done → runOutcome s calls outcomes out ≡ Done → length calls / 6 ≤ length outcomes
 unfolding runOutcome
 enough s calls outcomes out a e =
-    let f : (ltb (length out) 1056 || ltb (length outcomes) (length calls / 6)) ≡ false = short-not _ (rw a at e) in
-    ltb-false (length outcomes) (length calls / 6) (or-false-right (ltb (length out) 1056) _ f)
+    let f : (ltb (length out) recordLength || ltb (length outcomes) (length calls / 6)) ≡ false = short-not _ (rw a at e) in
+    ltb-false (length outcomes) (length calls / 6) (or-false-right (ltb (length out) recordLength) _ f)
 
 -- the ticks of a list are its calls that are answered 0
 code-done : (o : Outcome) → isDone o ≡ true → ofOutcome o .number ≡ 0
@@ -138,7 +138,7 @@ bench-assured pol s calls outcomes out outcomes′ out′ q quoted ran b told e 
     let n : length (page pol d cs) ≡ length cs = codes-length pol d cs (idle d) in
     let w : ltb (length outcomes) (length cs) ≡ false = le-ltb (length outcomes) (length cs) (omega (arith, calls-length calls, enough s calls outcomes out (k .accepted) o)) in
     let f : outcomes′ ≡ page pol d cs ++ drop (length cs) outcomes = rw (o, n, w) at (R .codes) in
-    let g : out′ ≡ recordBytes (left pol d (idle d) cs) ++ drop 1056 out = rw o at (R .bytes) in
+    let g : out′ ≡ recordBytes (left pol d (idle d) cs) ++ drop recordLength out = rw o at (R .bytes) in
     let t : take (length cs) outcomes′ ≡ page pol d cs = ap (take (length cs)) f ∙ take-at (page pol d cs) (drop (length cs) outcomes) (length cs) n in
     let slow : UpTo q (ticks pol d (idle d) cs) = codes-ticks pol q d cs (idle d) (λ i p z. let j : i < length calls / 6 = omega (arith, calls-length calls) in let c = calls-at calls i j in rw c (up i j (sym (getD-take (length cs) outcomes′ i 0 p) ∙ ap (λ (l : List ℕ). getD l i 0) t ∙ z))) in
     record {
@@ -146,7 +146,7 @@ bench-assured pol s calls outcomes out outcomes′ out′ q quoted ran b told e 
       machine = left pol d (idle d) cs;
       called = plain-calls pol d cs (idle d);
       told = t;
-      kept = ap (take 1056) g ∙ take-at (recordBytes (left pol d (idle d) cs)) (drop 1056 out) 1056 (length-tab 1056 (recordByte (left pol d (idle d) cs)));
+      kept = ap (take recordLength) g ∙ take-at (recordBytes (left pol d (idle d) cs)) (drop recordLength out) recordLength (length-tab recordLength (recordByte (left pol d (idle d) cs)));
       assured = plain-assured pol d q (k .widths) (k .quoted) cs slow;
     }
 

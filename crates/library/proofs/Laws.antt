@@ -23,10 +23,11 @@ use Rattle.model.specs.declared.Outcome.the-variants.{Done, Refused}
 use Rattle.model.specs.Refusals.{numberOf, accepted, refusal, onDone}
 use Rattle.model.specs.File.{readFile, fillWith, judge}
 use Rattle.model.specs.Report.{reportOf, reported}
-use Rattle.model.specs.Verdicts.{quoteOf, quotedFile, largestBelow, allHeld}
+use Rattle.model.specs.Verdicts.{quoteOf, quotedFile, tempos, largestBelow, allHeld}
 use Rattle.theory.proofs.NumberBytes.{Bytes as AllBytes}
 use Rattle.theory.proofs.FileLength.{read-place}
 use Rattle.theory.proofs.ReadBack.{read-judged}
+use Rattle.report.specs.Longest.{longestReport}
 use Rattle.library.specs.Replies.{reply}
 
 -- a number below 2 ^ 32 and its negative, as 64 bits with a sign
@@ -95,8 +96,8 @@ quoted-most : (pol : Policy) (s : List ℕ) → AllBytes s → quotePlace (quote
 unfolding quotedFile quoteOf
 quoted-most pol s b = go (readFile s .outcome) refl
   where
-    go : (o : Outcome) → readFile s .outcome ≡ o → quotePlace (onDone (readFile s .outcome) (onDone (judge (readFile s .description)) (largestBelow (allHeld pol (readFile s .description)) 2801) Unquoted) Unquoted) ≤ 2128
-    go Done e = rw (e, read-judged s b e) (omega (arith, lowest-place (allHeld pol (readFile s .description)) 2801))
+    go : (o : Outcome) → readFile s .outcome ≡ o → quotePlace (onDone (readFile s .outcome) (onDone (judge (readFile s .description)) (largestBelow (allHeld pol (readFile s .description)) tempos) Unquoted) Unquoted) ≤ 2128
+    go Done e = rw (e, read-judged s b e) (omega (arith, lowest-place (allHeld pol (readFile s .description)) tempos))
     go (Refused r p) e = rw e (rw e at (read-place s))
 
 pub quoted-place : (pol : Policy) (s : List ℕ) (q : Quote) (r : Refusal) (p : ℕ) → AllBytes s → q ≡ quotedFile pol s → q ≡ Unquoted r p → p ≤ 2128
@@ -105,7 +106,7 @@ quoted-place pol s q r p b e f =
     omega (arith, quoted-most pol s b)
 
 -- a report's length fits
-pub filled-most : (pol : Policy) (s out : List ℕ) (f : Filled) (n : ℕ) → length (reportOf pol s) ≤ 11173 → f ≡ reported pol s out → f ≡ Bytes n → n ≤ 11173
+pub filled-most : (pol : Policy) (s out : List ℕ) (f : Filled) (n : ℕ) → length (reportOf pol s) ≤ longestReport → f ≡ reported pol s out → f ≡ Bytes n → n ≤ longestReport
 unfolding reported fillWith
 filled-most pol s out f n h e g = go (ltb (length out) (length (reportOf pol s))) refl
   where
@@ -113,7 +114,7 @@ filled-most pol s out f n h e g = go (ltb (length out) (length (reportOf pol s))
     count (Bytes k) = k
     count (Unfilled r p) = 0
 
-    go : (b : Bool) → ltb (length out) (length (reportOf pol s)) ≡ b → n ≤ 11173
+    go : (b : Bool) → ltb (length out) (length (reportOf pol s)) ≡ b → n ≤ longestReport
     go true q = let e′ : f ≡ Unfilled ShortPage 0 = e ∙ rw q refl in let k : 0 ≡ n = sym (ap count e′) ∙ ap count g in omega arith
     go false q = let e′ : f ≡ Bytes (length (reportOf pol s)) = e ∙ rw q refl in let k : length (reportOf pol s) ≡ n = sym (ap count e′) ∙ ap count g in omega arith
 

@@ -26,7 +26,7 @@ use Rattle.theory.proofs.ReadBack.{read-judged}
 use Rattle.model.specs.Run.{callsIn, page, ranFrom}
 use Rattle.runs.proofs.RunLaws.{calls-length}
 use Rattle.library.specs.Replies.{reply, runOutcome, codesAfter, recordAfter}
-use Rattle.layout.specs.Layout.{recordBytes}
+use Rattle.layout.specs.Layout.{recordLength, recordBytes}
 use Rattle.library.proofs.Laws.{reply-done}
 
 module _ (s : List ℕ) (x : Reading) (whole : x ≡ readFile s) where
@@ -50,18 +50,18 @@ module _ (s : List ℕ) (x : Reading) (whole : x ≡ readFile s) where
     run-unread r p e = rw (sym outcome-is ∙ e) refl
 
     module _ (done : x .outcome ≡ Done) where
-      short : (a b : Bool) → ltb (length out) 1056 ≡ a → ltb (length outcomes) (length calls / 6) ≡ b → runOutcome s calls outcomes out ≡ cond (a || b) (Refused ShortPage 0) Done
+      short : (a b : Bool) → ltb (length out) recordLength ≡ a → ltb (length outcomes) (length calls / 6) ≡ b → runOutcome s calls outcomes out ≡ cond (a || b) (Refused ShortPage 0) Done
       unfolding runOutcome
       short a b p q = rw (sym outcome-is ∙ done, p, q) refl
 
-      pub run-short-record : length out < 1056 → runOutcome s calls outcomes out ≡ Refused ShortPage 0
-      run-short-record h = short true (ltb (length outcomes) (length calls / 6)) (lt-ltb (length out) 1056 h) refl
+      pub run-short-record : length out < recordLength → runOutcome s calls outcomes out ≡ Refused ShortPage 0
+      run-short-record h = short true (ltb (length outcomes) (length calls / 6)) (lt-ltb (length out) recordLength h) refl
 
-      pub run-short-codes : 1056 ≤ length out → length outcomes < length calls / 6 → runOutcome s calls outcomes out ≡ Refused ShortPage 0
-      run-short-codes k h = short false true (le-ltb (length out) 1056 k) (lt-ltb (length outcomes) (length calls / 6) h)
+      pub run-short-codes : recordLength ≤ length out → length outcomes < length calls / 6 → runOutcome s calls outcomes out ≡ Refused ShortPage 0
+      run-short-codes k h = short false true (le-ltb (length out) recordLength k) (lt-ltb (length outcomes) (length calls / 6) h)
 
-      pub run-whole : 1056 ≤ length out → length calls / 6 ≤ length outcomes → runOutcome s calls outcomes out ≡ Done
-      run-whole k h = short false false (le-ltb (length out) 1056 k) (le-ltb (length outcomes) (length calls / 6) h)
+      pub run-whole : recordLength ≤ length out → length calls / 6 ≤ length outcomes → runOutcome s calls outcomes out ≡ Done
+      run-whole k h = short false false (le-ltb (length out) recordLength k) (le-ltb (length outcomes) (length calls / 6) h)
 
     -- what is answered and left
     pub run-refused : (pol : Policy) (d : Description) (r : Refusal) (p : ℕ) → runOutcome s calls outcomes out ≡ Refused r p → (reply (refusal r p) ≡ reply (ofOutcome (runOutcome s calls outcomes out))) × (outcomes ≡ codesAfter pol (runOutcome s calls outcomes out) d calls outcomes) × (out ≡ recordAfter pol (runOutcome s calls outcomes out) d calls out)
@@ -72,8 +72,8 @@ module _ (s : List ℕ) (x : Reading) (whole : x ≡ readFile s) where
         ap (λ (k : Ticked). k .machine) e
         ∙ rw (le-ltb (length outcomes) (length (callsIn calls)) (omega (arith, calls-length calls))) refl
 
-    pub run-does : (pol : Policy) (m : Machine) (codes′ out′ : List ℕ) → runOutcome s calls outcomes out ≡ Done → m ≡ left pol (x .description) (idle (x .description)) (callsIn calls) → codes′ ≡ filledBy (page pol (x .description) (callsIn calls)) outcomes → out′ ≡ recordBytes m ++ drop 1056 out → (pos 0 ≡ reply (ofOutcome (runOutcome s calls outcomes out))) × (codes′ ≡ codesAfter pol (runOutcome s calls outcomes out) (readFile s .description) calls outcomes) × (out′ ≡ recordAfter pol (runOutcome s calls outcomes out) (readFile s .description) calls out)
+    pub run-does : (pol : Policy) (m : Machine) (codes′ out′ : List ℕ) → runOutcome s calls outcomes out ≡ Done → m ≡ left pol (x .description) (idle (x .description)) (callsIn calls) → codes′ ≡ filledBy (page pol (x .description) (callsIn calls)) outcomes → out′ ≡ recordBytes m ++ drop recordLength out → (pos 0 ≡ reply (ofOutcome (runOutcome s calls outcomes out))) × (codes′ ≡ codesAfter pol (runOutcome s calls outcomes out) (readFile s .description) calls outcomes) × (out′ ≡ recordAfter pol (runOutcome s calls outcomes out) (readFile s .description) calls out)
     run-does pol m codes′ out′ e f g h =
         let filled : codes′ ≡ filledBy (page pol (readFile s .description) (callsIn calls)) outcomes = g ∙ ap (λ (r : Reading). filledBy (page pol (r .description) (callsIn calls)) outcomes) whole in
-        let stored : out′ ≡ recordBytes (left pol (readFile s .description) (idle (readFile s .description)) (callsIn calls)) ++ drop 1056 out = h ∙ ap (λ (k : Machine). recordBytes k ++ drop 1056 out) (f ∙ ap (λ (r : Reading). left pol (r .description) (idle (r .description)) (callsIn calls)) whole) in
+        let stored : out′ ≡ recordBytes (left pol (readFile s .description) (idle (readFile s .description)) (callsIn calls)) ++ drop recordLength out = h ∙ ap (λ (k : Machine). recordBytes k ++ drop recordLength out) (f ∙ ap (λ (r : Reading). left pol (r .description) (idle (r .description)) (callsIn calls)) whole) in
         (rw e (reply-done 0), rw e filled, rw e stored)

@@ -22,7 +22,7 @@ use Rattle.model.specs.Machine.{idle}
 use Rattle.model.specs.History.{left}
 use Rattle.model.specs.Promise.{Calls, Assured}
 use Rattle.model.specs.Run.{callsIn, codes, page}
-use Rattle.layout.specs.Layout.{recordBytes}
+use Rattle.layout.specs.Layout.{recordLength, recordBytes}
 
 -- an answer as one number: its value where the work is done, or else the refusal's number and place below 0
 unfoldable pub reply : Numbered → ℤ
@@ -40,14 +40,14 @@ QuoteReplied p s r = r ≡ reply (ofQuote (quotedFile p s))
 unfoldable pub runOutcome : List ℕ → List ℕ → List ℕ → List ℕ → Outcome
 runOutcome s calls outcomes out =
     onDone (readFile s .outcome)
-    (cond (ltb (length out) 1056 || ltb (length outcomes) (length calls / 6)) (Refused ShortPage 0) Done)
+    (cond (ltb (length out) recordLength || ltb (length outcomes) (length calls / 6)) (Refused ShortPage 0) Done)
     Refused
 
 abbrev pub codesAfter : Policy → Outcome → Description → List ℕ → List ℕ → List ℕ
 codesAfter p o d calls outcomes = onDone o (filledBy (page p d (callsIn calls)) outcomes) (λ r place. outcomes)
 
 abbrev pub recordAfter : Policy → Outcome → Description → List ℕ → List ℕ → List ℕ
-recordAfter p o d calls out = onDone o (recordBytes (left p d (idle d) (callsIn calls)) ++ drop 1056 out) (λ r place. out)
+recordAfter p o d calls out = onDone o (recordBytes (left p d (idle d) (callsIn calls)) ++ drop recordLength out) (λ r place. out)
 
 -- what a run answers, and what it leaves in the buffers of outcomes and of the record
 pub record RunReplied (p : Policy) (s calls outcomes out outcomes′ out′ : List ℕ) (r : ℤ) : Type 0 where
@@ -62,7 +62,7 @@ pub record RunAssured (p : Policy) (s : List ℕ) (q : ℕ) (calls outcomes out 
   pub machine : Machine
   pub called : Calls p (readFile s .description) (idle (readFile s .description)) (callsIn calls) answered machine
   pub told : take (length (callsIn calls)) outcomes ≡ codes answered
-  pub kept : take 1056 out ≡ recordBytes machine
+  pub kept : take recordLength out ≡ recordBytes machine
   pub assured : Assured p (readFile s .description) q (callsIn calls) answered machine
 
 -- no call of a run that is answered 0 has a tempo above q, as a caller can see from the bytes

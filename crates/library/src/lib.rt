@@ -99,7 +99,7 @@ fn run_file(p: Policy, file: &[u8], calls: &[u8], outcomes: &mut [u8], state: &m
         return refusal_code(why, place);
     }
     let d = read.description;
-    if state.len() < 1056 {
+    if state.len() < layout::RECORD {
         return refusal_code(Refusal::ShortPage, 0);
     }
     if outcomes.len() < calls.len() / 6 {

@@ -19,7 +19,7 @@ use Rattle.model.specs.Basics.{joined}
 use Rattle.model.specs.Refusals.{refusal, onDone}
 use Rattle.model.specs.Graph.{linkAt}
 use Rattle.model.specs.File.{readFile, fillWith, filledBy}
-use Rattle.model.specs.Verdicts.{verdictAt, largestBelow, allHeld}
+use Rattle.model.specs.Verdicts.{verdictAt, tempos, largestBelow, allHeld}
 
 -- a number in decimal digits; the first number bounds how many
 unfoldable pub digits : ℕ → ℕ → List ℕ
@@ -121,7 +121,7 @@ reportFor p d q = tempoLine q ++ linkLines p d (shownTempo q)
 unfoldable pub plainReport : Policy → List ℕ → List ℕ
 plainReport p file =
     let r = readFile file in
-    onDone (r .outcome) (reportFor p (r .description) (largestBelow (allHeld p (r .description)) 2801)) refusedLine
+    onDone (r .outcome) (reportFor p (r .description) (largestBelow (allHeld p (r .description)) tempos)) refusedLine
 
 -- "a line `hold` before its first, a refused line included"
 abbrev pub policyLine : Policy → List ℕ

@@ -69,6 +69,10 @@ allHeld p d t = allN (λ l. not (doubtful (verdictAt p d t l))) 0 (d .«link_cou
 abbrev pub onKnob : ℕ → Bool
 onKnob t = leb 200 t && leb t 3000
 
+-- how many tempos are on the knob
+abbrev pub tempos : ℕ
+tempos = 2801
+
 -- the verdict call: 1 to 10 as judged, then 11
 abbrev pub freeSlot : VerdictSlot
 freeSlot = record { verdict = Free }
@@ -91,7 +95,7 @@ largestBelow good (suc n) = elim (good (200 + n)) [ true ↦ Tempo (200 + n) | f
 
 -- "the quote is the largest T at which every critical link is held"
 unfoldable pub quoteOf : Policy → Description → Quote
-quoteOf p d = onDone (judge d) (largestBelow (allHeld p d) 2801) Unquoted
+quoteOf p d = onDone (judge d) (largestBelow (allHeld p d) tempos) Unquoted
 
 -- the quote of a file
 unfoldable pub quotedFile : Policy → List ℕ → Quote

@@ -12,7 +12,7 @@ use Rattle.model.specs.declared.Refusal.the-variants.{NoTempo}
 use Rattle.model.specs.declared.Quote.the-variants.{Tempo, Unquoted}
 use Rattle.model.specs.Delays.{spacingOf}
 use Rattle.model.specs.File.{readFile, judge}
-use Rattle.model.specs.Verdicts.{allHeld, largestBelow, quoteOf, quotedFile}
+use Rattle.model.specs.Verdicts.{allHeld, tempos, largestBelow, quoteOf, quotedFile}
 use Rattle.lemmas.proofs.Tests.{Cmp, less, same, more, cmp}
 use Rattle.theory.proofs.WellFormed.{WellFormed}
 use Rattle.theory.proofs.NumberBytes.{Bytes}
@@ -68,22 +68,22 @@ module _ (pol : Policy) (d : Description) where
       go x k a (more y) b = absurd (omega arith)
 
   -- the quote, where the last level is passed
-  pub best-quote : WellFormed d → ordersHeld d ≡ true → (best : ℕ) → Best pol d (d .«task_count») best → Tempo best ≡ largestBelow (allHeld pol d) 2801
+  pub best-quote : WellFormed d → ordersHeld d ≡ true → (best : ℕ) → Best pol d (d .«task_count») best → Tempo best ≡ largestBelow (allHeld pol d) tempos
   best-quote g o best r =
       sym (quote-at pol d g best (r .low) (r .high) (levels-all pol d best g o (r .held)) (λ h. let x = r .above h in not-level pol d (suc best) (x .0) (x .3)))
 
   -- there is none, where a level or an order is in doubt at the lowest tempo
-  pub no-level : WellFormed d → (j : ℕ) → levelHeld pol d (spacingOf d 200) j ≡ false → Unquoted NoTempo 0 ≡ largestBelow (allHeld pol d) 2801
+  pub no-level : WellFormed d → (j : ℕ) → levelHeld pol d (spacingOf d 200) j ≡ false → Unquoted NoTempo 0 ≡ largestBelow (allHeld pol d) tempos
   no-level g j e = sym (quote-none pol d g (not-level pol d 200 j e))
 
-  pub no-order : WellFormed d → ordersHeld d ≡ false → Unquoted NoTempo 0 ≡ largestBelow (allHeld pol d) 2801
+  pub no-order : WellFormed d → ordersHeld d ≡ false → Unquoted NoTempo 0 ≡ largestBelow (allHeld pol d) tempos
   no-order g e = sym (quote-none pol d g (not-orders pol d 200 e))
 
 pub quote-refused : (pol : Policy) (d : Description) (r : Refusal) (p : ℕ) → judge d ≡ Refused r p → Unquoted r p ≡ quoteOf pol d
 unfolding quoteOf
 quote-refused pol d r p e = rw e
 
-pub quote-judged : (pol : Policy) (d : Description) → judge d ≡ Done → largestBelow (allHeld pol d) 2801 ≡ quoteOf pol d
+pub quote-judged : (pol : Policy) (d : Description) → judge d ≡ Done → largestBelow (allHeld pol d) tempos ≡ quoteOf pol d
 unfolding quoteOf
 quote-judged pol d e = rw e
 
@@ -93,6 +93,6 @@ module _ (pol : Policy) (s : List ℕ) where
   unfolding quotedFile
   file-refused r p e = rw e
 
-  pub file-quoted : Bytes s → (d : Description) → d ≡ readFile s .description → readFile s .outcome ≡ Done → largestBelow (allHeld pol d) 2801 ≡ quotedFile pol s
+  pub file-quoted : Bytes s → (d : Description) → d ≡ readFile s .description → readFile s .outcome ≡ Done → largestBelow (allHeld pol d) tempos ≡ quotedFile pol s
   unfolding quotedFile
   file-quoted b d f e = rw (e, f) (quote-judged pol (readFile s .description) (read-judged s b e))

@@ -7,7 +7,7 @@ use Rattle.model.specs.declared.Description.{Description}
 use Rattle.model.specs.declared.Policy.{Policy}
 use Rattle.model.specs.declared.Quote.{Quote}
 use Rattle.model.specs.Delays.{spacingOf}
-use Rattle.model.specs.Verdicts.{allHeld, largestBelow}
+use Rattle.model.specs.Verdicts.{allHeld, tempos, largestBelow}
 use Rattle.spacings.specs.declared.Sources.{Sources}
 use Rattle.neighbourhoods.specs.Orders.{ordersHeld}
 use Rattle.verdicts.specs.Held.{levelHeld}
@@ -21,7 +21,7 @@ pub record Tabled (levels starts tails critical : List ℕ) (sources : Sources) 
 
 -- the quote of every model and description that the tables are of
 abbrev pub QuoteBy : List ℕ → List ℕ → List ℕ → List ℕ → Bool → Sources → ℕ → Quote → Type 0
-QuoteBy levels starts tails critical ordered sources tasks r = (p : Policy) (d : Description) → LevelTables p d levels starts tails critical sources tasks → ordered ≡ ordersHeld d → r ≡ largestBelow (allHeld p d) 2801
+QuoteBy levels starts tails critical ordered sources tasks r = (p : Policy) (d : Description) → LevelTables p d levels starts tails critical sources tasks → ordered ≡ ordersHeld d → r ≡ largestBelow (allHeld p d) tempos
 
 -- the highest tempo at which levels 1 to j are held
 pub record Best (p : Policy) (d : Description) (j best : ℕ) : Type 0 where

@@ -15,13 +15,14 @@ use Rattle.model.specs.declared.VerdictSlot.{VerdictSlot}
 use Rattle.model.specs.Basics.{tab, joined}
 use Rattle.model.specs.Graph.{linkAt}
 use Rattle.model.specs.File.{readFile}
-use Rattle.model.specs.Verdicts.{allHeld, largestBelow, slotAt, freeSlot, verdictAt}
+use Rattle.model.specs.Verdicts.{allHeld, tempos, largestBelow, slotAt, freeSlot, verdictAt}
 use Rattle.model.specs.Report.{policyLine, linkLine, linkLines, refusedLine, reportFor, plainReport, reportOf}
 use Rattle.theory.proofs.NumberBytes.{Bytes}
 use Rattle.theory.proofs.RecordLaws.{joined-cut}
 use Rattle.lemmas.proofs.Table.{getD-tab, joined-more}
 use Rattle.files.proofs.Laws.{read-good}
 use Rattle.report.specs.Listing.{lineAt, listing}
+use Rattle.report.specs.Longest.{longestPlain, longestReport}
 use Rattle.report.proofs.ReportLength.{verdicts-length, refusal-length}
 
 -- the model's line
@@ -35,20 +36,20 @@ module _ (pol : Policy) (s : List ℕ) where
   unfolding plainReport
   report-refused r p e = rw e
 
-  pub report-done : readFile s .outcome ≡ Done → reportFor pol (readFile s .description) (largestBelow (allHeld pol (readFile s .description)) 2801) ≡ plainReport pol s
+  pub report-done : readFile s .outcome ≡ Done → reportFor pol (readFile s .description) (largestBelow (allHeld pol (readFile s .description)) tempos) ≡ plainReport pol s
   unfolding plainReport
   report-done e = rw e
 
-  -- no report is longer than 11,168 bytes, or 11,173 with the model's line
-  pub plain-length : Bytes s → length (plainReport pol s) ≤ 11168
+  -- no report is longer than the longest, without and with the model's line
+  pub plain-length : Bytes s → length (plainReport pol s) ≤ longestPlain
   plain-length b = go (readFile s .outcome) refl
     where
-      go : (o : Outcome) → readFile s .outcome ≡ o → length (plainReport pol s) ≤ 11168
+      go : (o : Outcome) → readFile s .outcome ≡ o → length (plainReport pol s) ≤ longestPlain
       go (Refused r p) e = rw (← report-refused r p e) (omega (arith, refusal-length r p))
       go Done e =
           rw (← report-done e) (verdicts-length pol (readFile s .description) (read-good s b e) (allHeld pol (readFile s .description)))
 
-  pub report-length : Bytes s → length (reportOf pol s) ≤ 11173
+  pub report-length : Bytes s → length (reportOf pol s) ≤ longestReport
   unfolding reportOf
   report-length b = rw (length-append (policyLine pol) (plainReport pol s)) (omega (arith, plain-length b, policy-length pol))
 

@@ -1,4 +1,4 @@
--- How long a report can be: 11,168 bytes, and five more with its line `hold`. A link's line has at most 41 bytes beside its place; the places 1 to 256 have one, two or three digits; the
+-- How long a report can be: `longestPlain` bytes, and five more with its line `hold`. A link's line has at most 41 bytes beside its place; the places 1 to 256 have one, two or three digits; the
 -- tempo line has 12. Sixteen fixed sources of the largest spacing, each with a held link to the same sixteen tasks above the ninth, reach it. Assumes nothing.
 use Prim.Native.Nat.{ℕ, zero, suc, _+_, _*_, _/_, _<_, _≤_, min}
 use mathlib.Core.Path.{_≡_, refl}
@@ -17,7 +17,7 @@ use Rattle.model.specs.Refusals.{numberOf}
 use Rattle.model.specs.Graph.{system, linkAt}
 use Rattle.model.specs.Delays.{Settled, unchanged, reached, tailOf, delayOf, spacingOf}
 use Rattle.model.specs.Order.{inOrder}
-use Rattle.model.specs.Verdicts.{verdictAt, verdictOf, sourceVerdict, settledVerdict, orderVerdict, largestBelow}
+use Rattle.model.specs.Verdicts.{verdictAt, verdictOf, sourceVerdict, settledVerdict, orderVerdict, tempos, largestBelow}
 use Rattle.model.specs.Report.{decimal, verdictText, linkLine, linkLines, tempoLine, refusedLine, reportFor, shownTempo}
 use Rattle.lemmas.proofs.Tests.{Cmp, less, same, more, cmp}
 use Rattle.theory.proofs.WellFormed.{WellFormed}
@@ -26,6 +26,7 @@ use Rattle.theory.proofs.Quotes.{largest-hit, largest-miss}
 use Rattle.theory.proofs.Links.{from-most, to-most, link-gap-most}
 use Rattle.text.proofs.Digits.{decimal-most, decimal-bound}
 use Rattle.lines.proofs.LineLaws.{held-length, doubt-length, link-length, tempo-length, refused-length}
+use Rattle.report.specs.Longest.{longestPlain}
 
 -- a verdict whose delay is below a spacing of at most 10^9
 settled-length : (r : Settled) (tail m : ℕ) → m ≤ 1000000000 → ((D : ℕ) → r ≡ unchanged D → D + tail < m) → length (verdictText (settledVerdict r tail m)) ≤ 29
@@ -85,7 +86,7 @@ places-length (suc n) f h b =
     go (more p) (more q) ih last = omega (arith, below-rests 9 n (omega arith), below-rests 99 n (omega arith), decimal-most 2 (n + 1) (omega arith))
 
 -- the tempo line
-tempo-most : (good : ℕ → Bool) (n : ℕ) → n ≤ 2801 → length (tempoLine (largestBelow good n)) ≤ 12
+tempo-most : (good : ℕ → Bool) (n : ℕ) → n ≤ tempos → length (tempoLine (largestBelow good n)) ≤ 12
 unfolding largestBelow tempoLine
 tempo-most good zero h = omega arith
 tempo-most good (suc n) h = go (good (200 + n)) refl (tempo-most good n (omega arith))
@@ -101,13 +102,13 @@ unfolding below
 all-length n x h b = omega arith
 
 -- a report with verdicts
-pub verdicts-length : (pol : Policy) (d : Description) → WellFormed d → (good : ℕ → Bool) → length (reportFor pol d (largestBelow good 2801)) ≤ 11168
+pub verdicts-length : (pol : Policy) (d : Description) → WellFormed d → (good : ℕ → Bool) → length (reportFor pol d (largestBelow good tempos)) ≤ longestPlain
 unfolding reportFor linkLines
 verdicts-length pol d w good =
-    let q = largestBelow good 2801 in
+    let q = largestBelow good tempos in
     let lines : ℕ → List ℕ = λ l. linkLine l (linkAt d l) (verdictAt pol d (shownTempo q) l) in
     rw (length-append (tempoLine q) (joined (d .«link_count») lines))
-    (omega (arith, tempo-most good 2801 (omega arith), all-length (d .«link_count») (length (joined (d .«link_count») lines)) (w .fields .few-links) (places-length (d .«link_count») lines (w .fields .few-links) (line-length pol d w (shownTempo q)))))
+    (omega (arith, tempo-most good tempos (omega arith), all-length (d .«link_count») (length (joined (d .«link_count») lines)) (w .fields .few-links) (places-length (d .«link_count») lines (w .fields .few-links) (line-length pol d w (shownTempo q)))))
 
 -- a report of a refusal
 pub refusal-length : (r : Refusal) (place : ℕ) → length (refusedLine r place) ≤ 53

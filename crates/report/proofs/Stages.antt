@@ -12,7 +12,7 @@ use Rattle.model.specs.declared.Refusal.{Refusal}
 use Rattle.model.specs.declared.VerdictSlot.{VerdictSlot}
 use Rattle.model.specs.Basics.{tab}
 use Rattle.model.specs.File.{readFile}
-use Rattle.model.specs.Verdicts.{allHeld, largestBelow, slotAt}
+use Rattle.model.specs.Verdicts.{allHeld, tempos, largestBelow, slotAt}
 use Rattle.model.specs.Report.{tempoLine, linkLines, refusedLine, shownTempo, reportFor, plainReport}
 use Rattle.theory.proofs.WellFormed.{WellFormed}
 use Rattle.theory.proofs.Quotes.{Largest, largest-found}
@@ -21,16 +21,16 @@ use Rattle.files.specs.Answers.{ReadAs}
 use Rattle.report.specs.Listing.{listing}
 use Rattle.report.proofs.ReportLaws.{report-refused, report-done, listing-is}
 
-quoted-parts : (pol : Policy) (d : Description) (q : Quote) (slots : List VerdictSlot) → WellFormed d → q ≡ largestBelow (allHeld pol d) 2801 → slots ≡ tab 256 (slotAt pol d (shownTempo q)) → tempoLine q ++ listing d slots (d .«link_count») ≡ reportFor pol d (largestBelow (allHeld pol d) 2801)
+quoted-parts : (pol : Policy) (d : Description) (q : Quote) (slots : List VerdictSlot) → WellFormed d → q ≡ largestBelow (allHeld pol d) tempos → slots ≡ tab 256 (slotAt pol d (shownTempo q)) → tempoLine q ++ listing d slots (d .«link_count») ≡ reportFor pol d (largestBelow (allHeld pol d) tempos)
 unfolding reportFor
 quoted-parts pol d q slots w e f =
     ap (λ (l : List ℕ). tempoLine q ++ l) (listing-is pol d (shownTempo q) slots (w .fields .few-links) f)
     ∙ ap (λ (x : Quote). tempoLine x ++ linkLines pol d (shownTempo x)) e
 
 -- the tempo shown is on the knob
-pub shown-on : (pol : Policy) (d : Description) (q : Quote) → q ≡ largestBelow (allHeld pol d) 2801 → (200 ≤ shownTempo q) × (shownTempo q ≤ 3000)
+pub shown-on : (pol : Policy) (d : Description) (q : Quote) → q ≡ largestBelow (allHeld pol d) tempos → (200 ≤ shownTempo q) × (shownTempo q ≤ 3000)
 shown-on pol d (Tempo t) e =
-    let r : Largest (allHeld pol d) 2801 t = largest-found (allHeld pol d) 2801 t (sym e) in
+    let r : Largest (allHeld pol d) tempos t = largest-found (allHeld pol d) tempos t (sym e) in
     (r .low, omega (arith, r .high))
 shown-on pol d (Unquoted r p) e = (omega arith, omega arith)
 
@@ -46,8 +46,8 @@ module _ (pol : Policy) (s : List ℕ) (j : Judged) (examined : ReadAs (readFile
   stage-good e = examined .good (told-done e)
 
   -- the tempo line and the link lines are the report
-  pub stage-parts : j .outcome ≡ Done → (q : Quote) (slots : List VerdictSlot) → q ≡ largestBelow (allHeld pol (j .description)) 2801 → slots ≡ tab 256 (slotAt pol (j .description) (shownTempo q)) → tempoLine q ++ listing (j .description) slots (j .description .«link_count») ≡ plainReport pol s
+  pub stage-parts : j .outcome ≡ Done → (q : Quote) (slots : List VerdictSlot) → q ≡ largestBelow (allHeld pol (j .description)) tempos → slots ≡ tab 256 (slotAt pol (j .description) (shownTempo q)) → tempoLine q ++ listing (j .description) slots (j .description .«link_count») ≡ plainReport pol s
   stage-parts e q slots f k =
       quoted-parts pol (j .description) q slots (stage-good e) f k
-      ∙ ap (λ (d : Description). reportFor pol d (largestBelow (allHeld pol d) 2801)) (examined .same)
+      ∙ ap (λ (d : Description). reportFor pol d (largestBelow (allHeld pol d) tempos)) (examined .same)
       ∙ report-done pol s (told-done e)

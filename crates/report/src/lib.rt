@@ -20,6 +20,7 @@ ghost use Prim.Native.Nat.{_+_, _≤_};
 ghost use lib.ListN.{length, take};
 ghost use Rattle.model.specs.Report.{shownTempo, plainReport, reportOf, reported, pageReported};
 ghost use Rattle.report.specs.Listing.{listing};
+ghost use Rattle.report.specs.Longest.{longestPlain, longestReport};
 ghost use Rattle.text.specs.Page.{Put};
 
 // The bytes of the longest report, its line `hold` included.
@@ -55,7 +56,7 @@ fn shown_tempo(q: Quote) -> u32
 
 // The lines of a file's report but that of the model, from a place of the page on.
 fn put_plain(p: Policy, file: &[u8], page: &mut [u8], at: usize) -> usize
-    requires { ⌜ at + 11168 ≤ length (now page) ⌝ }
+    requires { ⌜ at + longestPlain ≤ length (now page) ⌝ }
     ensures { λ r. ⌜ Put (now (page .entry)) at (plainReport p (now (file .entry))) (now (page .exit)) r ⌝ }
 {
     let judged = files::examine(file);
@@ -83,7 +84,7 @@ fn put_plain(p: Policy, file: &[u8], page: &mut [u8], at: usize) -> usize
 
 // The report of a file on a page that takes the longest one.
 fn put_report(p: Policy, file: &[u8], page: &mut [u8]) -> usize
-    requires { ⌜ 11173 ≤ length (now page) ⌝ }
+    requires { ⌜ longestReport ≤ length (now page) ⌝ }
     ensures { λ r. ⌜ Put (now (page .entry)) 0 (reportOf p (now (file .entry))) (now (page .exit)) r ⌝ }
 {
     let at = policy_line(&mut *page, 0, p);
@@ -101,7 +102,7 @@ pub fn report(p: Policy, file: &[u8], out: &mut [u8]) -> Filled
 
 // The report of a file at the front of a page that takes the longest one, and its length.
 pub fn put_whole(p: Policy, file: &[u8], page: &mut [u8]) -> usize
-    requires { ⌜ 11173 ≤ length (now page) ⌝ }
+    requires { ⌜ longestReport ≤ length (now page) ⌝ }
     ensures { λ r. ⌜ (r ≤ length (now (page .exit))) × (take r (now (page .exit)) ≡ reportOf p (now (file .entry))) ⌝ }
 {
     put_report(p, file, &mut *page)

@@ -1,11 +1,15 @@
--- Two systems with the same tasks, runs and links have the same cycles and loads, whatever their sources. Assumes nothing.
-use Prim.Native.Nat.{ℕ, zero, suc, _+_, _*_}
+-- Two systems with the same tasks, runs and links have the same cycles, loads and ways back, whatever their sources. Assumes nothing.
+use Prim.Native.Nat.{ℕ, zero, suc, _+_, _-_, _*_}
 use mathlib.Core.Path.{_≡_, refl, sym, ap, _∙_}
-use mathlib.Core.Bool.{Bool, true, false, _&&_}
+use mathlib.Core.Bool.{Bool, true, false, _&&_, cond}
+use lib.Dec.{ltb, eqb}
+use lib.ListN.{getD, replicate}
+use Rattle.model.specs.declared.Walk.{Walk}
 use Rattle.model.specs.Basics.{sumTo, given}
 use Rattle.model.specs.Graph.{System, walks, cyclic}
 use Rattle.model.specs.Loads.{workF, addedF, work, added, load}
-use Rattle.lemmas.proofs.Range.{any-cong, sumTo-cong, topTo-cong}
+use Rattle.model.specs.Order.{failAt, meet, visit, walk, inOrder}
+use Rattle.lemmas.proofs.Range.{any-cong, sumTo-cong, topTo-cong, upTo-alike}
 use Rattle.theory.proofs.LoadLaws.{addedF-direct, addedF-through}
 
 -- a system by its parts
@@ -23,7 +27,7 @@ links-path s t S = λ x. systemOf (S .tasks x) (s .sources) (s .run) (λ i j. S 
 runs-path : (s t : System) → SameLinks s t → ((j : ℕ) → s .run j ≡ t .run j) → s ≡ systemOf (t .tasks) (s .sources) (t .run) (t .link)
 runs-path s t S run = λ x. systemOf (S .tasks x) (s .sources) (λ j. run j x) (λ i j. S .link i j x)
 
--- neither sources nor runs bear on walks
+-- neither sources nor runs bear on walks, nor on the walk back
 module _ (n : ℕ) (link : ℕ → ℕ → Bool) (a b : ℕ) (r q : ℕ → ℕ) where
   walks-alike : (l i : ℕ) → walks (systemOf n a r link) l i ≡ walks (systemOf n b q link) l i
   unfolding walks
@@ -34,9 +38,24 @@ module _ (n : ℕ) (link : ℕ → ℕ → Bool) (a b : ℕ) (r q : ℕ → ℕ)
   unfolding cyclic
   cyclic-alike = any-cong _ _ 1 n (λ k p u. walks-alike n k)
 
+  visit-alike : (f j x : ℕ) (w : Walk) → visit f (systemOf n a r link) j x w ≡ visit f (systemOf n b q link) j x w
+  unfolding visit
+  visit-alike zero j x w = refl
+  visit-alike (suc f) j x w =
+      ap (λ v. cond (ltb 32 x) (failAt x w) (cond (getD (w .met) (x - 1) false) (failAt x w) (cond (ltb x j) (meet x w) v)))
+      (upTo-alike 48 _ _ (meet x w) (λ i p v. ap (λ z. elim (link (suc i) x) [ false ↦ v | true ↦ elim (eqb (v .failed) 0) [ false ↦ v | true ↦ z ] ]) (visit-alike f j (suc i) v)))
+
+  order-alike : (i j : ℕ) → inOrder (systemOf n a r link) i j ≡ inOrder (systemOf n b q link) i j
+  unfolding inOrder walk
+  order-alike i j = ap (λ (w : Walk). eqb (w .failed) 0) (visit-alike 34 j i (record { failed = 0; met = replicate 32 false }))
+
 pub same-cyclic : (s t : System) → SameLinks s t → cyclic s ≡ cyclic t
 same-cyclic s t S =
     ap cyclic (links-path s t S) ∙ cyclic-alike (t .tasks) (t .link) (s .sources) (t .sources) (s .run) (t .run)
+
+pub same-order : (s t : System) → SameLinks s t → (i j : ℕ) → inOrder s i j ≡ inOrder t i j
+same-order s t S i j =
+    ap (λ x. inOrder x i j) (links-path s t S) ∙ order-alike (t .tasks) (t .link) (s .sources) (t .sources) (s .run) (t .run) i j
 
 -- sources do not bear on loads
 module _ (n : ℕ) (run : ℕ → ℕ) (link : ℕ → ℕ → Bool) (a b : ℕ) where

@@ -122,7 +122,7 @@ unfolding tooHeavy
 load-light s S few L light i j q = go (cmp i 0) (cmp i 49)
   where
     none : (IsTask s i → ⊥) → (IsSource s i → ⊥) → load s i j ≤ 1000000000
-    none t u = omega (arith, absent-load s L S i j t u)
+    none t u = omega (arith, absent-load s S i j t u)
 
     node : 1 ≤ i → i ≤ 48 → load s i j ≤ 1000000000
     node p r =

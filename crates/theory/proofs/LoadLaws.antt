@@ -132,28 +132,31 @@ module _ (s : System) (L : Loaded s) where
   load-direct S i j l =
       omega (arith, L .direct i j l, le-sumTo (added s i) j (s .tasks) j (omega arith) (S .to-task i j l .1))
 
-  -- L5: a node without a link to a task from j on has no load there
-  no-link-added : (i j : ℕ) → All (λ k. s .link i k ≡ false) j (s .tasks) → (k : ℕ) → j ≤ k → k ≤ s .tasks → added s i k ≡ 0
-  no-link-added i j none k p q =
-      rw (L .through i k (none k p q))
-      (omega (
-        arith,
-        topTo-le
-            _
-            (suc k)
-            (s .tasks)
-            0
-            (λ m t u. given-le (s .link i m) (added s m k) 0 (λ x. absurd (not-both x (none m (omega arith) u)))),
-      ))
+-- L5: a node without a link to a task from j on has no load there
+no-link-added : (s : System) (i j : ℕ) → All (λ k. s .link i k ≡ false) j (s .tasks) → (k : ℕ) → j ≤ k → k ≤ s .tasks → added s i k ≡ 0
+unfolding added
+no-link-added s i j none k p q =
+    let e : 2 * s .tasks + 4 ≡ suc (2 * s .tasks + 3) = omega arith in
+    ap (λ f. addedF f s i k) e
+    ∙ addedF-through (2 * s .tasks + 3) s i k (none k p q)
+    ∙ omega (
+      arith,
+      topTo-le
+          (λ m. given (s .link i m) (addedF (2 * s .tasks + 3) s m k))
+          (suc k)
+          (s .tasks)
+          0
+          (λ m t u. given-le (s .link i m) _ 0 (λ x. absurd (not-both x (none m (omega arith) u)))),
+    )
 
-  pub no-link-load : (i j : ℕ) → All (λ k. s .link i k ≡ false) j (s .tasks) → load s i j ≡ 0
-  unfolding load
-  no-link-load i j none = sumTo-zero (added s i) j (s .tasks) (no-link-added i j none)
+pub no-link-load : (s : System) (i j : ℕ) → All (λ k. s .link i k ≡ false) j (s .tasks) → load s i j ≡ 0
+unfolding load
+no-link-load s i j none = sumTo-zero (added s i) j (s .tasks) (no-link-added s i j none)
 
-  -- a number that no node has has no load
-  pub absent-load : Shaped s → (i j : ℕ) → (IsTask s i → ⊥) → (IsSource s i → ⊥) → load s i j ≡ 0
-  absent-load S i j t u =
-      no-link-load i j (λ k p q. false-of (s .link i k) (λ e. ⊎-elim t u (S .from-node i k e)))
+-- a number that no node has has no load
+pub absent-load : (s : System) → Shaped s → (i j : ℕ) → (IsTask s i → ⊥) → (IsSource s i → ⊥) → load s i j ≡ 0
+absent-load s S i j t u =
+    no-link-load s i j (λ k p q. false-of (s .link i k) (λ e. ⊎-elim t u (S .from-node i k e)))
 
 -- and there is none at a number above the tasks
 pub past-load : (s : System) (i j : ℕ) → s .tasks < j → load s i j ≡ 0

@@ -142,7 +142,7 @@ work-one k p q =
       law .whole k,
       run-is longest k q,
       run-one (k - 1) (omega arith),
-      no-link-load (system longest) law k (suc k) (λ m a b. false-of (system longest .link k m) (λ e. omega (arith, from-source k m e))),
+      no-link-load (system longest) k (suc k) (λ m a b. false-of (system longest .link k m) (λ e. omega (arith, from-source k m e))),
     )
 
 light : tooHeavy (system longest) ≡ false

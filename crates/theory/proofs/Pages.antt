@@ -28,7 +28,7 @@ use Rattle.model.specs.Graph.{system, linkAt}
 use Rattle.model.specs.Delays.{Settled, unchanged, reached, tailOf, delayOf, spacingOf}
 use Rattle.model.specs.Order.{inOrder}
 use Rattle.model.specs.File.{readFile, fillWith, filledBy}
-use Rattle.model.specs.Verdicts.{settledVerdict, sourceVerdict, orderVerdict, verdictOf, verdictAt, doubtful, allHeld, largestBelow}
+use Rattle.model.specs.Verdicts.{settledVerdict, sourceVerdict, orderVerdict, verdictOf, verdictAt, doubtful, allHeld, tempos, largestBelow}
 use Rattle.model.specs.Report.{decimal, lineOf, wTempo, wNone, wRefused, wAt, wLink, wHeld, wOf, tempoText, tempoLine, verdictText, linkLine, linkLines, refusedLine, shownTempo, reportFor, plainReport, policyLine, wHold, reportOf, printed}
 use Rattle.model.specs.Page.{longer, linesOf, lineAt, TellsModel, tempoPlace, TempoLine, HasLine, tempoWords, heldWords}
 use Rattle.lemmas.proofs.Tests.{and-left, and-right}
@@ -330,7 +330,7 @@ hold-first Preemptive file = (λ e. absurd (go (readFile file .outcome) refl e),
     go : (o : Outcome) → readFile file .outcome ≡ o → lineAt (plainReport Preemptive file) 0 ≡ wHold → ⊥
     go Done a e =
         let d : Description = readFile file .description in
-        first d (largestBelow (allHeld Preemptive d) 2801) (rw a at e)
+        first d (largestBelow (allHeld Preemptive d) tempos) (rw a at e)
     go (Refused r place) a e =
         not-hold (refusedLine r place) 114 refl (λ z. omega arith) (λ z. omega arith) (rw a at e)
 

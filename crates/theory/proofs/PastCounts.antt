@@ -14,20 +14,22 @@ use Rattle.model.specs.declared.Outcome.{Outcome}
 use Rattle.model.specs.declared.Outcome.the-variants.{Done, Refused}
 use Rattle.model.specs.Basics.{joined}
 use Rattle.model.specs.Refusals.{noLink, noSource, onDone}
-use Rattle.model.specs.Graph.{runOf}
+use Rattle.model.specs.Graph.{system, runOf}
 use Rattle.model.specs.Loads.{sheet}
 use Rattle.model.specs.Field.{fieldBytes, fieldOf, fieldCount}
 use Rattle.model.specs.File.{SameTo, trimmed, fileOf, overfull, judge, written, pageAfter, loadSheet}
 use Rattle.model.specs.Delays.{spacing, spacingOf}
-use Rattle.model.specs.Verdicts.{judgeAt, verdicts, largestBelow, quoteOf}
+use Rattle.model.specs.Verdicts.{judgeAt, verdicts, tempos, largestBelow, quoteOf}
 use Rattle.lemmas.proofs.Table.{joined-cong}
 use Rattle.theory.specs.Structure.{SameStructure, SameSpacings}
-use Rattle.theory.proofs.WellFormed.{WellFormed}
+use Rattle.theory.proofs.WellFormed.{WellFormed, Shaped}
+use Rattle.theory.proofs.Fielded.{shaped}
+use Rattle.theory.proofs.JudgeLaws.{system-same}
 use Rattle.theory.proofs.RecordLaws.{Widths, field-task, field-source, field-link, by-place}
 use Rattle.theory.proofs.RecordState.{getD-filled, copy-links}
 use Rattle.theory.proofs.FileLaws.{judge-well-formed, at-known}
 use Rattle.theory.proofs.ReadBack.{copy-trimmed}
-use Rattle.theory.proofs.BySpacings.{structure-system, held-same, slots-same}
+use Rattle.theory.proofs.BySpacings.{held-same, slots-same}
 
 -- two answers after the same outcome
 pub done-same : {A : Type 0} (o p : Outcome) (x y : A) (f : Refusal → ℕ → A) → o ≡ p → (o ≡ Done → x ≡ y) → onDone o x f ≡ onDone p y f
@@ -82,7 +84,7 @@ module _ (d e : Description) (s : SameTo d e) where
 
   -- what an accepted record means: its structure and its spacings
   pub same-structure : SameStructure d e
-  same-structure = record { tasks = s .tasks; sources = s .sources; links = s .links; run = s .run; link = s .link }
+  same-structure = record { tasks = s .tasks; links = s .links; run = s .run; link = s .link }
 
   pub same-run : (k : ℕ) → k - 1 < d .«task_count» → runOf d k ≡ runOf e k
   same-run k h = s .run (k - 1) h
@@ -92,26 +94,32 @@ module _ (d e : Description) (s : SameTo d e) where
   same-spacing t u h = ap (λ (x : SourceSlot). spacing (x .source) t) (s .source (u - 33) h)
 
   same-spacings : (t : ℕ) → SameSpacings d t e t
-  same-spacings t u p q = same-spacing t u (omega arith)
+  same-spacings t u p q r = same-spacing t u (omega arith)
 
   -- the answers of the calls
   module _ (w : Widths d) where
     known : judge d ≡ Done → WellFormed d
     known = judge-well-formed d w
 
+    same-system : WellFormed d → system d ≡ system e
+    same-system k = system-same d e (s .tasks) (s .sources) (s .links) (omega (arith, s .tasks, k .some-task)) (λ i p. s .run i (omega (arith, s .tasks))) (λ l p. s .link l (omega (arith, s .links)))
+
+    same-shape : WellFormed d → Shaped (system e)
+    same-shape k = subst Shaped (same-system k) (shaped d k)
+
     pub same-sheet : loadSheet d ≡ loadSheet e
     unfolding loadSheet
-    same-sheet = done-same (judge d) (judge e) _ _ _ same-judge (λ j. ap (λ x. record { outcome = Done; rows = sheet x }) (structure-system d e same-structure (known j)))
+    same-sheet = done-same (judge d) (judge e) _ _ _ same-judge (λ j. ap (λ x. record { outcome = Done; rows = sheet x }) (same-system (known j)))
 
     pub same-quote : (pol : Policy) → quoteOf pol d ≡ quoteOf pol e
     unfolding quoteOf
-    same-quote pol = done-same (judge d) (judge e) _ _ _ same-judge (λ j. ap (λ f. largestBelow f 2801) (fun-ext (λ t. held-same d e same-structure (known j) t t (same-spacings t) pol)))
+    same-quote pol = done-same (judge d) (judge e) _ _ _ same-judge (λ j. ap (λ f. largestBelow f tempos) (fun-ext (λ t. held-same d e same-structure (known j) (same-shape (known j)) t t (same-spacings t) pol)))
 
     pub same-verdicts : (pol : Policy) (t : ℕ) → verdicts pol d t ≡ verdicts pol e t
     unfolding verdicts
     same-verdicts pol t =
         done-same (judgeAt d t) (judgeAt e t) _ _ _ (same-knob t)
-        (λ j. ap (λ x. record { outcome = Done; slots = x }) (slots-same d e same-structure (at-known d t w j .0) t t (same-spacings t) pol))
+        (λ j. ap (λ x. record { outcome = Done; slots = x }) (slots-same d e same-structure (at-known d t w j .0) (same-shape (at-known d t w j .0)) t t (same-spacings t) pol))
 
 -- the record that is read back from a description's file agrees with it below its counts, and so gets the same answers
 pub trimmed-same : (d : Description) → WellFormed d → SameTo d (trimmed d)

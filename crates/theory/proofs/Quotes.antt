@@ -21,7 +21,7 @@ use Rattle.model.specs.Refusals.{onDone, numberOf}
 use Rattle.model.specs.Graph.{System, system, linkAt}
 use Rattle.model.specs.File.{judge, readFile, Accepted}
 use Rattle.model.specs.Delays.{Settled, unchanged, reached, tailOf, delayOf, spacingOf}
-use Rattle.model.specs.Verdicts.{settledVerdict, sourceVerdict, orderVerdict, verdictOf, verdictAt, doubtful, allHeld, largestBelow, quoteOf, quotedFile}
+use Rattle.model.specs.Verdicts.{settledVerdict, sourceVerdict, orderVerdict, verdictOf, verdictAt, doubtful, allHeld, tempos, largestBelow, quoteOf, quotedFile}
 use Rattle.lemmas.proofs.Tests.{Cmp, less, same, more, cmp, not-both, false-of}
 use Rattle.lemmas.proofs.Range.{all-at, all-of}
 use Rattle.theory.proofs.WellFormed.{WellFormed, IsTask, IsSource}
@@ -173,11 +173,11 @@ module _ (good : ℕ → Bool) where
 
 -- of a test that passes at every lower tempo too, it is enough to look at two neighbours, or at the lowest
 module _ (pol : Policy) (d : Description) (g : WellFormed d) where
-  pub quote-at : (q : ℕ) → 200 ≤ q → q ≤ 3000 → allHeld pol d q ≡ true → (q < 3000 → allHeld pol d (suc q) ≡ false) → largestBelow (allHeld pol d) 2801 ≡ Tempo q
+  pub quote-at : (q : ℕ) → 200 ≤ q → q ≤ 3000 → allHeld pol d q ≡ true → (q < 3000 → allHeld pol d (suc q) ≡ false) → largestBelow (allHeld pol d) tempos ≡ Tempo q
   quote-at q a b e h =
       largest-is
       (allHeld pol d)
-      2801
+      tempos
       q
       (record {
         low = a;
@@ -187,11 +187,11 @@ module _ (pol : Policy) (d : Description) (g : WellFormed d) where
             λ t x y. false-of (allHeld pol d t) (λ f. not-both (all-slower pol d g (suc q) t (omega arith) x (omega arith) f) (h (omega arith)));
       })
 
-  pub quote-none : allHeld pol d 200 ≡ false → largestBelow (allHeld pol d) 2801 ≡ Unquoted NoTempo 0
+  pub quote-none : allHeld pol d 200 ≡ false → largestBelow (allHeld pol d) tempos ≡ Unquoted NoTempo 0
   quote-none e =
       largest-none
       (allHeld pol d)
-      2801
+      tempos
       (λ t x y. false-of (allHeld pol d t) (λ f. not-both (all-slower pol d g 200 t (omega arith) x (omega arith) f) e))
 
 -- what a quote says
@@ -206,9 +206,9 @@ pub quoted : (pol : Policy) (d : Description) (q : ℕ) → quoteOf pol d ≡ Te
 unfolding quoteOf
 quoted pol d q = go (judge d) refl
   where
-    go : (o : Outcome) → judge d ≡ o → onDone o (largestBelow (allHeld pol d) 2801) Unquoted ≡ Tempo q → Quoted pol d q
+    go : (o : Outcome) → judge d ≡ o → onDone o (largestBelow (allHeld pol d) tempos) Unquoted ≡ Tempo q → Quoted pol d q
     go Done e f =
-        let r : Largest (allHeld pol d) 2801 q = largest-found (allHeld pol d) 2801 q f in
+        let r : Largest (allHeld pol d) tempos q = largest-found (allHeld pol d) tempos q f in
         record {
           judged = e;
           low = r .low;
@@ -226,7 +226,7 @@ quote-exactly pol d q = (quoted pol d q, found)
     found : Quoted pol d q → quoteOf pol d ≡ Tempo q
     found r =
         rw (r .judged)
-        (largest-is (allHeld pol d) 2801 q (record { low = r .low; high = omega (arith, r .high); passes = r .held; above = λ t x y. r .above t x (omega arith) }))
+        (largest-is (allHeld pol d) tempos q (record { low = r .low; high = omega (arith, r .high); passes = r .held; above = λ t x y. r .above t x (omega arith) }))
 
 -- no tempo of the knob has every critical link held
 pub record NoneHeld (pol : Policy) (d : Description) : Type 0 where
@@ -242,12 +242,12 @@ pub no-tempo-exactly : (pol : Policy) (d : Description) → (quoteOf pol d ≡ U
 unfolding quoteOf
 no-tempo-exactly pol d = (go (judge d) refl, found)
   where
-    go : (o : Outcome) → judge d ≡ o → onDone o (largestBelow (allHeld pol d) 2801) Unquoted ≡ Unquoted NoTempo 0 → NoneHeld pol d
-    go Done e f = record { judged = e; none = λ t x y. none-largest (allHeld pol d) 2801 f t x (omega arith) }
+    go : (o : Outcome) → judge d ≡ o → onDone o (largestBelow (allHeld pol d) tempos) Unquoted ≡ Unquoted NoTempo 0 → NoneHeld pol d
+    go Done e f = record { judged = e; none = λ t x y. none-largest (allHeld pol d) tempos f t x (omega arith) }
     go (Refused r p) e f = absurd (not-12 (rw e at (judge-number d)) f)
 
     found : NoneHeld pol d → quoteOf pol d ≡ Unquoted NoTempo 0
-    found r = rw (r .judged) (largest-none (allHeld pol d) 2801 (λ t x y. r .none t x (omega arith)))
+    found r = rw (r .judged) (largest-none (allHeld pol d) tempos (λ t x y. r .none t x (omega arith)))
 
 -- the same of a file
 pub file-quote-exactly : (pol : Policy) (s : List ℕ) (q : ℕ) → (quotedFile pol s ≡ Tempo q) ↔ (Accepted s × Quoted pol (readFile s .description) q)

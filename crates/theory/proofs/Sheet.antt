@@ -14,7 +14,7 @@ use Rattle.model.specs.File.{judge, loadSheet}
 use Rattle.lemmas.proofs.Table.{getD-tab, getD-same}
 use Rattle.theory.proofs.WellFormed.{WellFormed, IsTask, IsSource}
 use Rattle.theory.proofs.Fielded.{shaped}
-use Rattle.theory.proofs.LoadLaws.{loaded, absent-load, past-load}
+use Rattle.theory.proofs.LoadLaws.{absent-load, past-load}
 use Rattle.theory.proofs.RecordLaws.{Widths}
 use Rattle.theory.proofs.FileLaws.{judge-well-formed}
 
@@ -37,7 +37,7 @@ sheet-load d e i j a b p q =
 
 -- "places for absent nodes and tasks hold 0"
 pub absent-node : (d : Description) → WellFormed d → (i j : ℕ) → Absent d i → load (system d) i j ≡ 0
-absent-node d w i j a = absent-load (system d) (loaded (system d) (shaped d w) (w .no-cycle)) (shaped d w) i j (a .0) (a .1)
+absent-node d w i j a = absent-load (system d) (shaped d w) i j (a .0) (a .1)
 
 pub absent-task : (d : Description) (i j : ℕ) → d .«task_count» < j → load (system d) i j ≡ 0
 unfolding system

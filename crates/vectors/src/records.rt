@@ -3,6 +3,7 @@
 
 use model::Machine;
 ghost use Prim.Native.Nat.{_<_};
+ghost use Rattle.layout.specs.Layout.{recordLength};
 
 fn flag(b: bool) -> u8 {
     if b { 1 } else { 0 }
@@ -20,7 +21,7 @@ fn byte_of(x: u32, p: usize) -> u8 {
 
 // The byte at a place of a record.
 fn record_byte(m: Machine, k: usize) -> u8
-    requires { ⌜ k < 1056 ⌝ }
+    requires { ⌜ k < recordLength ⌝ }
 {
     if k < 32 {
         return flag(m.awake[k]);
@@ -52,7 +53,7 @@ fn record_byte(m: Machine, k: usize) -> u8
 // Whether a record begins with the recorded bytes.
 pub fn begins(m: Machine, recorded: &[u8]) -> bool {
     let n = recorded.len();
-    if 1056 < n {
+    if layout::RECORD < n {
         return false;
     }
     let mut k: usize = 0;
@@ -68,7 +69,7 @@ pub fn begins(m: Machine, recorded: &[u8]) -> bool {
 // Whether no task is marked again and no link late.
 pub fn unlatched(m: Machine) -> bool {
     let mut k: usize = 768;
-    while k < 1056 {
+    while k < layout::RECORD {
         if record_byte(m, k) != 0 {
             return false;
         }

@@ -34,7 +34,7 @@ fn same_outcomes(outcomes: &[u8], recorded: &[u8]) -> bool {
 // up to the spacing at the run's tempo, and are now counted up to the spacing at 20.0.
 fn same_record(m: Machine, recorded: &[u8]) -> bool {
     let n = recorded.len();
-    if n == 1056 {
+    if n == layout::RECORD {
         return begins(m, recorded);
     }
     if !unlatched(m) {

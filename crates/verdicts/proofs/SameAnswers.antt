@@ -1,5 +1,5 @@
 -- The verdict call's answers by structure and spacings (C-12): two records that it does not refuse, each at its own tempo, get the same answer if they have the same
--- tasks and links, and sources as many and with the same spacings there. `Widths` is what the types of a record give (`theory/Typed.typed-widths`). Assumes nothing.
+-- tasks and links, and their sources the same spacings there. `Widths` is what the types of a record give (`theory/Typed.typed-widths`). Assumes nothing.
 use Prim.Native.Nat.{ℕ}
 use mathlib.Core.Path.{_≡_, sym, ap, _∙_}
 use mathlib.Core.List.{List}
@@ -41,8 +41,8 @@ answered pol d t r e o = go (judgeAt d t) (sym (ap (λ (x : Verdicts). x .outcom
     go Done f = f
     go (Refused w p) f = refused-not f
 
-pub same-answers : (pol : Policy) (d e : Description) (t t′ : ℕ) (r r′ : Verdicts) → Widths d → r ≡ verdicts pol d t → r′ ≡ verdicts pol e t′ → r .outcome ≡ Done → r′ .outcome ≡ Done → SameStructure d e → SameSpacings d t e t′ → r ≡ r′
-same-answers pol d e t t′ r r′ w a b o o′ s g = a ∙ verdicts-same pol d e t t′ w (answered pol d t r a o) (answered pol e t′ r′ b o′) s g ∙ sym b
+pub same-answers : (pol : Policy) (d e : Description) (t t′ : ℕ) (r r′ : Verdicts) → Widths d → Widths e → r ≡ verdicts pol d t → r′ ≡ verdicts pol e t′ → r .outcome ≡ Done → r′ .outcome ≡ Done → SameStructure d e → SameSpacings d t e t′ → r ≡ r′
+same-answers pol d e t t′ r r′ w w′ a b o o′ s g = a ∙ verdicts-same pol d e t t′ w w′ (answered pol d t r a o) (answered pol e t′ r′ b o′) s g ∙ sym b
 
 -- What the checker has as the `ensures` of `verdicts` is what is asked of an answer there: with a weaker one this fails.
 module _ {M : Type 1} (𝓤 : URA M) (H : Heap 𝓤) (A : Atoms 𝓤) (mem : Memory → SProp 𝓤) (does : Routine → Fun 𝓤) where

@@ -11,4 +11,5 @@ spacing-figures = record {
   fixed = refl;
   paced-swung = refl;
   paced-fixed = refl;
+  spare = refl;
 }

@@ -67,8 +67,11 @@ boxFile =
     0x04 ∷ 0x00 ∷ 0x03 ∷ 0x02 ∷ 0x03 ∷ 0x01 ∷ 0x04 ∷ 0x00 ∷ 0x03 ∷ 0x21 ∷ 0x02 ∷ 0x01 ∷
     0x04 ∷ 0x00 ∷ 0x03 ∷ 0x22 ∷ 0x03 ∷ 0x01 ∷ []
 
+abbrev pub boxOf : List Source → Description
+boxOf sources = describe (400 ∷ 300 ∷ 200 ∷ []) sources (free 2 1 ∷ critical 2 3 ∷ critical 33 2 ∷ critical 34 3 ∷ [])
+
 abbrev pub boxWith : Source → Description
-boxWith pulse = describe (400 ∷ 300 ∷ 200 ∷ []) (pulse ∷ Fixed 2000 ∷ []) (free 2 1 ∷ critical 2 3 ∷ critical 33 2 ∷ critical 34 3 ∷ [])
+boxWith pulse = boxOf (pulse ∷ Fixed 2000 ∷ [])
 
 abbrev pub box : Description
 box = boxWith (Paced 480)

@@ -6,13 +6,14 @@ use mathlib.Core.List.{_++_}
 use native.Mathlib.Omega.{arith}
 use lib.ListN.{length, length-append}
 use Rattle.model.specs.Delays.{spacingOf}
-use Rattle.model.specs.Verdicts.{largestBelow, allHeld}
+use Rattle.model.specs.Verdicts.{tempos, largestBelow, allHeld}
 use Rattle.model.specs.Report.{tempoLine, refusedLine, shownTempo, plainReport}
 use Rattle.theory.proofs.WellFormed.{WellFormed}
 use Rattle.spacings.specs.Gaps.{GapsOf}
 use Rattle.spacings.proofs.GapLaws.{gaps-of, scaled-of}
 use Rattle.verdicts.proofs.TableLaws.{slot-tables, slots-at-tempo}
 use Rattle.text.proofs.Pages.{put-then, put-same}
+use Rattle.report.specs.Longest.{longestPlain}
 use Rattle.report.specs.Listing.{listing}
 use Rattle.report.proofs.ReportLength.{refusal-length}
 use Rattle.report.proofs.ReportLaws.{plain-length}
@@ -25,7 +26,7 @@ good : (c : tie.After-enum-told) → WellFormed (c .before .before .examine .res
 good c = stage-good (c .before .before .before .before .before .args .p) (c .before .before .before .before .before .args .file .now) (c .before .before .examine .result) (c .before .before .examine .ensures) (c .enum-told .given .1)
 
 -- its tables and its quote
-quoted : (c : tie.After-quote-by) → c .quote-by .result ≡ largestBelow (allHeld (c .before .before .before .before .before .before .before .before .before .before .before .before .before .before .before .before .before .args .p) (c .before .before .before .before .before .before .before .before .before .before .before .before .before .before .examine .result .description)) 2801
+quoted : (c : tie.After-quote-by) → c .quote-by .result ≡ largestBelow (allHeld (c .before .before .before .before .before .before .before .before .before .before .before .before .before .before .before .before .before .args .p) (c .before .before .before .before .before .before .before .before .before .before .before .before .before .before .examine .result .description)) tempos
 quoted c = let t = c .before .before .before .before .before .before .before .tables-of .ensures in c .quote-by .ensures (c .before .before .before .before .before .before .before .before .before .before .before .before .before .before .before .before .before .args .p) (c .before .before .before .before .before .before .before .before .before .before .before .before .before .before .examine .result .description) (t .by-levels) (t .all-ordered)
 
 -- the spacings at the tempo shown
@@ -38,7 +39,7 @@ spaced c =
 parts : (c : tie.After-slots-at) → tempoLine (c .before .before .before .before .before .before .before .before .before .before .before .quote-by .result) ++ listing (c .before .before .before .before .before .before .before .before .before .before .before .before .before .before .before .before .before .before .before .before .before .before .before .before .before .examine .result .description) (c .slots-at .result) (c .before .before .before .before .before .before .before .before .before .before .before .before .before .before .before .before .before .before .before .before .before .before .before .before .before .examine .result .description .«link_count») ≡ plainReport (c .before .before .before .before .before .before .before .before .before .before .before .before .before .before .before .before .before .before .before .before .before .before .before .before .before .before .before .before .args .p) (c .before .before .before .before .before .before .before .before .before .before .before .before .before .before .before .before .before .before .before .before .before .before .before .before .before .before .before .before .args .file .now)
 parts c = stage-parts (c .before .before .before .before .before .before .before .before .before .before .before .before .before .before .before .before .before .before .before .before .before .before .before .before .before .before .before .before .args .p) (c .before .before .before .before .before .before .before .before .before .before .before .before .before .before .before .before .before .before .before .before .before .before .before .before .before .before .before .before .args .file .now) (c .before .before .before .before .before .before .before .before .before .before .before .before .before .before .before .before .before .before .before .before .before .before .before .before .before .examine .result) (c .before .before .before .before .before .before .before .before .before .before .before .before .before .before .before .before .before .before .before .before .before .before .before .before .before .examine .ensures) (c .before .before .before .before .before .before .before .before .before .before .before .before .before .before .before .before .before .before .before .before .before .before .before .enum-told .given .1) (c .before .before .before .before .before .before .before .before .before .before .before .quote-by .result) (c .slots-at .result) (quoted (c .before .before .before .before .before .before .before .before .before .before .before)) (c .slots-at .ensures (c .before .before .before .before .before .before .before .before .before .before .before .before .before .before .before .before .before .before .before .before .before .before .before .before .before .before .before .before .args .p) (slot-tables (c .before .before .before .before .before .before .before .before .before .before .before .before .before .before .before .before .before .before .before .before .before .before .before .before .before .before .before .before .args .p) (c .before .before .before .before .before .before .before .before .before .before .before .before .before .before .before .before .before .before .before .before .before .before .before .before .before .examine .result .description) (c .before .before .before .before .before .before .before .before .before .before .before .before .before .before .before .before .before .before .tables-of .result) (c .before .before .before .before .before .before .before .before .before .before .before .before .before .before .before .before .before .before .tables-of .ensures)) (spacingOf (c .before .before .before .before .before .before .before .before .before .before .before .before .before .before .before .before .before .before .before .before .before .before .before .before .before .examine .result .description) (shownTempo (c .before .before .before .before .before .before .before .before .before .before .before .quote-by .result))) (spaced (c .before .before .before .before .before .before .before)) ∙ slots-at-tempo (c .before .before .before .before .before .before .before .before .before .before .before .before .before .before .before .before .before .before .before .before .before .before .before .before .before .before .before .before .args .p) (c .before .before .before .before .before .before .before .before .before .before .before .before .before .before .before .before .before .before .before .before .before .before .before .before .before .examine .result .description) (shownTempo (c .before .before .before .before .before .before .before .before .before .before .before .quote-by .result)))
 
-room : (c : tie.After-slots-at) → length (tempoLine (c .before .before .before .before .before .before .before .before .before .before .before .quote-by .result)) + length (listing (c .before .before .before .before .before .before .before .before .before .before .before .before .before .before .before .before .before .before .before .before .before .before .before .before .before .examine .result .description) (c .slots-at .result) (c .before .before .before .before .before .before .before .before .before .before .before .before .before .before .before .before .before .before .before .before .before .before .before .before .before .examine .result .description .«link_count»)) ≤ 11168
+room : (c : tie.After-slots-at) → length (tempoLine (c .before .before .before .before .before .before .before .before .before .before .before .quote-by .result)) + length (listing (c .before .before .before .before .before .before .before .before .before .before .before .before .before .before .before .before .before .before .before .before .before .before .before .before .before .examine .result .description) (c .slots-at .result) (c .before .before .before .before .before .before .before .before .before .before .before .before .before .before .before .before .before .before .before .before .before .before .before .before .before .examine .result .description .«link_count»)) ≤ longestPlain
 room c =
     let d = c .before .before .before .before .before .before .before .before .before .before .before .before .before .before .before .before .before .before .before .before .before .before .before .before .before .examine .result .description in
     omega (arith, plain-length (c .before .before .before .before .before .before .before .before .before .before .before .before .before .before .before .before .before .before .before .before .before .before .before .before .before .before .before .before .args .p) (c .before .before .before .before .before .before .before .before .before .before .before .before .before .before .before .before .before .before .before .before .before .before .before .before .before .before .before .before .args .file .now) (λ i. c .before .before .before .before .before .before .before .before .before .before .before .before .before .before .before .before .before .before .before .before .before .before .before .before .before .before .before .shared-slice-known .given i .fits), sym (ap length (parts c)) ∙ length-append (tempoLine (c .before .before .before .before .before .before .before .before .before .before .before .quote-by .result)) (listing d (c .slots-at .result) (d .«link_count»)))

@@ -2,14 +2,15 @@
 use Prim.Native.Nat.{_≤_, _-_}
 use native.Mathlib.Omega.{arith}
 use borrow.Author.Needs.{needs}
+use Rattle.layout.specs.Layout.{recordLength}
 use Rattle.vectors.proofs.records.unlatched.Statement.{statement}
 use Rattle.vectors.proofs.records.unlatched.Tie as tie
 
 abbrev Inv-loop : tie.InvT-loop
-Inv-loop m k₀ k = k ≤ 1056
+Inv-loop m k₀ k = k ≤ recordLength
 
 abbrev μ-loop : tie.MeasureT-loop
-μ-loop m k₀ k = 1056 - k
+μ-loop m k₀ k = recordLength - k
 
 loop-holds : tie.Need-loop-holds Inv-loop μ-loop
 loop-holds c = omega arith

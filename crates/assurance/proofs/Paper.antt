@@ -14,9 +14,8 @@ use Rattle.model.specs.declared.Outcome.the-variants.{Done, Refused}
 use Rattle.model.specs.declared.Quote.{Quote}
 use Rattle.model.specs.declared.Quote.the-variants.{Tempo, Unquoted}
 use Rattle.model.specs.declared.Refusal.{Refusal}
-use Rattle.model.specs.declared.Filled.{Filled}
 use Rattle.model.specs.Graph.{linkAt}
-use Rattle.model.specs.File.{Widths, readFile, filledBy}
+use Rattle.model.specs.File.{Widths, readFile}
 use Rattle.model.specs.Delays.{spacingOf}
 use Rattle.model.specs.Verdicts.{verdictAt, doubtful, allHeld, tempos, largestBelow, quoteOf, quotedFile}
 use Rattle.model.specs.Report.{refusedLine, reportFor, plainReport, policyLine, reportOf, reported, pageReported, printed}

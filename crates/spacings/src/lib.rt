@@ -4,7 +4,6 @@ use model::Source;
 ghost use mathlib.Core.Path.{_≡_};
 ghost use mathlib.Core.Bool.{true};
 ghost use Prim.Native.Nat.{_≤_, _<_};
-ghost use lib.ListN.{getD};
 ghost use Rattle.model.specs.declared.Field.the-variants.{OfSource};
 ghost use Rattle.model.specs.Field.{onScale};
 ghost use Rattle.model.specs.Verdicts.{onKnob};

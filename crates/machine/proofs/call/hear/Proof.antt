@@ -1,17 +1,15 @@
 -- `hear` meets its contract: nothing comes, or some sources do; refused, or they have fired. Assumes nothing.
-use Prim.Native.Nat.{ℕ, _/_, _^_, _≤_, max}
+use Prim.Native.Nat.{max}
 use mathlib.Core.Path.{_≡_, sym, ap, subst, _∙_}
 use mathlib.Core.Bool.{true, false}
 use native.Mathlib.Omega.{arith}
 use borrow.Author.Tests.{not-true, not-false}
-use Rattle.model.specs.declared.Description.{Description}
 use Rattle.model.specs.declared.Machine.{Machine}
 use Rattle.model.specs.declared.Refusal.the-variants.{OffKnob, Stranger, TooSoon}
 use Rattle.model.specs.Verdicts.{onKnob}
 use Rattle.model.specs.Run.{marksIn}
 use Rattle.lemmas.proofs.Tests.{within}
 use Rattle.words.specs.declared.Words.{Words}
-use Rattle.arrivals.specs.Parts.{Known}
 use Rattle.words.specs.Words.{Holds}
 use Rattle.arrivals.proofs.TempoLaws.{tempos-hold}
 use Rattle.machine.proofs.CallLaws.{known, tick-off, tick-refused, judged-at, end-stranger, end-soon, end-none, strangers-none, strangers-some, silent-known, silent-soon, silent-arrive, silent-keeps, keeps-given, arrived-keeps, lawful-rules, timed, refused-hears, admitted-hears}

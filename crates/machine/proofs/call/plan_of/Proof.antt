@@ -3,7 +3,6 @@ use Prim.Native.Nat.{_≤_, _-_}
 use mathlib.Core.Path.{refl, subst}
 use native.Mathlib.Omega.{arith}
 use Rattle.machine.proofs.PlanLaws.{PlanTo, plan-more, plan-whole}
-use borrow.Author.Needs.{needs}
 use Rattle.machine.proofs.call.plan_of.Statement.{statement}
 use Rattle.machine.proofs.call.plan_of.Tie as tie
 

@@ -32,10 +32,8 @@ use Rattle.theory.proofs.WellFormed.{WellFormed}
 use Rattle.theory.proofs.Spacing.{gap-anti}
 use Rattle.assurance.proofs.Arriving.{arrived}
 use Rattle.assurance.proofs.Stepping.{overAt, Stepped, step}
-use Rattle.spacings.specs.Sources.{sourcesWith, SourcesOf}
-use Rattle.spacings.specs.Gaps.{Asked, GapsOf}
 use Rattle.spacings.proofs.SourceLaws.{plain-pulses}
-use Rattle.spacings.proofs.GapLaws.{gap-of}
+use Rattle.spacings.proofs.GapLaws.{plain-gap}
 use Rattle.words.specs.declared.Words.{Words}
 use Rattle.arrivals.specs.Parts.{Known, Sourced}
 use Rattle.words.specs.Words.{awakeIn, Ages, Holds, holdsOn, Goes, Keeps, Above, raisedTo}
@@ -46,7 +44,7 @@ use Rattle.steps.proofs.StepLaws.{ages-same}
 use Rattle.machine.specs.declared.call.Call.{Call}
 use Rattle.machine.specs.declared.call.Advanced.{Advanced}
 use Rattle.model.specs.History.{isDone}
-use Rattle.machine.specs.Calls.{TablesOf, Tracks, dueBy, Timed, KeepsAfter, arrivalsEnd, plainAnswer, Heard, Hears}
+use Rattle.machine.specs.Calls.{planTicks, planPulses, SourcesIn, TablesOf, Tracks, dueBy, Timed, KeepsAfter, arrivalsEnd, plainAnswer, Heard, Hears}
 
 -- a mask with nothing left above s sources
 pub known : (d : Description) (mask s a : ℕ) → d .«source_count» ≡ s → s ≤ 16 → a ≡ mask / 2 ^ s → a ≡ 0 → Known d mask
@@ -129,15 +127,15 @@ pub rests-on : (t peak : ℕ) → 200 ≤ t → t ≤ peak → peak ≤ 3000 →
 rests-on t peak a b c = both (leb 200 t) (leb t 3000) (le-leb 200 t a) (le-leb t 3000 (omega arith))
 
 -- an arrival that is too soon, and none that is
-module _ (d : Description) (t mask peak tick sources : ℕ) (paces longest since fastest : List ℕ) (w : Words) (m : Machine) (g : WellFormed d) (s : SourcesOf d (sourcesWith sources paces)) (G : GapsOf d 200 longest) (k : Known d mask) (l : rulesKept d m ≡ true) (a : Ages d tick since m) (K : Keeps w fastest m) (q : peak ≡ max (w .peak) t) (low : 200 ≤ t) where
+module _ (d : Description) (t mask peak tick : ℕ) (plan since fastest : List ℕ) (w : Words) (m : Machine) (g : WellFormed d) (s : SourcesIn d plan) (k : Known d mask) (l : rulesKept d m ≡ true) (a : Ages d tick since m) (K : Keeps w fastest m) (q : peak ≡ max (w .peak) t) (low : 200 ≤ t) where
   abbrev due : ℕ → ℕ
-  due u = dueBy paces fastest peak u
+  due u = dueBy plan fastest peak u
 
   abbrev dueIn : ℕ → ℕ
   dueIn u = spacingOf d (max (fastestAt m u) t) (33 + u)
 
   due-gap : (u : ℕ) → u < d .«source_count» → due u ≡ spacingOf d (max (getD fastest u 0) peak) (33 + u)
-  due-gap u p = gap-of d (sourcesWith sources paces) (max (getD fastest u 0) peak) u s p
+  due-gap u p = plain-gap d (max (getD fastest u 0) peak) u (planTicks plan u) (planPulses plan u) (s u p)
 
   most : (u x : ℕ) → u < d .«source_count» → 200 ≤ x → spacingOf d x (33 + u) ≤ longestGap d u
   most u x p h = gap-anti d g (33 + u) (omega arith) (omega arith) 200 x (omega arith) h
@@ -171,13 +169,12 @@ module _ (d : Description) (t mask peak tick sources : ℕ) (paces longest since
       young (inl e) = omega (arith, h, a .here u z, a .before u z)
       young (inr e) = absurd (omega (arith, h, due-gap u z, most u (max (getD fastest u 0) peak) z (omega arith), a .here u z, a .before u z))
 
-  pub soon-none : ((u : ℕ) → heard mask u ≡ true → (getD since u 0 + due u ≤ tick) ⊎ (getD since u 0 + getD longest u 0 ≤ tick)) → false ≡ tooSoon d t (marksIn mask) m
+  pub soon-none : ((u : ℕ) → heard mask u ≡ true → getD since u 0 + due u ≤ tick) → false ≡ tooSoon d t (marksIn mask) m
   unfolding tooSoon
   soon-none past = sym (any-none (λ u. getD (marksIn mask) u false && ltb (ageAt m u) (dueIn u)) 0 (d .«source_count») (λ u x y. go u (omega arith) (heard mask u) refl))
     where
-      old : (u : ℕ) → u < d .«source_count» → (getD since u 0 + due u ≤ tick) ⊎ (getD since u 0 + getD longest u 0 ≤ tick) → (due u ≡ dueIn u) ⊎ (ageAt m u ≡ longestGap d u) → dueIn u ≤ ageAt m u
-      old u h (inl p) (inl e) = omega (arith, p, most u (max (fastestAt m u) t) h (omega arith), a .here u h)
-      old u h (inr p) (inl e) = omega (arith, p, G .at u h, most u (max (fastestAt m u) t) h (omega arith), a .here u h)
+      old : (u : ℕ) → u < d .«source_count» → getD since u 0 + due u ≤ tick → (due u ≡ dueIn u) ⊎ (ageAt m u ≡ longestGap d u) → dueIn u ≤ ageAt m u
+      old u h p (inl e) = omega (arith, p, most u (max (fastestAt m u) t) h (omega arith), a .here u h)
       old u h p (inr e) = omega (arith, most u (max (fastestAt m u) t) h (omega arith))
 
       go : (u : ℕ) → u < d .«source_count» → (b : Bool) → heard mask u ≡ b → (getD (marksIn mask) u false && ltb (ageAt m u) (dueIn u)) ≡ false
@@ -272,18 +269,17 @@ kept-most d w fastest m g e K u p = go (getD fastest u 0) refl
         omega (arith, within 200 (fastestAt m u) 3000 o .1)
 
 -- so that the spacings of arriving sources can be worked out
-pub timed : (pol : Policy) (d : Description) (t mask peak sources : ℕ) (w : Words) (rows runs paces longest used since fastest asked : List ℕ) (m : Machine) → TablesOf d rows runs paces longest sources → Tracks pol d w used since fastest m → rulesKept d m ≡ true → w .tick < 2 ^ 63 → Asked paces asked → Sourced mask → Known d mask → onKnob t ≡ true → peak ≡ max (w .peak) t → Timed mask peak paces since fastest asked
-timed pol d t mask peak sources w rows runs paces longest used since fastest asked m T R l early answers sourced k knob q = record {
+pub timed : (pol : Policy) (d : Description) (t mask peak : ℕ) (w : Words) (rows plan used since fastest : List ℕ) (m : Machine) → TablesOf d rows plan → Tracks pol d w used since fastest m → rulesKept d m ≡ true → w .tick < 2 ^ 63 → Sourced mask → Known d mask → onKnob t ≡ true → peak ≡ max (w .peak) t → Timed mask peak plan since fastest
+timed pol d t mask peak w rows plan used since fastest m T R l early sourced k knob q = record {
   sourced = sourced;
   at = λ u e. record {
     here = sourced u e;
     low = omega (arith, within 200 t 3000 knob .0);
     high = omega (arith, within 200 t 3000 knob .1, R .keeps .high);
-    few = plain-pulses (T .same-sources .at u (omega (arith, under u e, T .as-wide)));
+    few = plain-pulses (T .same-sources u (under u e));
     kept = kept-most d w fastest m (T .formed) l (R .keeps) u (under u e);
     early = omega (arith, R .holds .ages .before u (under u e));
   };
-  asked = answers;
 }
   where
     under : (u : ℕ) → heard mask u ≡ true → u < d .«source_count»
@@ -426,24 +422,22 @@ keeps-given t mask w w′ fastest m high a b K = record {
 }
 
 -- a refused call leaves all as it was, and ends as the plain machine's
-pub refused-hears : (rows paces longest : List ℕ) (sources : ℕ) (call : Call) (w : Words) (since fastest asked : List ℕ) (why : Refusal) (r : Advanced) → r ≡ record { outcome = Refused why 0; words = w } → ((p : Policy) (d : Description) (runs used : List ℕ) (m : Machine) → TablesOf d rows runs paces longest sources → judge d ≡ Done → lawful p d m ≡ true → Tracks p d w used since fastest m → record { outcome = Refused why 0; machine = m } ≡ plainAnswer p d m call) → Asked paces asked
-    → Hears rows paces longest sources call w since fastest r since fastest asked
-refused-hears rows paces longest sources call w since fastest asked why r e plain answers = record {
-  refuses = λ x place q p d runs used m T j l R.
-      (ap (λ (o : Outcome). record { outcome = o; machine = m }) (ap (λ (x : Advanced). x .outcome) e) ∙ plain p d runs used m T j l R, subst (λ (k : Words). Tracks p d k used since fastest m) (sym (ap (λ (x : Advanced). x .words) e)) R);
+pub refused-hears : (rows plan : List ℕ) (call : Call) (w : Words) (since fastest : List ℕ) (why : Refusal) (r : Advanced) → r ≡ record { outcome = Refused why 0; words = w } → ((p : Policy) (d : Description) (used : List ℕ) (m : Machine) → TablesOf d rows plan → judge d ≡ Done → lawful p d m ≡ true → Tracks p d w used since fastest m → record { outcome = Refused why 0; machine = m } ≡ plainAnswer p d m call)
+    → Hears rows plan call w since fastest r since fastest
+refused-hears rows plan call w since fastest why r e plain = record {
+  refuses = λ x place q p d used m T j l R.
+      (ap (λ (o : Outcome). record { outcome = o; machine = m }) (ap (λ (x : Advanced). x .outcome) e) ∙ plain p d used m T j l R, subst (λ (k : Words). Tracks p d k used since fastest m) (sym (ap (λ (x : Advanced). x .words) e)) R);
   hears = λ q. absurd (not-both (ap isDone q) (ap isDone (ap (λ (x : Advanced). x .outcome) e)));
-  asked = answers;
   then = ap (λ (x : Advanced). x .words .tick) e;
   runs = ap (λ (x : Advanced). x .words .running) e;
 }
 
 -- one that is not refused
-pub admitted-hears : (rows paces longest : List ℕ) (sources : ℕ) (call : Call) (w w′ : Words) (since fastest since′ fastest′ asked : List ℕ) (r : Advanced) → r ≡ record { outcome = Done; words = w′ } → ((p : Policy) (d : Description) (runs used : List ℕ) (m : Machine) → TablesOf d rows runs paces longest sources → judge d ≡ Done → lawful p d m ≡ true → Tracks p d w used since fastest m → Heard d call w′ used since′ fastest′ m) → Asked paces asked → w′ .tick ≡ w .tick → w′ .running ≡ w .running
-    → Hears rows paces longest sources call w since fastest r since′ fastest′ asked
-admitted-hears rows paces longest sources call w w′ since fastest since′ fastest′ asked r e come answers then runs = record {
+pub admitted-hears : (rows plan : List ℕ) (call : Call) (w w′ : Words) (since fastest since′ fastest′ : List ℕ) (r : Advanced) → r ≡ record { outcome = Done; words = w′ } → ((p : Policy) (d : Description) (used : List ℕ) (m : Machine) → TablesOf d rows plan → judge d ≡ Done → lawful p d m ≡ true → Tracks p d w used since fastest m → Heard d call w′ used since′ fastest′ m) → w′ .tick ≡ w .tick → w′ .running ≡ w .running
+    → Hears rows plan call w since fastest r since′ fastest′
+admitted-hears rows plan call w w′ since fastest since′ fastest′ r e come then runs = record {
   refuses = λ why place q. absurd (not-both (ap isDone (ap (λ (x : Advanced). x .outcome) e)) (ap isDone q));
-  hears = λ q p d runs used m T j l R. subst (λ (k : Words). Heard d call k used since′ fastest′ m) (sym (ap (λ (x : Advanced). x .words) e)) (come p d runs used m T j l R);
-  asked = answers;
+  hears = λ q p d used m T j l R. subst (λ (k : Words). Heard d call k used since′ fastest′ m) (sym (ap (λ (x : Advanced). x .words) e)) (come p d used m T j l R);
   then = ap (λ (x : Advanced). x .words .tick) e ∙ then;
   runs = ap (λ (x : Advanced). x .words .running) e ∙ runs;
 }

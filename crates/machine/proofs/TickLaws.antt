@@ -1,4 +1,4 @@
--- The tick call on a record: its tables, its arrivals as a mask, and its answer. Assumes nothing.
+-- The tick call on a record: its words, its arrivals as a mask, and its answer. Assumes nothing.
 use Prim.Native.Nat.{ℕ, zero, suc, _+_, _≤_, max}
 use mathlib.Core.Path.{_≡_, refl, sym, _∙_}
 use mathlib.Core.Bool.{Bool, true, false, _&&_}
@@ -18,29 +18,14 @@ use Rattle.lemmas.proofs.Tests.{and-left}
 use Rattle.lemmas.proofs.Table.{is-tab}
 use Rattle.theory.proofs.WellFormed.{WellFormed}
 use Rattle.sets.specs.Sets.{member}
-use Rattle.wiring.specs.declared.Wiring.{Wiring}
-use Rattle.wiring.specs.Rows.{RowsOf, WiringOf}
-use Rattle.spacings.specs.declared.Sources.{Sources}
-use Rattle.spacings.specs.Sources.{SourcesOf}
-use Rattle.spacings.specs.Gaps.{GapsOf}
+use Rattle.wiring.specs.Rows.{RowsOf}
 use Rattle.model.specs.Run.{heard, marksIn}
 use Rattle.words.specs.declared.Words.{Words}
 use Rattle.arrivals.specs.Parts.{Sourced}
 use Rattle.words.specs.Words.{raisedTo}
 use Rattle.records.specs.Record.{Packs}
-use Rattle.machine.specs.Calls.{TablesOf, Tracks}
+use Rattle.machine.specs.Calls.{Tracks}
 use Rattle.machine.proofs.CallLaws.{raised-some, kept-rule}
-
--- the tables of a wiring and of sources
-pub tables-of : (d : Description) (w : Wiring) (s : Sources) (longest : List ℕ) → WiringOf d w → SourcesOf d s → GapsOf d 200 longest → TablesOf d (w .rows) (w .runs) (s .paces) longest (w .sources)
-tables-of d w s longest r h g = record {
-  formed = r .formed;
-  rowed = r .rowed;
-  same-runs = r .same-runs;
-  as-wide = r .as-wide;
-  same-sources = record { counted = sym (r .as-wide); at = λ u p. h .at u (omega (arith, r .as-wide, h .counted)) };
-  spaced = g;
-}
 
 -- the words of a record that keeps the rules, beside its kept tempos
 pub packed-tracks : (pol : Policy) (d : Description) (rows : List ℕ) (m : Machine) (w : Words) (since : List ℕ) → WellFormed d → RowsOf d (d .«link_count») rows → rulesKept d m ≡ true → aloneRule pol m ≡ true → Packs pol rows m w since → Tracks pol d w (m .used) since (m .fastest) m

@@ -3,7 +3,6 @@ use Prim.Native.Nat.{ℕ, _+_, _^_, _≤_, _<_, max}
 use mathlib.Core.Bool.{Bool, true, false, cond}
 use mathlib.Core.List.{List}
 use mathlib.Core.Path.{_≡_}
-use mathlib.Core.Logic.{_⊎_}
 use lib.ListN.{getD, length}
 use Rattle.model.specs.declared.Description.{Description}
 use Rattle.model.specs.declared.Policy.{Policy}
@@ -14,6 +13,7 @@ use Rattle.model.specs.declared.Outcome.{Outcome}
 use Rattle.model.specs.declared.Outcome.the-variants.{Done, Refused}
 use Rattle.model.specs.declared.Refusal.{Refusal}
 use Rattle.model.specs.declared.Refusal.the-variants.{Stranger, TooSoon}
+use Rattle.model.specs.Refusals.{noSource}
 use Rattle.model.specs.File.{judge}
 use Rattle.model.specs.Verdicts.{judgeAt}
 use Rattle.model.specs.Machine.{fastestAt, arrive, ageAll, keptAfter, rulesKept, lawful, strangers, tooSoon, plainTick}
@@ -23,23 +23,42 @@ use Rattle.theory.proofs.WellFormed.{WellFormed}
 use Rattle.wiring.specs.declared.Wiring.{Wiring}
 use Rattle.wiring.specs.Rows.{RowsOf, WiringOf}
 use Rattle.spacings.specs.declared.Sources.{Sources}
-use Rattle.spacings.specs.Sources.{pulsesAt, spacingAt, sourcesWith, SourcesOf}
-use Rattle.spacings.specs.Gaps.{Asked, GapsOf}
+use Rattle.spacings.specs.Sources.{spacingBy, PlainOf, SourcesOf}
+use Rattle.spacings.specs.Gaps.{GapsOf}
 use Rattle.words.specs.declared.Words.{Words}
 use Rattle.arrivals.specs.Parts.{Known, Sourced}
 use Rattle.words.specs.Words.{Ages, Holds, Goes, Keeps, Above, raisedTo}
-use Rattle.steps.specs.Steps.{worked}
+use Rattle.steps.specs.Steps.{worked, RunsIn}
 use Rattle.machine.specs.declared.call.Call.{Call}
 use Rattle.machine.specs.declared.call.Advanced.{Advanced}
 
--- the tables of an accepted description
-pub record TablesOf (d : Description) (rows runs paces longest : List ℕ) (sources : ℕ) : Type 0 where
+-- in a plan the ticks of source 33 + u, its pulses, and how many sources there are
+abbrev pub planTicks : List ℕ → ℕ → ℕ
+planTicks plan u = getD plan (32 + u) 0
+
+abbrev pub planPulses : List ℕ → ℕ → ℕ
+planPulses plan u = getD plan (48 + u) 0
+
+abbrev pub planSources : List ℕ → ℕ
+planSources plan = getD plan 64 0
+
+-- they are those of a description's sources
+abbrev pub SourcesIn : Description → List ℕ → Type 0
+SourcesIn d plan = (u : ℕ) → u < d .«source_count» → PlainOf (getD (d .sources) u noSource .source) (planTicks plan u) (planPulses plan u)
+
+-- a plan is made of longest runs, the numbers of sources, and their count
+pub record PlanOf (runs paces : List ℕ) (sources : ℕ) (plan : List ℕ) : Type 0 where
+  pub runs-at : (k : ℕ) → k < 32 → getD plan k 0 ≡ getD runs k 0
+  pub paces-at : (k : ℕ) → k < 32 → getD plan (32 + k) 0 ≡ getD paces k 0
+  pub counted : planSources plan ≡ sources
+
+-- the tables of an accepted description: its rows and its plan
+pub record TablesOf (d : Description) (rows plan : List ℕ) : Type 0 where
   pub formed : WellFormed d
   pub rowed : RowsOf d (d .«link_count») rows
-  pub same-runs : runs ≡ d .runs
-  pub as-wide : d .«source_count» ≡ sources
-  pub same-sources : SourcesOf d (sourcesWith sources paces)
-  pub spaced : GapsOf d 200 longest
+  pub same-runs : RunsIn d plan
+  pub same-sources : SourcesIn d plan
+  pub as-wide : d .«source_count» ≡ planSources plan
 
 -- the words and tables that hold a whole record
 pub record Tracks (p : Policy) (d : Description) (w : Words) (used since fastest : List ℕ) (m : Machine) : Type 0 where
@@ -48,40 +67,33 @@ pub record Tracks (p : Policy) (d : Description) (w : Words) (used since fastest
   pub keeps : Keeps w fastest m
 
 -- a source's numbers are such that its spacing can be worked out
-pub record TimedAt (u peak : ℕ) (paces since fastest : List ℕ) : Type 0 where
+pub record TimedAt (u peak : ℕ) (plan since fastest : List ℕ) : Type 0 where
   pub here : u < 16
   pub low : 200 ≤ peak
   pub high : peak ≤ 3000
-  pub few : pulsesAt paces u ≤ 960
+  pub few : planPulses plan u ≤ 960
   pub kept : getD fastest u 0 ≤ 3000
   pub early : getD since u 0 < 2 ^ 63
 
--- its spacing at the fastest tempo given
-abbrev pub dueBy : List ℕ → List ℕ → ℕ → ℕ → ℕ
-dueBy paces fastest peak u = spacingAt paces u (max (getD fastest u 0) peak)
-
--- whether it comes too soon: that spacing has not passed, or else it has or the longest has
-pub record SoonAt (u peak : ℕ) (paces longest since fastest : List ℕ) (tick : ℕ) (r : Bool) (memo′ : List ℕ) : Type 0 where
-  pub soon : r ≡ true → tick < getD since u 0 + dueBy paces fastest peak u
-  pub late : r ≡ false → (getD since u 0 + dueBy paces fastest peak u ≤ tick) ⊎ (getD since u 0 + getD longest u 0 ≤ tick)
-  pub asked : Asked paces memo′
-
 -- and so are those of every arriving source
-pub record Timed (mask peak : ℕ) (paces since fastest memo : List ℕ) : Type 0 where
+pub record Timed (mask peak : ℕ) (plan since fastest : List ℕ) : Type 0 where
   pub sourced : Sourced mask
-  pub at : (u : ℕ) → heard mask u ≡ true → TimedAt u peak paces since fastest
-  pub asked : Asked paces memo
+  pub at : (u : ℕ) → heard mask u ≡ true → TimedAt u peak plan since fastest
+
+-- a source's spacing at the fastest tempo given
+abbrev pub dueBy : List ℕ → List ℕ → ℕ → ℕ → ℕ
+dueBy plan fastest peak u = spacingBy (planTicks plan u) (planPulses plan u) (max (getD fastest u 0) peak)
 
 -- whether an arriving source comes too soon, peak being the fastest tempo given since the last arrival
-pub record SoonIs (mask peak : ℕ) (paces longest since fastest : List ℕ) (tick : ℕ) (r : Bool) (memo′ : List ℕ) : Type 0 where
-  pub told : (d : Description) (t sources : ℕ) (w : Words) (m : Machine) → WellFormed d → SourcesOf d (sourcesWith sources paces) → GapsOf d 200 longest → Known d mask → rulesKept d m ≡ true
-      → Ages d tick since m → Keeps w fastest m → peak ≡ max (w .peak) t → 200 ≤ t → r ≡ tooSoon d t (marksIn mask) m
-  pub asked : Asked paces memo′
+abbrev pub SoonIs : ℕ → ℕ → List ℕ → List ℕ → List ℕ → ℕ → Bool → Type 0
+SoonIs mask peak plan since fastest tick r =
+    (d : Description) (t : ℕ) (w : Words) (m : Machine) → WellFormed d → SourcesIn d plan → Known d mask → rulesKept d m ≡ true
+    → Ages d tick since m → Keeps w fastest m → peak ≡ max (w .peak) t → 200 ≤ t → r ≡ tooSoon d t (marksIn mask) m
 
 -- steps 2 to 4 are made
-pub record RunsOn (p : Policy) (rows runs : List ℕ) (finish : Bool) (w : Words) (used : List ℕ) (r : Advanced) (used′ : List ℕ) : Type 0 where
+pub record RunsOn (p : Policy) (rows plan : List ℕ) (finish : Bool) (w : Words) (used : List ℕ) (r : Advanced) (used′ : List ℕ) : Type 0 where
   pub done : r .outcome ≡ Done
-  pub ran : (d : Description) (since : List ℕ) (m : Machine) → WellFormed d → RowsOf d (d .«link_count») rows → runs ≡ d .runs
+  pub ran : (d : Description) (since : List ℕ) (m : Machine) → WellFormed d → RowsOf d (d .«link_count») rows → RunsIn d plan
       → Goes p (w .running) used → Holds d w used since m → Holds d (r .words) used′ since (ageAll d (worked p d finish m))
   pub goes : length used ≡ 32 → Goes p (w .running) used → Goes p (r .words .running) used′
   pub then : r .words .tick ≡ w .tick + 1
@@ -103,24 +115,22 @@ arrivalsEnd d t mask m =
     Done)
 
 -- a call may be made: its tables are those of some accepted description, and the words hold a record that keeps the rules
-pub record Going (p : Policy) (rows runs paces longest : List ℕ) (sources mask : ℕ) (w : Words) (used since fastest memo : List ℕ) : Type 0 where
+pub record Going (p : Policy) (rows plan : List ℕ) (mask : ℕ) (w : Words) (used since fastest : List ℕ) : Type 0 where
   pub description : Description
   pub machine : Machine
   pub judged : judge description ≡ Done
-  pub tables : TablesOf description rows runs paces longest sources
+  pub tables : TablesOf description rows plan
   pub tracks : Tracks p description w used since fastest machine
   pub keeps : lawful p description machine ≡ true
   pub sourced : Sourced mask
   pub fits : mask < 2 ^ 64
   pub early : w .tick < 2 ^ 63
-  pub asked : Asked paces memo
 
--- the same with some model, longest runs and what tasks have used
-pub record Hearing (rows paces longest : List ℕ) (sources mask : ℕ) (w : Words) (since fastest memo : List ℕ) : Type 0 where
+-- the same with some model and what tasks have used
+pub record Hearing (rows plan : List ℕ) (mask : ℕ) (w : Words) (since fastest : List ℕ) : Type 0 where
   pub policy : Policy
-  pub runs : List ℕ
   pub used : List ℕ
-  pub going : Going policy rows runs paces longest sources mask w used since fastest memo
+  pub going : Going policy rows plan mask w used since fastest
 
 -- the plain machine's answer to a call
 abbrev pub plainAnswer : Policy → Description → Machine → Call → Ticked
@@ -135,22 +145,20 @@ pub record Heard (d : Description) (call : Call) (w : Words) (used since fastest
   pub high : (call .tempo ≤ w .peak) × (call .tempo ≤ 3000)
 
 -- a call is refused as by the plain machine, and all is as it was; or else it is not
-pub record Hears (rows paces longest : List ℕ) (sources : ℕ) (call : Call) (w : Words) (since fastest : List ℕ) (r : Advanced) (since′ fastest′ memo′ : List ℕ) : Type 0 where
-  pub refuses : (why : Refusal) (place : ℕ) → r .outcome ≡ Refused why place → (p : Policy) (d : Description) (runs used : List ℕ) (m : Machine) → TablesOf d rows runs paces longest sources → judge d ≡ Done → lawful p d m ≡ true → Tracks p d w used since fastest m
+pub record Hears (rows plan : List ℕ) (call : Call) (w : Words) (since fastest : List ℕ) (r : Advanced) (since′ fastest′ : List ℕ) : Type 0 where
+  pub refuses : (why : Refusal) (place : ℕ) → r .outcome ≡ Refused why place → (p : Policy) (d : Description) (used : List ℕ) (m : Machine) → TablesOf d rows plan → judge d ≡ Done → lawful p d m ≡ true → Tracks p d w used since fastest m
       → (record { outcome = r .outcome; machine = m } ≡ plainAnswer p d m call) × Tracks p d (r .words) used since′ fastest′ m
-  pub hears : r .outcome ≡ Done → (p : Policy) (d : Description) (runs used : List ℕ) (m : Machine) → TablesOf d rows runs paces longest sources → judge d ≡ Done → lawful p d m ≡ true → Tracks p d w used since fastest m
+  pub hears : r .outcome ≡ Done → (p : Policy) (d : Description) (used : List ℕ) (m : Machine) → TablesOf d rows plan → judge d ≡ Done → lawful p d m ≡ true → Tracks p d w used since fastest m
       → Heard d call (r .words) used since′ fastest′ m
-  pub asked : Asked paces memo′
   pub then : r .words .tick ≡ w .tick
   pub runs : r .words .running ≡ w .running
 
 -- the call ends as the plain machine's, and its words hold the record which that leaves
-pub record Advances (p : Policy) (rows runs paces longest : List ℕ) (sources : ℕ) (call : Call) (w : Words) (used since fastest : List ℕ) (r : Advanced) (used′ since′ fastest′ memo′ : List ℕ) : Type 0 where
-  pub ends : (d : Description) (m : Machine) → TablesOf d rows runs paces longest sources → judge d ≡ Done → lawful p d m ≡ true → Tracks p d w used since fastest m
+pub record Advances (p : Policy) (rows plan : List ℕ) (call : Call) (w : Words) (used since fastest : List ℕ) (r : Advanced) (used′ since′ fastest′ : List ℕ) : Type 0 where
+  pub ends : (d : Description) (m : Machine) → TablesOf d rows plan → judge d ≡ Done → lawful p d m ≡ true → Tracks p d w used since fastest m
       → r .outcome ≡ plainAnswer p d m call .outcome
-  pub leaves : (d : Description) (m : Machine) → TablesOf d rows runs paces longest sources → judge d ≡ Done → lawful p d m ≡ true → Tracks p d w used since fastest m
+  pub leaves : (d : Description) (m : Machine) → TablesOf d rows plan → judge d ≡ Done → lawful p d m ≡ true → Tracks p d w used since fastest m
       → Tracks p d (r .words) used′ since′ fastest′ (plainAnswer p d m call .machine)
-  pub asked : Asked paces memo′
   pub soon : r .words .tick ≤ w .tick + 1
 
 -- a wiring, sources and spacings for 20.0 of some description that is judged as done

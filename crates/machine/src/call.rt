@@ -6,19 +6,19 @@ use arrivals::larger;
 use model::Outcome;
 use model::Policy;
 use model::Refusal;
-use spacings::gap_at;
 use spacings::on_knob;
+use spacings::spacing_by;
 use steps::pass;
 use steps::work;
 use words::Words;
 use words::long;
 ghost use mathlib.Core.Path.{_≡_};
 ghost use Prim.Native.Nat.{_+_, _≤_, _<_, _/_, _^_};
+ghost use lib.ListN.{getD};
 ghost use lib.Dec.{ltb};
 ghost use Rattle.model.specs.declared.Outcome.the-variants.{Done, Refused};
-ghost use Rattle.spacings.specs.Gaps.{Asked};
 ghost use Rattle.steps.specs.Steps.{Workable};
-ghost use Rattle.machine.specs.Calls.{TimedAt, SoonAt, Timed, SoonIs, Hearing, Hears, RunsOn, Going, Advances};
+ghost use Rattle.machine.specs.Calls.{PlanOf, TimedAt, dueBy, Timed, SoonIs, Hearing, Hears, RunsOn, Going, Advances};
 
 // What a caller brings to a tick: the arrivals, whose bit u is source 33 + u, the tempo, and finish.
 pub struct Call {
@@ -33,8 +33,25 @@ pub struct Advanced {
     pub words: Words,
 }
 
+// What a call reads of a description beside its rows, in one array that can be lent: the longest run of task k + 1 at place k, the ticks of source 33 + u
+// at 32 + u, its pulses at 48 + u, and how many sources there are at 64.
+pub fn plan_of(runs: &[u32; 32], paces: &[u32; 32], sources: usize) -> [u32; 65]
+    requires { ⌜ sources ≤ 16 ⌝ }
+    ensures { λ r. ⌜ PlanOf (now (runs .entry)) (now (paces .entry)) sources r ⌝ }
+{
+    let mut plan = [0u32; 65];
+    let mut k: usize = 0;
+    while k < 32 {
+        plan[k] = runs[k];
+        plan[32 + k] = paces[k];
+        k += 1;
+    }
+    plan[64] = sources as u32;
+    plan
+}
+
 // 15: what is left of a mask above the sources that exist.
-fn above(mask: u64, sources: usize) -> u64
+fn above(mask: u64, sources: u32) -> u64
     requires { ⌜ sources ≤ 16 ⌝ }
     ensures { λ r. ⌜ r ≡ mask / 2 ^ sources ⌝ }
 {
@@ -50,46 +67,39 @@ fn young(since: u64, gap: u32, tick: u64) -> bool
 }
 
 // Whether the age of source 33 + u is below its spacing at the fastest tempo given since it last fired. Peak is the fastest of those since the last
-// arrival, this tick's included. Where its longest spacing has passed, no other is worked out.
-fn soon_at<'a>(
+// arrival, this tick's included.
+fn soon_at(
     u: usize,
     peak: u32,
-    paces: &'a [u32; 32],
-    longest: &'a [u32; 16],
+    plan: &[u32; 65],
     since: &[u64; 16],
     fastest: &[u32; 16],
     tick: u64,
-    asked: &mut [u32; 32],
 ) -> bool
-    requires { ⌜ TimedAt u peak (now paces) (now since) (now fastest) × Asked (now paces) (now asked) ⌝ }
-    ensures { λ r. ⌜ SoonAt u peak (now (paces .entry)) (now (longest .entry)) (now (since .entry)) (now (fastest .entry)) tick r (now (asked .exit)) ⌝ }
+    requires { ⌜ TimedAt u peak (now plan) (now since) (now fastest) ⌝ }
+    ensures { λ r. ⌜ r ≡ ltb tick (getD (now (since .entry)) u 0 + dueBy (now (plan .entry)) (now (fastest .entry)) peak u) ⌝ }
 {
-    if !young(since[u], longest[u], tick) {
-        return false;
-    }
     let tempo = larger(fastest[u], peak);
-    let gap = gap_at(paces, u, tempo, asked);
+    let gap = spacing_by(plan[32 + u], plan[48 + u], tempo);
     young(since[u], gap, tick)
 }
 
 // 14: the age of an arriving source is below its spacing.
-fn too_soon<'a>(
+fn too_soon(
     mask: u64,
     peak: u32,
-    paces: &'a [u32; 32],
-    longest: &'a [u32; 16],
+    plan: &[u32; 65],
     since: &[u64; 16],
     fastest: &[u32; 16],
     tick: u64,
-    asked: &mut [u32; 32],
 ) -> bool
-    requires { ⌜ Timed mask peak (now paces) (now since) (now fastest) (now asked) ⌝ }
-    ensures { λ r. ⌜ SoonIs mask peak (now (paces .entry)) (now (longest .entry)) (now (since .entry)) (now (fastest .entry)) tick r (now (asked .exit)) ⌝ }
+    requires { ⌜ Timed mask peak (now plan) (now since) (now fastest) ⌝ }
+    ensures { λ r. ⌜ SoonIs mask peak (now (plan .entry)) (now (since .entry)) (now (fastest .entry)) tick r ⌝ }
 {
     let mut rest = mask;
     while rest != 0 {
         let u = sets::first(rest);
-        if soon_at(u, peak, paces, longest, since, fastest, tick, &mut *asked) {
+        if soon_at(u, peak, plan, since, fastest, tick) {
             return true;
         }
         rest = sets::rest(rest);
@@ -115,19 +125,16 @@ fn admitted(words: Words) -> Advanced
 
 // 11, 15 and 14 in this order, or else step 1: the words once the sources have fired. The record keeps the rules, so that 16 is not looked for. Whether a
 // source comes is asked first: that is what a processor foretells least.
-fn hear<'a>(
+fn hear(
     rows: &[u64; 576],
-    paces: &'a [u32; 32],
-    longest: &'a [u32; 16],
-    sources: usize,
+    plan: &[u32; 65],
     call: Call,
     w: Words,
     since: &mut [u64; 16],
     fastest: &mut [u32; 16],
-    asked: &mut [u32; 32],
 ) -> Advanced
-    requires { ⌜ Hearing (now rows) (now paces) (now longest) sources (call .mask) w (now since) (now fastest) (now asked) ⌝ }
-    ensures { λ r. ⌜ Hears (now (rows .entry)) (now (paces .entry)) (now (longest .entry)) sources call w (now (since .entry)) (now (fastest .entry)) r (now (since .exit)) (now (fastest .exit)) (now (asked .exit)) ⌝ }
+    requires { ⌜ Hearing (now rows) (now plan) (call .mask) w (now since) (now fastest) ⌝ }
+    ensures { λ r. ⌜ Hears (now (rows .entry)) (now (plan .entry)) call w (now (since .entry)) (now (fastest .entry)) r (now (since .exit)) (now (fastest .exit)) ⌝ }
 {
     let mask = call.mask;
     let t = call.tempo;
@@ -140,66 +147,52 @@ fn hear<'a>(
     if !on_knob(t) {
         return refused(Refusal::OffKnob, w);
     }
-    if above(mask, sources) != 0 {
+    if above(mask, plan[64]) != 0 {
         return refused(Refusal::Stranger, w);
     }
     let peak = larger(w.peak, t);
-    if too_soon(mask, peak, paces, longest, since, fastest, w.tick, asked) {
+    if too_soon(mask, peak, plan, since, fastest, w.tick) {
         return refused(Refusal::TooSoon, w);
     }
     admitted(arrive(rows, t, peak, mask, w, since, fastest))
 }
 
 // Steps 2 to 4, once the arrivals have fired.
-fn run_on<'a>(
+fn run_on(
     p: Policy,
-    rows: &'a [u64; 576],
-    runs: &'a [u32; 32],
+    rows: &[u64; 576],
+    plan: &[u32; 65],
     finish: bool,
     w: Words,
     used: &mut [u32; 32],
 ) -> Advanced
     requires { ⌜ Workable w (now used) × (w .tick < 2 ^ 63) ⌝ }
-    ensures { λ r. ⌜ RunsOn p (now (rows .entry)) (now (runs .entry)) finish w (now (used .entry)) r (now (used .exit)) ⌝ }
+    ensures { λ r. ⌜ RunsOn p (now (rows .entry)) (now (plan .entry)) finish w (now (used .entry)) r (now (used .exit)) ⌝ }
 {
-    let worked = work(p, rows, runs, finish, w, used);
+    let worked = work(p, rows, plan, finish, w, used);
     let words = pass(worked);
     let outcome = Outcome::Done;
     Advanced { outcome, words }
 }
 
 // One call: refused, or else a tick.
-pub fn advance<'a>(
+pub fn advance(
     p: Policy,
-    rows: &'a [u64; 576],
-    runs: &'a [u32; 32],
-    paces: &'a [u32; 32],
-    longest: &'a [u32; 16],
-    sources: usize,
+    rows: &[u64; 576],
+    plan: &[u32; 65],
     call: Call,
     w: Words,
     used: &mut [u32; 32],
     since: &mut [u64; 16],
     fastest: &mut [u32; 16],
-    asked: &mut [u32; 32],
 ) -> Advanced
-    requires { ⌜ Going p (now rows) (now runs) (now paces) (now longest) sources (call .mask) w (now used) (now since) (now fastest) (now asked) ⌝ }
-    ensures { λ r. ⌜ Advances p (now (rows .entry)) (now (runs .entry)) (now (paces .entry)) (now (longest .entry)) sources call w (now (used .entry)) (now (since .entry)) (now (fastest .entry)) r (now (used .exit)) (now (since .exit)) (now (fastest .exit)) (now (asked .exit)) ⌝ }
+    requires { ⌜ Going p (now rows) (now plan) (call .mask) w (now used) (now since) (now fastest) ⌝ }
+    ensures { λ r. ⌜ Advances p (now (rows .entry)) (now (plan .entry)) call w (now (used .entry)) (now (since .entry)) (now (fastest .entry)) r (now (used .exit)) (now (since .exit)) (now (fastest .exit)) ⌝ }
 {
-    let heard = hear(
-        rows,
-        paces,
-        longest,
-        sources,
-        call,
-        w,
-        since,
-        fastest,
-        asked,
-    );
+    let heard = hear(rows, plan, call, w, since, fastest);
     let outcome = heard.outcome;
     let Outcome::Done = outcome else {
         return heard;
     };
-    run_on(p, rows, runs, call.finish, heard.words, used)
+    run_on(p, rows, plan, call.finish, heard.words, used)
 }

@@ -2,6 +2,7 @@
 
 use crate::call::Call;
 use crate::call::advance;
+use crate::call::plan_of;
 use arrivals::raise;
 use model::Arrivals;
 use model::Machine;
@@ -67,21 +68,17 @@ pub fn tick_judged(
     let mut since = packed.since;
     let mut used = m.used;
     let mut fastest = m.fastest;
-    let mut asked = [0u32; 32];
     let sources = w.sources;
+    let plan = plan_of(&w.runs, &s.paces, sources);
     let done = advance(
         p,
         &w.rows,
-        &w.runs,
-        &s.paces,
-        &longest,
-        sources,
+        &plan,
         call,
         words,
         &mut used,
         &mut since,
         &mut fastest,
-        &mut asked,
     );
     let outcome = done.outcome;
     let left = done.words;

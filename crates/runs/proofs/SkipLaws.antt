@@ -136,7 +136,7 @@ module _ (pol : Policy) (d : Description) (g : WellFormed d) (j : judge d ≡ Do
       held : Holds d (laterBy 1 w₁) used₁ since (ageAll d (worked pol d (callIn bytes i .finish) (before i)))
       held =
           passes d (at w n) (laterBy 1 (at w n)) (set used (h - 1) (spent used + 1)) since (worked pol d (callIn bytes i .finish) (before i)) g (later-same (at w n)) refl
-          (work-on pol d (at w n) used since (d .runs) (callIn bytes i .finish) (before i) g refl (going (at w n) used i R) (R .goes) (R .holds) awake set-is h l p most (at w n)
+          (work-on pol d (at w n) used since (d .runs) (callIn bytes i .finish) (before i) g (λ k x. refl) (going (at w n) used i R) (R .goes) (R .holds) awake set-is h l p most (at w n)
           (marks-more d (at w n) (before i) h (spent used + 1) p most (omega (arith, some, ap (λ (us : List ℕ). getD us (h - 1) 0) (R .holds .same-used))) (omega arith) (R .holds .marks)) refl
           (or-false (eqb (spent used + 1) (runOf d h)) _ (ne-eqb (spent used + 1) (runOf d h) (λ e. omega (arith, low))) (rw f refl)))
 

@@ -3,6 +3,7 @@
 use arrivals::raise;
 use machine::call::Call;
 use machine::call::advance;
+use machine::call::plan_of;
 use machine::tick::refused;
 use model::Description;
 use model::Outcome;
@@ -55,11 +56,11 @@ pub fn run_wired(
         return refused(Refusal::ShortPage, blank_machine());
     }
     let sources = w.sources;
+    let plan = plan_of(&w.runs, &s.paces, sources);
     let mut words = begin();
     let mut used = [0u32; 32];
     let mut since = since_of(&longest);
     let mut fastest = [0u32; 16];
-    let mut asked = [0u32; 32];
     let mut i: usize = 0;
     let mut head = peek(calls, 0, n);
     while i < n {
@@ -72,16 +73,12 @@ pub fn run_wired(
         let done = advance(
             p,
             &w.rows,
-            &w.runs,
-            &s.paces,
-            &longest,
-            sources,
+            &plan,
             call,
             words,
             &mut used,
             &mut since,
             &mut fastest,
-            &mut asked,
         );
         let outcome = done.outcome;
         outcomes[i] = code(outcome);

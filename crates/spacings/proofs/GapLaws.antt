@@ -4,7 +4,7 @@ use mathlib.Core.Path.{_≡_, refl, sym, ap, _∙_}
 use mathlib.Core.Bool.{true}
 use mathlib.Core.List.{List}
 use native.Mathlib.Omega.{arith}
-use lib.ListN.{length, getD, set, length-set, replicate}
+use lib.ListN.{length, getD, set, replicate}
 use lib.Seq.{getD-set-same, getD-set-other}
 use Rattle.model.specs.declared.Source.{Source}
 use Rattle.model.specs.declared.Description.{Description}
@@ -13,13 +13,13 @@ use Rattle.model.specs.Refusals.{noSource}
 use Rattle.model.specs.Field.{onScale}
 use Rattle.model.specs.Delays.{spacing, spacingOf}
 use Rattle.model.specs.Verdicts.{onKnob}
-use Rattle.lemmas.proofs.Tests.{Cmp, less, same, more, cmp, at-or-not, within}
+use Rattle.lemmas.proofs.Tests.{at-or-not, within}
 use Rattle.lemmas.proofs.Table.{stored, getD-same}
 use Rattle.theory.proofs.WellFormed.{WellFormed}
 use Rattle.theory.proofs.Spacing.{spacing-some, spacing-most}
 use Rattle.spacings.specs.declared.Sources.{Sources}
-use Rattle.spacings.specs.Sources.{ticksAt, pulsesAt, spacingAt, PlainOf, SourcesOf, Scaled}
-use Rattle.spacings.specs.Gaps.{Room, Asked, Fit, GapsBy, GapsOf}
+use Rattle.spacings.specs.Sources.{ticksAt, pulsesAt, spacingBy, spacingAt, PlainOf, SourcesOf, Scaled}
+use Rattle.spacings.specs.Gaps.{Room, Fit, GapsBy, GapsOf}
 use Rattle.spacings.proofs.SourceLaws.{plain-spacing}
 
 -- the spacings of the first n sources
@@ -58,9 +58,12 @@ gap-place d t u =
     let e : 33 + u - 33 ≡ u = omega arith in
     ap (λ (k : ℕ). spacing (getD (d .sources) k noSource .source) t) (sym e)
 
--- the sources of a description have its spacings
+-- the numbers of a description's source have its spacings
+pub plain-gap : (d : Description) (t u ticks pulses : ℕ) → PlainOf (getD (d .sources) u noSource .source) ticks pulses → spacingBy ticks pulses t ≡ spacingOf d t (33 + u)
+plain-gap d t u ticks pulses k = plain-spacing k t ∙ gap-place d t u
+
 pub gap-of : (d : Description) (s : Sources) (t u : ℕ) → SourcesOf d s → u < d .«source_count» → spacingAt (s .paces) u t ≡ spacingOf d t (33 + u)
-gap-of d s t u h p = plain-spacing (h .at u (omega (arith, h .counted))) t ∙ gap-place d t u
+gap-of d s t u h p = plain-gap d t u (ticksAt (s .paces) u) (pulsesAt (s .paces) u) (h .at u (omega (arith, h .counted)))
 
 pub gaps-of : (d : Description) (s : Sources) (t : ℕ) (gaps : List ℕ) → SourcesOf d s → GapsBy s t gaps → GapsOf d t gaps
 gaps-of d s t gaps h b =
@@ -82,20 +85,3 @@ source-on d u g p =
 -- a tempo on the knob
 pub knob-is : (t : ℕ) → onKnob t ≡ true → (200 ≤ t) × (t ≤ 3000)
 knob-is t e = within 200 t 3000 e
-
--- spacings that were asked for: none yet, and one more
-pub asked-none : (paces : List ℕ) → Asked paces (replicate 32 0)
-asked-none paces = record { sized = refl; at = λ u h p. absurd (omega (arith, getD-same {A = ℕ} 32 u 0)) }
-
-pub asked-more : (paces asked : List ℕ) (u t g : ℕ) → u < 16 → g ≡ spacingAt paces u t → Asked paces asked → Asked paces (set (set asked u t) (16 + u) g)
-asked-more paces asked u t g h e a = record { sized = length-set (set asked u t) (16 + u) g ∙ length-set asked u t ∙ a .sized; at = λ k p. go k p (cmp k u) }
-  where
-    other : (k : ℕ) → k < 16 → (k ≡ u → ⊥) → 1 ≤ getD (set (set asked u t) (16 + u) g) k 0 → getD (set (set asked u t) (16 + u) g) (16 + k) 0 ≡ spacingAt paces k (getD (set (set asked u t) (16 + u) g) k 0)
-    other k p ne =
-        rw (getD-set-other (set asked u t) (16 + u) k g 0 (λ x. omega arith), getD-set-other asked u k t 0 ne, getD-set-other (set asked u t) (16 + u) (16 + k) g 0 (λ x. ne (omega arith)), getD-set-other asked u (16 + k) t 0 (λ x. omega arith)) (a .at k p)
-
-    go : (k : ℕ) → k < 16 → Cmp k u → 1 ≤ getD (set (set asked u t) (16 + u) g) k 0 → getD (set (set asked u t) (16 + u) g) (16 + k) 0 ≡ spacingAt paces k (getD (set (set asked u t) (16 + u) g) k 0)
-    go k p (less x) = other k p (λ y. omega arith)
-    go k p (same x) = λ q.
-        rw (x, getD-set-other (set asked u t) (16 + u) u g 0 (λ y. omega arith), getD-set-same asked u t 0 (omega (arith, a .sized)), getD-set-same (set asked u t) (16 + u) g 0 (omega (arith, length-set asked u t, a .sized))) e
-    go k p (more x) = other k p (λ y. omega arith)

@@ -13,11 +13,6 @@ pub record Room (gaps : List ℕ) : Type 0 where
   pub sized : length gaps ≡ 16
   pub most : (u : ℕ) → getD gaps u 0 ≤ 1000000000
 
--- tempos that were asked for, 0 for none, and 16 places on the spacings at them
-pub record Asked (paces asked : List ℕ) : Type 0 where
-  pub sized : length asked ≡ 32
-  pub at : (u : ℕ) → u < 16 → 1 ≤ getD asked u 0 → getD asked (16 + u) 0 ≡ spacingAt paces u (getD asked u 0)
-
 -- spacings of n sources from the scale
 pub record Fit (n : ℕ) (gaps : List ℕ) : Type 0 where
   pub some : (u : ℕ) → u < n → 1 ≤ getD gaps u 0

@@ -8,8 +8,8 @@ ghost use Rattle.model.specs.declared.Field.the-variants.{OfSource};
 ghost use Rattle.model.specs.Field.{onScale};
 ghost use Rattle.model.specs.Verdicts.{onKnob};
 ghost use Rattle.theory.proofs.WellFormed.{WellFormed};
-ghost use Rattle.spacings.specs.Sources.{pacedTicks, ticksIn, pulsesIn, pulsesAt, spacingBy, spacingAt, sourcesWith, SourcesOf, Scaled};
-ghost use Rattle.spacings.specs.Gaps.{Room, Asked, GapsBy, GapsOf};
+ghost use Rattle.spacings.specs.Sources.{pacedTicks, ticksIn, pulsesIn, spacingBy, sourcesWith, SourcesOf, Scaled};
+ghost use Rattle.spacings.specs.Gaps.{Room, GapsBy, GapsOf};
 
 // The sources of a description in plain numbers, as one row that can be lent: the ticks of source 33 + u at place u, its pulses at 16 + u. A paced
 // one has pulses, and its spacing is its ticks divided by tempo and pulses; of a fixed one the pulses are 0, and its spacing is its ticks.
@@ -77,7 +77,7 @@ pub fn sources_of(d: Description) -> Sources
 }
 
 // The spacing of a source at tempo t.
-fn spacing_by(ticks: u32, pulses: u32, t: u32) -> u32
+pub fn spacing_by(ticks: u32, pulses: u32, t: u32) -> u32
     requires { ⌜ (pulses ≤ 960) × (200 ≤ t) × (t ≤ 3000) ⌝ }
     ensures { λ r. ⌜ r ≡ spacingBy ticks pulses t ⌝ }
 {
@@ -85,21 +85,6 @@ fn spacing_by(ticks: u32, pulses: u32, t: u32) -> u32
         return ticks;
     }
     ticks / (t * pulses)
-}
-
-// The spacing of source u at tempo t. A table has for each source the tempo that was asked for last at place u, 0 for none, and the spacing at it at
-// 16 + u: a spacing is worked out only where another tempo is asked for.
-pub fn gap_at(paces: &[u32; 32], u: usize, t: u32, asked: &mut [u32; 32]) -> u32
-    requires { ⌜ (u < 16) × (pulsesAt (now paces) u ≤ 960) × (200 ≤ t) × (t ≤ 3000) × Asked (now paces) (now asked) ⌝ }
-    ensures { λ r. ⌜ (r ≡ spacingAt (now (paces .entry)) u t) × Asked (now (paces .entry)) (now (asked .exit)) ⌝ }
-{
-    if asked[u] == t {
-        return asked[16 + u];
-    }
-    let gap = spacing_by(paces[u], paces[16 + u], t);
-    asked[u] = t;
-    asked[16 + u] = gap;
-    gap
 }
 
 // Fills a lent table with the spacing of each of m sources at tempo t, from their plain numbers.

@@ -20,7 +20,7 @@ use Rattle.assurance.proofs.Ending.{Cleared, cleared, Aged, aged}
 use Rattle.sets.specs.Sets.{member}
 use Rattle.words.specs.declared.Words.{Words}
 use Rattle.words.specs.Words.{awakeIn, Marks, Ages, Holds, Goes}
-use Rattle.steps.specs.Steps.{Chosen, ended, worked}
+use Rattle.steps.specs.Steps.{Chosen, ended, worked, RunsIn}
 use Rattle.words.proofs.WordLaws.{SameMarks, marks-same}
 use Rattle.steps.proofs.MarkLaws.{marks-aged}
 use Rattle.steps.proofs.ChoiceLaws.{choose-is, choose-none, chosen-awake}
@@ -80,7 +80,7 @@ ended-any : (d : Description) (h more : ℕ) (m : Machine) → ended d h (setUse
 ended-any d h more m = ap (λ (us : List ℕ). clearInto d h (record { awake = set (m .awake) (h - 1) (againAt m h); used = us; waiting = m .waiting; dropped = m .dropped; ages = m .ages; fastest = m .fastest; again = set (m .again) (h - 1) false; late = m .late })) (set-twice (m .used) (h - 1) more 0)
 
 -- h is the task that runs, which had used so much before
-module _ (pol : Policy) (d : Description) (w : Words) (used since runs : List ℕ) (finish : Bool) (m : Machine) (g : WellFormed d) (s : runs ≡ d .runs) (going : 0 < w .running → awakeIn w (w .running) ≡ true) (r : Goes pol (w .running) used) (H : Holds d w used since m) (awake : ℕ) (set-is : (k : ℕ) → member awake k ≡ awakeIn w k) (h : ℕ) (l : Chosen (w .running) awake h) (p : 1 ≤ h) (q : h ≤ 32) where
+module _ (pol : Policy) (d : Description) (w : Words) (used since plan : List ℕ) (finish : Bool) (m : Machine) (g : WellFormed d) (s : RunsIn d plan) (going : 0 < w .running → awakeIn w (w .running) ≡ true) (r : Goes pol (w .running) used) (H : Holds d w used since m) (awake : ℕ) (set-is : (k : ℕ) → member awake k ≡ awakeIn w k) (h : ℕ) (l : Chosen (w .running) awake h) (p : 1 ≤ h) (q : h ≤ 32) where
   abbrev spent : ℕ
   spent = getD used (h - 1) 0
 
@@ -102,18 +102,18 @@ module _ (pol : Policy) (d : Description) (w : Words) (used since runs : List �
   work-is : worked pol d finish m ≡ endRun d h finish (setUsed h more m)
   work-is = ap (λ k. endRun d k finish (runTask k m)) (choose-is pol d w used since m g r H going awake h set-is l) ∙ ap (endRun d h finish) ran-is
 
-  test-is : (eqb more (getD runs (h - 1) 0) || finish) ≡ (eqb (usedAt (setUsed h more m) h) (runOf d h) || finish)
-  test-is = rw (s, getD-set-same (m .used) (h - 1) more 0 (omega (arith, H .marks .sized .useds))) refl
+  run-is : getD plan (h - 1) 0 ≡ runOf d h
+  run-is = s (h - 1) (omega arith)
 
-  run-is : getD runs (h - 1) 0 ≡ runOf d h
-  run-is = rw s refl
+  test-is : (eqb more (getD plan (h - 1) 0) || finish) ≡ (eqb (usedAt (setUsed h more m) h) (runOf d h) || finish)
+  test-is = rw (run-is, getD-set-same (m .used) (h - 1) more 0 (omega (arith, H .marks .sized .useds))) refl
 
   -- a run of one tick at the most has used nothing, and ends
-  pub single-spent : getD runs (h - 1) 0 ≡ 1 → spent ≡ 0
+  pub single-spent : getD plan (h - 1) 0 ≡ 1 → spent ≡ 0
   single-spent e = omega (arith, H .below h p here, spent-is, run-is)
 
-  pub single-ends : getD runs (h - 1) 0 ≡ 1 → (eqb more (getD runs (h - 1) 0) || finish) ≡ true
-  single-ends e = or-left (eqb more (getD runs (h - 1) 0)) finish (eq-eqb more (getD runs (h - 1) 0) (omega (arith, single-spent e)))
+  pub single-ends : getD plan (h - 1) 0 ≡ 1 → (eqb more (getD plan (h - 1) 0) || finish) ≡ true
+  single-ends e = or-left (eqb more (getD plan (h - 1) 0)) finish (eq-eqb more (getD plan (h - 1) 0) (omega (arith, single-spent e)))
 
   below-else : (us : List ℕ) (x : ℕ) → us ≡ set (m .used) (h - 1) x → x < runOf d h → (k : ℕ) → 1 ≤ k → k ≤ d .«task_count» → getD us (k - 1) 0 < runOf d k
   below-else us x e b k o t = rw (e, getD-task (m .used) h x 0 k o p (omega (arith, H .marks .sized .useds))) (by (eqb k h) refl)
@@ -123,9 +123,9 @@ module _ (pol : Policy) (d : Description) (w : Words) (used since runs : List �
       by false f = rw f (H .below k o t)
 
   -- it goes on
-  pub work-on : (w′ : Words) → Marks d w′ (setUsed h more m) → w′ .tick ≡ w .tick → (eqb more (getD runs (h - 1) 0) || finish) ≡ false → Holds d w′ (set used (h - 1) more) since (worked pol d finish m)
+  pub work-on : (w′ : Words) → Marks d w′ (setUsed h more m) → w′ .tick ≡ w .tick → (eqb more (getD plan (h - 1) 0) || finish) ≡ false → Holds d w′ (set used (h - 1) more) since (worked pol d finish m)
   work-on w′ marks n f =
-      let ne : more ≡ getD runs (h - 1) 0 → ⊥ = eqb-false more (getD runs (h - 1) 0) (or-false-left (eqb more (getD runs (h - 1) 0)) finish f) in
+      let ne : more ≡ getD plan (h - 1) 0 → ⊥ = eqb-false more (getD plan (h - 1) 0) (or-false-left (eqb more (getD plan (h - 1) 0)) finish f) in
       subst (λ (k : Machine). Holds d w′ (set used (h - 1) more) since k) (sym (work-is ∙ end-off d h finish (setUsed h more m) (sym test-is ∙ f)))
       (record {
         marks = marks;
@@ -135,7 +135,7 @@ module _ (pol : Policy) (d : Description) (w : Words) (used since runs : List �
       })
 
   -- it is over
-  pub work-over : (w₁ w₂ : Words) (used′ : List ℕ) → used′ ≡ set used (h - 1) 0 → (eqb more (getD runs (h - 1) 0) || finish) ≡ true → Marks d w₁ (ended d h m) → ((k : Machine) → Marks d w₁ k → Marks d w₂ (fire d h k)) → w₂ .tick ≡ w .tick → Holds d w₂ used′ since (worked pol d finish m)
+  pub work-over : (w₁ w₂ : Words) (used′ : List ℕ) → used′ ≡ set used (h - 1) 0 → (eqb more (getD plan (h - 1) 0) || finish) ≡ true → Marks d w₁ (ended d h m) → ((k : Machine) → Marks d w₁ k → Marks d w₂ (fire d h k)) → w₂ .tick ≡ w .tick → Holds d w₂ used′ since (worked pol d finish m)
   work-over w₁ w₂ used′ e f over fires n =
       let m₁ : Machine = complete h m in
       let z₁ : Sized m₁ = record { awakes = length-set (m .awake) (h - 1) (againAt m h) ∙ H .marks .sized .awakes; useds = length-set (m .used) (h - 1) 0 ∙ H .marks .sized .useds; waitings = H .marks .sized .waitings; droppeds = H .marks .sized .droppeds; ages = H .marks .sized .ages; fastests = H .marks .sized .fastests; agains = length-set (m .again) (h - 1) false ∙ H .marks .sized .agains; lates = H .marks .sized .lates } in

@@ -63,8 +63,12 @@ pub record GoesOn (p : Policy) (rows : List ℕ) (h spent : ℕ) (w w′ : Words
 abbrev pub worked : Policy → Description → Bool → Machine → Machine
 worked p d finish m = let h = choose p d m in endRun d h finish (runTask h m)
 
-pub record Works (p : Policy) (rows runs : List ℕ) (finish : Bool) (w : Words) (used : List ℕ) (w′ : Words) (used′ : List ℕ) : Type 0 where
-  pub worked-on : (d : Description) (since : List ℕ) (m : Machine) → WellFormed d → RowsOf d (d .«link_count») rows → runs ≡ d .runs
+-- the first numbers of a plan are the longest runs of a description's tasks
+abbrev pub RunsIn : Description → List ℕ → Type 0
+RunsIn d plan = (k : ℕ) → k < 32 → getD plan k 0 ≡ getD (d .runs) k 0
+
+pub record Works (p : Policy) (rows plan : List ℕ) (finish : Bool) (w : Words) (used : List ℕ) (w′ : Words) (used′ : List ℕ) : Type 0 where
+  pub worked-on : (d : Description) (since : List ℕ) (m : Machine) → WellFormed d → RowsOf d (d .«link_count») rows → RunsIn d plan
       → Goes p (w .running) used → Holds d w used since m → Holds d w′ used′ since (worked p d finish m)
   pub goes : length used ≡ 32 → Goes p (w .running) used → Goes p (w′ .running) used′
   pub then : w′ .tick ≡ w .tick

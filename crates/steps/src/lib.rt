@@ -122,30 +122,30 @@ fn go_on(p: Policy, rows: &[u64; 576], h: usize, spent: u32, w: Words) -> Words
     w
 }
 
-// Steps 2 and 3: the task that goes on runs, or else the highest awake, and its run ends if this tick ends it. A run of one tick at the most is not
-// looked up.
-pub fn work<'a>(
+// Steps 2 and 3: the task that goes on runs, or else the highest awake, and its run ends if this tick ends it. Of the plan only the longest runs are
+// read, which are its first numbers. A run of one tick at the most is not looked up.
+pub fn work(
     p: Policy,
-    rows: &'a [u64; 576],
-    runs: &'a [u32; 32],
+    rows: &[u64; 576],
+    plan: &[u32; 65],
     finish: bool,
     w: Words,
     used: &mut [u32; 32],
 ) -> Words
     requires { ⌜ Workable w (now used) ⌝ }
-    ensures { λ r. ⌜ Works p (now (rows .entry)) (now (runs .entry)) finish w (now (used .entry)) r (now (used .exit)) ⌝ }
+    ensures { λ r. ⌜ Works p (now (rows .entry)) (now (plan .entry)) finish w (now (used .entry)) r (now (used .exit)) ⌝ }
 {
     let awake = sets::union(w.woken, w.part);
     if awake == 0 {
         return w;
     }
     let h = chosen(w.running, awake);
-    if runs[h - 1] == 1 {
+    if plan[h - 1] == 1 {
         return fire(rows, h, sleep(rows, h, w));
     }
     let spent = used[h - 1];
     let more = spent + 1;
-    if ends(more, runs[h - 1], finish) {
+    if ends(more, plan[h - 1], finish) {
         used[h - 1] = 0;
         return fire(rows, h, end(rows, h, spent, w));
     }

@@ -56,11 +56,11 @@ returns-2 c =
     let A = c .before .before .before .before .before .before .before .args in
     let h = c .before .before .before .before .chosen .result in
     let b = low (c .before .before .before .before) in
-    let single : getD (A .runs .now) (h - 1) 0 ≡ 1 = c .before .before .if2 .taken in
+    let single : getD (A .plan .now) (h - 1) 0 ≡ 1 = c .before .before .if2 .taken in
     record {
       worked-on = λ d since m g r s e H.
-          let spent = single-spent (A .p) d (A .w) (A .used .now) since (A .runs .now) (A .finish) m g s (c .before .before .before .before .before .before .before .pre .going) e H (c .before .before .before .before .before .before .union .result) (c .before .before .before .before .before .before .union .ensures) h (c .before .before .before .before .chosen .ensures) (b .0) (b .1) single in
-          work-over (A .p) d (A .w) (A .used .now) since (A .runs .now) (A .finish) m g s (c .before .before .before .before .before .before .before .pre .going) e H (c .before .before .before .before .before .before .union .result) (c .before .before .before .before .before .before .union .ensures) h (c .before .before .before .before .chosen .ensures) (b .0) (b .1) (c .before .sleep .result) (c .fire .result) (A .used .now) (set-same (A .used .now) (h - 1) 0 (omega (arith, ap length (H .same-used), H .marks .sized .useds, b)) spent) (single-ends (A .p) d (A .w) (A .used .now) since (A .runs .now) (A .finish) m g s (c .before .before .before .before .before .before .before .pre .going) e H (c .before .before .before .before .before .before .union .result) (c .before .before .before .before .before .before .union .ensures) h (c .before .before .before .before .chosen .ensures) (b .0) (b .1) single) (c .before .sleep .ensures .slept d m g r (b .0) (b .1) (spent-is (A .p) d (A .w) (A .used .now) since (A .runs .now) (A .finish) m g s (c .before .before .before .before .before .before .before .pre .going) e H (c .before .before .before .before .before .before .union .result) (c .before .before .before .before .before .before .union .ensures) h (c .before .before .before .before .chosen .ensures) (b .0) (b .1) ∙ spent) (H .marks)) (λ k. c .fire .ensures .fired d k g r) (c .fire .ensures .then ∙ c .before .sleep .ensures .then);
+          let spent = single-spent (A .p) d (A .w) (A .used .now) since (A .plan .now) (A .finish) m g s (c .before .before .before .before .before .before .before .pre .going) e H (c .before .before .before .before .before .before .union .result) (c .before .before .before .before .before .before .union .ensures) h (c .before .before .before .before .chosen .ensures) (b .0) (b .1) single in
+          work-over (A .p) d (A .w) (A .used .now) since (A .plan .now) (A .finish) m g s (c .before .before .before .before .before .before .before .pre .going) e H (c .before .before .before .before .before .before .union .result) (c .before .before .before .before .before .before .union .ensures) h (c .before .before .before .before .chosen .ensures) (b .0) (b .1) (c .before .sleep .result) (c .fire .result) (A .used .now) (set-same (A .used .now) (h - 1) 0 (omega (arith, ap length (H .same-used), H .marks .sized .useds, b)) spent) (single-ends (A .p) d (A .w) (A .used .now) since (A .plan .now) (A .finish) m g s (c .before .before .before .before .before .before .before .pre .going) e H (c .before .before .before .before .before .before .union .result) (c .before .before .before .before .before .before .union .ensures) h (c .before .before .before .before .chosen .ensures) (b .0) (b .1) single) (c .before .sleep .ensures .slept d m g r (b .0) (b .1) (spent-is (A .p) d (A .w) (A .used .now) since (A .plan .now) (A .finish) m g s (c .before .before .before .before .before .before .before .pre .going) e H (c .before .before .before .before .before .before .union .result) (c .before .before .before .before .before .before .union .ensures) h (c .before .before .before .before .chosen .ensures) (b .0) (b .1) ∙ spent) (H .marks)) (λ k. c .fire .ensures .fired d k g r) (c .fire .ensures .then ∙ c .before .sleep .ensures .then);
       goes = λ z e. subst (λ n. Goes (A .p) n (A .used .now)) (sym (c .fire .ensures .runs ∙ c .before .sleep .ensures .runs)) e;
       then = c .fire .ensures .then ∙ c .before .sleep .ensures .then;
       knob = (c .fire .ensures .knob .0 ∙ c .before .sleep .ensures .knob .0, c .fire .ensures .knob .1 ∙ c .before .sleep .ensures .knob .1);
@@ -111,7 +111,7 @@ returns-3 c =
     let h = c .before .before .before .before .before .before .before .before .chosen .result in
     let b = low (c .before .before .before .before .before .before .before .before) in
     record {
-      worked-on = λ d since m g r s e H. work-over (A .p) d (A .w) (A .used .now) since (A .runs .now) (A .finish) m g s (c .before .before .before .before .before .before .before .before .before .before .before .pre .going) e H (c .before .before .before .before .before .before .before .before .before .before .union .result) (c .before .before .before .before .before .before .before .before .before .before .union .ensures) h (c .before .before .before .before .before .before .before .before .chosen .ensures) (b .0) (b .1) (c .before .end .result) (c .fire2 .result) _ refl (sym (c .before .before .before .ends .ensures) ∙ c .before .before .if3 .taken) (c .before .end .ensures .over d m g r (b .0) (b .1) (spent-is (A .p) d (A .w) (A .used .now) since (A .runs .now) (A .finish) m g s (c .before .before .before .before .before .before .before .before .before .before .before .pre .going) e H (c .before .before .before .before .before .before .before .before .before .before .union .result) (c .before .before .before .before .before .before .before .before .before .before .union .ensures) h (c .before .before .before .before .before .before .before .before .chosen .ensures) (b .0) (b .1)) (H .marks)) (λ k. c .fire2 .ensures .fired d k g r) (c .fire2 .ensures .then ∙ c .before .end .ensures .then);
+      worked-on = λ d since m g r s e H. work-over (A .p) d (A .w) (A .used .now) since (A .plan .now) (A .finish) m g s (c .before .before .before .before .before .before .before .before .before .before .before .pre .going) e H (c .before .before .before .before .before .before .before .before .before .before .union .result) (c .before .before .before .before .before .before .before .before .before .before .union .ensures) h (c .before .before .before .before .before .before .before .before .chosen .ensures) (b .0) (b .1) (c .before .end .result) (c .fire2 .result) _ refl (sym (c .before .before .before .ends .ensures) ∙ c .before .before .if3 .taken) (c .before .end .ensures .over d m g r (b .0) (b .1) (spent-is (A .p) d (A .w) (A .used .now) since (A .plan .now) (A .finish) m g s (c .before .before .before .before .before .before .before .before .before .before .before .pre .going) e H (c .before .before .before .before .before .before .before .before .before .before .union .result) (c .before .before .before .before .before .before .before .before .before .before .union .ensures) h (c .before .before .before .before .before .before .before .before .chosen .ensures) (b .0) (b .1)) (H .marks)) (λ k. c .fire2 .ensures .fired d k g r) (c .fire2 .ensures .then ∙ c .before .end .ensures .then);
       goes = λ z e. goes-over (A .p) (A .w .running) (A .used .now) h (b .0) (b .1) z (c .before .before .before .before .before .before .before .before .chosen .ensures .goes) e (c .fire2 .result .running) (c .fire2 .ensures .runs ∙ c .before .end .ensures .runs ∙ ended-running (A .p) (A .w .running) (A .used .now) h (b .0) (b .1) z (c .before .before .before .before .before .before .before .before .chosen .ensures .goes) e);
       then = c .fire2 .ensures .then ∙ c .before .end .ensures .then;
       knob = (c .fire2 .ensures .knob .0 ∙ c .before .end .ensures .knob .0, c .fire2 .ensures .knob .1 ∙ c .before .end .ensures .knob .1);
@@ -135,7 +135,7 @@ returns-4 c =
     let h = c .before .before .before .before .before .before .before .chosen .result in
     let b = low (c .before .before .before .before .before .before .before) in
     record {
-      worked-on = λ d since m g r s e H. work-on (A .p) d (A .w) (A .used .now) since (A .runs .now) (A .finish) m g s (c .before .before .before .before .before .before .before .before .before .before .pre .going) e H (c .before .before .before .before .before .before .before .before .before .union .result) (c .before .before .before .before .before .before .before .before .before .union .ensures) h (c .before .before .before .before .before .before .before .chosen .ensures) (b .0) (b .1) (c .go-on .result) (c .go-on .ensures .gone d m (getD (A .used .now) (h - 1) 0 + 1) g r (b .0) (b .1) (spent-is (A .p) d (A .w) (A .used .now) since (A .runs .now) (A .finish) m g s (c .before .before .before .before .before .before .before .before .before .before .pre .going) e H (c .before .before .before .before .before .before .before .before .before .union .result) (c .before .before .before .before .before .before .before .before .before .union .ensures) h (c .before .before .before .before .before .before .before .chosen .ensures) (b .0) (b .1)) (awake-is (A .p) d (A .w) (A .used .now) since (A .runs .now) (A .finish) m g s (c .before .before .before .before .before .before .before .before .before .before .pre .going) e H (c .before .before .before .before .before .before .before .before .before .union .result) (c .before .before .before .before .before .before .before .before .before .union .ensures) h (c .before .before .before .before .before .before .before .chosen .ensures) (b .0) (b .1)) (omega arith) (H .marks)) (c .go-on .ensures .then) (sym (c .before .before .ends .ensures) ∙ c .before .if3 .left);
+      worked-on = λ d since m g r s e H. work-on (A .p) d (A .w) (A .used .now) since (A .plan .now) (A .finish) m g s (c .before .before .before .before .before .before .before .before .before .before .pre .going) e H (c .before .before .before .before .before .before .before .before .before .union .result) (c .before .before .before .before .before .before .before .before .before .union .ensures) h (c .before .before .before .before .before .before .before .chosen .ensures) (b .0) (b .1) (c .go-on .result) (c .go-on .ensures .gone d m (getD (A .used .now) (h - 1) 0 + 1) g r (b .0) (b .1) (spent-is (A .p) d (A .w) (A .used .now) since (A .plan .now) (A .finish) m g s (c .before .before .before .before .before .before .before .before .before .before .pre .going) e H (c .before .before .before .before .before .before .before .before .before .union .result) (c .before .before .before .before .before .before .before .before .before .union .ensures) h (c .before .before .before .before .before .before .before .chosen .ensures) (b .0) (b .1)) (awake-is (A .p) d (A .w) (A .used .now) since (A .plan .now) (A .finish) m g s (c .before .before .before .before .before .before .before .before .before .before .pre .going) e H (c .before .before .before .before .before .before .before .before .before .union .result) (c .before .before .before .before .before .before .before .before .before .union .ensures) h (c .before .before .before .before .before .before .before .chosen .ensures) (b .0) (b .1)) (omega arith) (H .marks)) (c .go-on .ensures .then) (sym (c .before .before .ends .ensures) ∙ c .before .if3 .left);
       goes = λ z e. goes-more (A .p) (A .w .running) (A .used .now) h (b .0) (b .1) z (c .before .before .before .before .before .before .before .chosen .ensures .goes) e (c .go-on .result .running) (getD (A .used .now) (h - 1) 0 + 1) (omega arith) (c .go-on .ensures .runs ∙ going-running (A .p) (A .w .running) (A .used .now) h (b .0) (b .1) z (c .before .before .before .before .before .before .before .chosen .ensures .goes) e);
       then = c .go-on .ensures .then;
       knob = c .go-on .ensures .knob;

@@ -1,27 +1,22 @@
 -- `hear` meets its contract: nothing comes, or some sources do; refused, or they have fired. Assumes nothing.
-use Prim.Native.Nat.{ℕ, _/_, _^_, _≤_, max}
+use Prim.Native.Nat.{max}
 use mathlib.Core.Path.{_≡_, sym, ap, subst, _∙_}
 use mathlib.Core.Bool.{true, false}
 use native.Mathlib.Omega.{arith}
 use borrow.Author.Tests.{not-true, not-false}
-use Rattle.model.specs.declared.Description.{Description}
 use Rattle.model.specs.declared.Machine.{Machine}
 use Rattle.model.specs.declared.Refusal.the-variants.{OffKnob, Stranger, TooSoon}
 use Rattle.model.specs.Verdicts.{onKnob}
 use Rattle.model.specs.Run.{marksIn}
 use Rattle.lemmas.proofs.Tests.{within}
 use Rattle.words.specs.declared.Words.{Words}
-use Rattle.arrivals.specs.Parts.{Known}
 use Rattle.words.specs.Words.{Holds}
 use Rattle.arrivals.proofs.TempoLaws.{tempos-hold}
-use Rattle.machine.proofs.CallLaws.{tick-off, tick-refused, judged-at, end-stranger, end-soon, end-none, strangers-none, strangers-some, silent-known, silent-soon, silent-arrive, silent-keeps, keeps-given, arrived-keeps, lawful-rules, timed, refused-hears, admitted-hears}
+use Rattle.machine.proofs.CallLaws.{known, tick-off, tick-refused, judged-at, end-stranger, end-soon, end-none, strangers-none, strangers-some, silent-known, silent-soon, silent-arrive, silent-keeps, keeps-given, arrived-keeps, lawful-rules, timed, refused-hears, admitted-hears}
+use Rattle.machine.specs.Calls.{planSources}
 use borrow.Author.Needs.{needs}
 use Rattle.machine.proofs.call.hear.Statement.{statement}
 use Rattle.machine.proofs.call.hear.Tie as tie
-
--- what is above the sources that exist is nothing: the mask is known
-known : (d : Description) (mask sources above : ℕ) → d .«source_count» ≡ sources → sources ≤ 16 → above ≡ mask / 2 ^ sources → above ≡ 0 → Known d mask
-known d mask sources above e few q z = (omega arith, ap (λ n. mask / 2 ^ n) e ∙ sym q ∙ z)
 
 on-knob-requires : tie.Need-on-knob-requires
 on-knob-requires c κs = search needs
@@ -33,7 +28,7 @@ returns : tie.Need-returns
 returns c =
     let A = c .before .before .before .before .args in
     let off : onKnob (A .call .tempo) ≡ false = sym (c .before .before .on-knob .ensures) ∙ not-true (c .before .before .on-knob .result) (c .before .if2 .taken) in
-    refused-hears (A .rows .now) (A .paces .now) (A .longest .now) (A .sources) (A .call) (A .w) (A .since .now) (A .fastest .now) _ OffKnob (c .refused .result) (c .refused .ensures) (λ p d runs used m T j l R. tick-off p d (A .call .tempo) m (record { marks = marksIn (A .call .mask) }) (A .call .finish) j off) (c .before .before .before .before .pre .going .asked)
+    refused-hears (A .rows .now) (A .plan .now) (A .call) (A .w) (A .since .now) (A .fastest .now) OffKnob (c .refused .result) (c .refused .ensures) (λ p d used m T j l R. tick-off p d (A .call .tempo) m (record { marks = marksIn (A .call .mask) }) (A .call .finish) j off)
 
 larger-requires : tie.Need-larger-requires
 larger-requires c κs = search needs
@@ -54,13 +49,13 @@ returns-2 c =
     let given = c .before .at-tempos in
     let low : given .result .low ≡ A .w .low = ap (λ (x : Words). x .low) (given .ensures) in
     let peak : given .result .peak ≡ max (A .w .peak) t = ap (λ (x : Words). x .peak) (given .ensures) ∙ c .before .before .larger .ensures in
-    admitted-hears (A .rows .now) (A .paces .now) (A .longest .now) (A .sources) (A .call) (A .w) (given .result) (A .since .now) (A .fastest .now) (A .since .now) (A .fastest .now) _ (c .admitted .result) (c .admitted .ensures) (λ p d runs used m T j l R. record {
+    admitted-hears (A .rows .now) (A .plan .now) (A .call) (A .w) (given .result) (A .since .now) (A .fastest .now) (A .since .now) (A .fastest .now) (c .admitted .result) (c .admitted .ensures) (λ p d used m T j l R. record {
       judged = judged-at d t j on;
       passed = sym (end-none d t mask m (strangers-none d mask (silent-known d mask (T .formed) e)) (silent-soon d t mask m (T .formed) e));
       arrived = subst (λ (k : Machine). Holds d (given .result) used (A .since .now) k) (silent-arrive d mask m (T .formed) e) (tempos-hold d (A .w .low) (c .before .before .larger .result) (A .w) (given .result) used (A .since .now) m (given .ensures) (R .holds));
       keeps = keeps-given t mask (A .w) (given .result) (A .fastest .now) m (within 200 t 3000 on .1) low peak (silent-keeps t mask (A .w) (A .fastest .now) m e (R .keeps));
       high = (omega arith, within 200 t 3000 on .1);
-    }) (c .before .before .before .before .before .before .pre .going .asked) (ap (λ (x : Words). x .tick) (given .ensures)) (ap (λ (x : Words). x .running) (given .ensures))
+    }) (ap (λ (x : Words). x .tick) (given .ensures)) (ap (λ (x : Words). x .running) (given .ensures))
 
 on-knob-requires-2 : tie.Need-on-knob-requires-2
 on-knob-requires-2 c κs = search needs
@@ -72,22 +67,25 @@ returns-3 : tie.Need-returns-3
 returns-3 c =
     let A = c .before .before .before .before .args in
     let off : onKnob (A .call .tempo) ≡ false = sym (c .before .before .on-knob2 .ensures) ∙ not-true (c .before .before .on-knob2 .result) (c .before .if3 .taken) in
-    refused-hears (A .rows .now) (A .paces .now) (A .longest .now) (A .sources) (A .call) (A .w) (A .since .now) (A .fastest .now) _ OffKnob (c .refused2 .result) (c .refused2 .ensures) (λ p d runs used m T j l R. tick-off p d (A .call .tempo) m (record { marks = marksIn (A .call .mask) }) (A .call .finish) j off) (c .before .before .before .before .pre .going .asked)
+    refused-hears (A .rows .now) (A .plan .now) (A .call) (A .w) (A .since .now) (A .fastest .now) OffKnob (c .refused2 .result) (c .refused2 .ensures) (λ p d used m T j l R. tick-off p d (A .call .tempo) m (record { marks = marksIn (A .call .mask) }) (A .call .finish) j off)
+
+element-copy-out-above : tie.Need-element-copy-out-above
+element-copy-out-above c = search needs
 
 above-requires : tie.Need-above-requires
-above-requires c κs = omega (arith, c .before .before .before .pre .going .tables .as-wide, c .before .before .before .pre .going .tables .formed .fields .few-sources)
+above-requires c κs = omega (arith, c .before .before .before .before .pre .going .tables .as-wide, c .before .before .before .before .pre .going .tables .formed .fields .few-sources)
 
 refused-requires-3 : tie.Need-refused-requires-3
 refused-requires-3 c κs = search needs
 
 returns-4 : tie.Need-returns-4
 returns-4 c =
-    let A = c .before .before .before .before .before .before .args in
+    let A = c .before .before .before .before .before .before .before .args in
     let t = A .call .tempo in
     let mask = A .call .mask in
-    let on : onKnob t ≡ true = sym (c .before .before .before .before .on-knob2 .ensures) ∙ not-false (c .before .before .before .before .on-knob2 .result) (c .before .before .before .if3 .left) in
-    refused-hears (A .rows .now) (A .paces .now) (A .longest .now) (A .sources) (A .call) (A .w) (A .since .now) (A .fastest .now) _ Stranger (c .refused3 .result) (c .refused3 .ensures)
-    (λ p d runs used m T j l R. tick-refused p d t mask m (A .call .finish) Stranger 0 (judged-at d t j on) l (sym (end-stranger d t mask m (strangers-some d mask (A .sources) (T .as-wide) (omega (arith, T .as-wide, T .formed .fields .few-sources)) (c .before .before .before .before .before .before .pre .going .fits) (c .before .before .before .before .before .before .pre .going .sourced) (λ z. c .before .if4 .taken (c .before .before .above .ensures ∙ z)))))) (c .before .before .before .before .before .before .pre .going .asked)
+    let on : onKnob t ≡ true = sym (c .before .before .before .before .before .on-knob2 .ensures) ∙ not-false (c .before .before .before .before .before .on-knob2 .result) (c .before .before .before .before .if3 .left) in
+    refused-hears (A .rows .now) (A .plan .now) (A .call) (A .w) (A .since .now) (A .fastest .now) Stranger (c .refused3 .result) (c .refused3 .ensures)
+    (λ p d used m T j l R. tick-refused p d t mask m (A .call .finish) Stranger 0 (judged-at d t j on) l (sym (end-stranger d t mask m (strangers-some d mask (planSources (A .plan .now)) (T .as-wide) (omega (arith, T .as-wide, T .formed .fields .few-sources)) (c .before .before .before .before .before .before .before .pre .going .fits) (c .before .before .before .before .before .before .before .pre .going .sourced) (λ z. c .before .if4 .taken (c .before .before .above .ensures ∙ z))))))
 
 larger-requires-2 : tie.Need-larger-requires-2
 larger-requires-2 c κs = search needs
@@ -102,7 +100,7 @@ too-soon-requires c κs =
     let T = G .tables in
     let d = G .description in
     let on : onKnob t ≡ true = sym (c .before .before .before .before .before .before .before .on-knob2 .ensures) ∙ not-false (c .before .before .before .before .before .before .before .on-knob2 .result) (c .before .before .before .before .before .before .if3 .left) in
-    timed (S .policy) d t mask (c .before .before .before .larger2 .result) (A .sources) (A .w) (A .rows .now) (S .runs) (A .paces .now) (A .longest .now) (S .used) (A .since .now) (A .fastest .now) (A .asked .now) (G .machine) T (G .tracks) (lawful-rules (S .policy) d (G .machine) (G .keeps)) (G .early) (G .asked) (G .sourced) (known d mask (A .sources) (c .before .before .before .before .before .above .result) (T .as-wide) (omega (arith, T .as-wide, T .formed .fields .few-sources)) (c .before .before .before .before .before .above .ensures) (c .before .before .before .before .if4 .left)) on (c .before .before .before .larger2 .ensures)
+    timed (S .policy) d t mask (c .before .before .larger2 .result) (A .w) (A .rows .now) (A .plan .now) (S .used) (A .since .now) (A .fastest .now) (G .machine) T (G .tracks) (lawful-rules (S .policy) d (G .machine) (G .keeps)) (G .early) (G .sourced) (known d mask (planSources (A .plan .now)) (c .before .before .before .before .above .result) (T .as-wide) (omega (arith, T .as-wide, T .formed .fields .few-sources)) (c .before .before .before .before .above .ensures) (c .before .before .before .if4 .left)) on (c .before .before .larger2 .ensures)
 
 refused-requires-4 : tie.Need-refused-requires-4
 refused-requires-4 c κs = search needs
@@ -113,10 +111,10 @@ returns-5 c =
     let t = A .call .tempo in
     let mask = A .call .mask in
     let on : onKnob t ≡ true = sym (c .before .before .before .before .before .before .before .before .before .before .on-knob2 .ensures) ∙ not-false (c .before .before .before .before .before .before .before .before .before .before .on-knob2 .result) (c .before .before .before .before .before .before .before .before .before .if3 .left) in
-    refused-hears (A .rows .now) (A .paces .now) (A .longest .now) (A .sources) (A .call) (A .w) (A .since .now) (A .fastest .now) _ TooSoon (c .refused4 .result) (c .refused4 .ensures)
-    (λ p d runs used m T j l R.
-    let K = known d mask (A .sources) (c .before .before .before .before .before .before .before .before .above .result) (T .as-wide) (omega (arith, T .as-wide, T .formed .fields .few-sources)) (c .before .before .before .before .before .before .before .before .above .ensures) (c .before .before .before .before .before .before .before .if4 .left) in
-    tick-refused p d t mask m (A .call .finish) TooSoon 0 (judged-at d t j on) l (sym (end-soon d t mask m (strangers-none d mask K) (sym (c .before .before .too-soon .ensures .told d t (A .sources) (A .w) m (T .formed) (T .same-sources) (T .spaced) K (lawful-rules p d m l) (R .holds .ages) (R .keeps) (c .before .before .before .before .before .before .larger2 .ensures) (within 200 t 3000 on .0)) ∙ c .before .if5 .taken)))) (c .before .before .too-soon .ensures .asked)
+    refused-hears (A .rows .now) (A .plan .now) (A .call) (A .w) (A .since .now) (A .fastest .now) TooSoon (c .refused4 .result) (c .refused4 .ensures)
+    (λ p d used m T j l R.
+    let K = known d mask (planSources (A .plan .now)) (c .before .before .before .before .before .before .before .above .result) (T .as-wide) (omega (arith, T .as-wide, T .formed .fields .few-sources)) (c .before .before .before .before .before .before .before .above .ensures) (c .before .before .before .before .before .before .if4 .left) in
+    tick-refused p d t mask m (A .call .finish) TooSoon 0 (judged-at d t j on) l (sym (end-soon d t mask m (strangers-none d mask K) (sym (c .before .before .too-soon .ensures d t (A .w) m (T .formed) (T .same-sources) K (lawful-rules p d m l) (R .holds .ages) (R .keeps) (c .before .before .before .before .before .larger2 .ensures) (within 200 t 3000 on .0)) ∙ c .before .if5 .taken))))
 
 arrive-requires : tie.Need-arrive-requires
 arrive-requires c κs = (omega (arith, c .before .before .before .before .before .before .before .before .before .before .before .before .if1 .left), c .before .before .before .before .before .before .before .before .before .before .before .before .before .pre .going .sourced, c .before .before .before .before .before .before .before .before .before .before .before .before .before .pre .going .tracks .holds .ages .many, c .before .before .before .before .before .before .before .before .before .before .before .before .before .pre .going .tracks .keeps .many)
@@ -133,17 +131,17 @@ returns-6 c =
     let on : onKnob t ≡ true = sym (c .before .before .before .before .before .before .before .before .before .before .before .before .before .on-knob2 .ensures) ∙ not-false (c .before .before .before .before .before .before .before .before .before .before .before .before .before .on-knob2 .result) (c .before .before .before .before .before .before .before .before .before .before .before .before .if3 .left) in
     let since = a .last .1 .1 .1 .1 .1 .0 in
     let fastest = a .last .1 .1 .1 .1 .1 .1 .0 in
-    admitted-hears (A .rows .now) (A .paces .now) (A .longest .now) (A .sources) (A .call) (A .w) (a .result) (A .since .now) (A .fastest .now) since fastest _ (c .admitted2 .result) (c .admitted2 .ensures) (λ p d runs used m T j l R.
-    let K = known d mask (A .sources) (c .before .before .before .before .before .before .before .before .before .before .before .above .result) (T .as-wide) (omega (arith, T .as-wide, T .formed .fields .few-sources)) (c .before .before .before .before .before .before .before .before .before .before .before .above .ensures) (c .before .before .before .before .before .before .before .before .before .before .if4 .left) in
+    admitted-hears (A .rows .now) (A .plan .now) (A .call) (A .w) (a .result) (A .since .now) (A .fastest .now) since fastest (c .admitted2 .result) (c .admitted2 .ensures) (λ p d used m T j l R.
+    let K = known d mask (planSources (A .plan .now)) (c .before .before .before .before .before .before .before .before .before .before .above .result) (T .as-wide) (omega (arith, T .as-wide, T .formed .fields .few-sources)) (c .before .before .before .before .before .before .before .before .before .before .above .ensures) (c .before .before .before .before .before .before .before .before .before .if4 .left) in
     record {
       judged = judged-at d t j on;
-      passed = sym (end-none d t mask m (strangers-none d mask K) (sym (c .before .before .before .before .before .too-soon .ensures .told d t (A .sources) (A .w) m (T .formed) (T .same-sources) (T .spaced) K (lawful-rules p d m l) (R .holds .ages) (R .keeps) (c .before .before .before .before .before .before .before .before .before .larger2 .ensures) (within 200 t 3000 on .0)) ∙ c .before .before .before .before .if5 .left));
+      passed = sym (end-none d t mask m (strangers-none d mask K) (sym (c .before .before .before .before .before .too-soon .ensures d t (A .w) m (T .formed) (T .same-sources) K (lawful-rules p d m l) (R .holds .ages) (R .keeps) (c .before .before .before .before .before .before .before .before .larger2 .ensures) (within 200 t 3000 on .0)) ∙ c .before .before .before .before .if5 .left));
       arrived = a .ensures .arrived d used m (T .formed) (T .rowed) K (R .holds);
-      keeps = arrived-keeps t mask (c .before .before .before .before .before .before .before .before .before .larger2 .result) (A .w) (a .result) (A .fastest .now) fastest m (within 200 t 3000 on .0) (within 200 t 3000 on .1) (c .before .before .before .before .before .before .before .before .before .larger2 .ensures) (a .ensures .knob) (R .keeps) (a .ensures .many) (a .ensures .fired) (a .ensures .others);
+      keeps = arrived-keeps t mask (c .before .before .before .before .before .before .before .before .larger2 .result) (A .w) (a .result) (A .fastest .now) fastest m (within 200 t 3000 on .0) (within 200 t 3000 on .1) (c .before .before .before .before .before .before .before .before .larger2 .ensures) (a .ensures .knob) (R .keeps) (a .ensures .many) (a .ensures .fired) (a .ensures .others);
       high = (omega (arith, a .ensures .knob .1), within 200 t 3000 on .1);
-    }) (c .before .before .before .before .before .too-soon .ensures .asked) (a .ensures .then) (a .ensures .runs)
+    }) (a .ensures .then) (a .ensures .runs)
 
 pub hear-spec : {M : Type 1} → statement M
 hear-spec =
     tie.close
-    (tie.spec on-knob-requires refused-requires returns larger-requires at-tempos-requires admitted-requires returns-2 on-knob-requires-2 refused-requires-2 returns-3 above-requires refused-requires-3 returns-4 larger-requires-2 too-soon-requires refused-requires-4 returns-5 arrive-requires admitted-requires-2 returns-6)
+    (tie.spec on-knob-requires refused-requires returns larger-requires at-tempos-requires admitted-requires returns-2 on-knob-requires-2 refused-requires-2 returns-3 element-copy-out-above above-requires refused-requires-3 returns-4 larger-requires-2 too-soon-requires refused-requires-4 returns-5 arrive-requires admitted-requires-2 returns-6)

@@ -1,39 +1,14 @@
--- `soon_at` meets its contract: the longest spacing has passed, or that at the fastest tempo given decides. Assumes nothing.
-use Prim.Native.Nat.{_+_, _≤_, _<_}
-use mathlib.Core.Path.{_≡_, refl, sym, ap, subst, _∙_}
-use mathlib.Core.Bool.{true, false}
-use mathlib.Core.Logic.{inl, inr}
+-- `soon_at` meets its contract: its spacing at the fastest tempo given decides. Assumes nothing.
+use Prim.Native.Nat.{_+_}
+use mathlib.Core.Path.{_≡_, ap, _∙_}
+use native.Mathlib.Omega.{arith}
 use lib.ListN.{getD}
-use borrow.Author.Tests.{ltb-true, ltb-false, not-true}
-use Rattle.lemmas.proofs.Tests.{not-both}
-use Rattle.spacings.specs.Sources.{spacingAt}
-use Rattle.machine.specs.Calls.{dueBy}
+use lib.Dec.{ltb}
+use Rattle.spacings.specs.Sources.{spacingBy}
+use Rattle.machine.specs.Calls.{planTicks, planPulses, dueBy}
 use borrow.Author.Needs.{needs}
 use Rattle.machine.proofs.call.soon_at.Statement.{statement}
 use Rattle.machine.proofs.call.soon_at.Tie as tie
-
-mul-young : tie.Need-mul-young
-mul-young c = search needs
-
-element-copy-out-young : tie.Need-element-copy-out-young
-element-copy-out-young c = search needs
-
-mul-young-2 : tie.Need-mul-young-2
-mul-young-2 c = search needs
-
-element-copy-out-young-2 : tie.Need-element-copy-out-young-2
-element-copy-out-young-2 c = search needs
-
-young-requires : tie.Need-young-requires
-young-requires c κs = search needs
-
-returns : tie.Need-returns
-returns c =
-    record {
-      soon = λ e. absurd (not-both e refl);
-      late = λ e. inr (ltb-false _ _ (sym (c .before .young .ensures) ∙ not-true (c .before .young .result) (c .if1 .taken)));
-      asked = c .before .before .before .before .pre .1;
-    }
 
 mul-larger : tie.Need-mul-larger
 mul-larger c = search needs
@@ -44,44 +19,59 @@ element-copy-out-larger c = search needs
 larger-requires : tie.Need-larger-requires
 larger-requires c κs = search needs
 
-gap-at-requires : tie.Need-gap-at-requires
-gap-at-requires c κs = search needs
+add-spacing-by : tie.Need-add-spacing-by
+add-spacing-by c = omega (arith, c .before .before .pre .here)
 
-mul-young-3 : tie.Need-mul-young-3
-mul-young-3 c = search needs
+mul-spacing-by : tie.Need-mul-spacing-by
+mul-spacing-by c = omega (arith, c .before .before .pre .here)
 
-element-copy-out-young-3 : tie.Need-element-copy-out-young-3
-element-copy-out-young-3 c = search needs
+element-copy-out-spacing-by : tie.Need-element-copy-out-spacing-by
+element-copy-out-spacing-by c = omega (arith, c .before .before .pre .here)
 
-young-requires-2 : tie.Need-young-requires-2
-young-requires-2 c κs = search needs
+add-spacing-by-2 : tie.Need-add-spacing-by-2
+add-spacing-by-2 c = omega (arith, c .before .before .before .pre .here)
 
-returns-2 : tie.Need-returns-2
-returns-2 c =
-    let A = c .before .before .before .before .before .before .before .before .before .before .args in
-    let since = getD (A .since .now) (A .u) 0 in
-    let due : c .before .before .gap-at .result ≡ dueBy (A .paces .now) (A .fastest .now) (A .peak) (A .u) = c .before .before .gap-at .ensures .0 ∙ ap (spacingAt (A .paces .now) (A .u)) (c .before .before .before .before .larger .ensures) in
-    record {
-      soon = λ e. subst (λ x. A .tick < since + x) due (ltb-true _ _ (sym (c .young2 .ensures) ∙ e));
-      late = λ e. inl (subst (λ x. since + x ≤ A .tick) due (ltb-false _ _ (sym (c .young2 .ensures) ∙ e)));
-      asked = c .before .before .gap-at .ensures .1;
-    }
+mul-spacing-by-2 : tie.Need-mul-spacing-by-2
+mul-spacing-by-2 c = omega (arith, c .before .before .before .pre .here)
+
+element-copy-out-spacing-by-2 : tie.Need-element-copy-out-spacing-by-2
+element-copy-out-spacing-by-2 c = omega (arith, c .before .before .before .pre .here)
+
+spacing-by-requires : tie.Need-spacing-by-requires
+spacing-by-requires c κs =
+    let S = c .before .before .before .before in
+    (S .pre .few, omega (arith, c .before .before .larger .ensures, S .pre .low), omega (arith, c .before .before .larger .ensures, S .pre .high, S .pre .kept))
+
+mul-young : tie.Need-mul-young
+mul-young c = search needs
+
+element-copy-out-young : tie.Need-element-copy-out-young
+element-copy-out-young c = search needs
+
+young-requires : tie.Need-young-requires
+young-requires c κs = search needs
+
+returns : tie.Need-returns
+returns c =
+    let A = c .before .before .before .before .before .before .before .args in
+    let due : c .before .before .spacing-by .result ≡ dueBy (A .plan .now) (A .fastest .now) (A .peak) (A .u) = c .before .before .spacing-by .ensures ∙ ap (spacingBy (planTicks (A .plan .now) (A .u)) (planPulses (A .plan .now) (A .u))) (c .before .before .before .before .before .larger .ensures) in
+    c .young .ensures ∙ ap (λ x. ltb (A .tick) (getD (A .since .now) (A .u) 0 + x)) due
 
 pub soon-at-spec : {M : Type 1} → statement M
 soon-at-spec =
     tie.close
     (tie.spec
-    mul-young
-    element-copy-out-young
-    mul-young-2
-    element-copy-out-young-2
-    young-requires
-    returns
     mul-larger
     element-copy-out-larger
     larger-requires
-    gap-at-requires
-    mul-young-3
-    element-copy-out-young-3
-    young-requires-2
-    returns-2)
+    add-spacing-by
+    mul-spacing-by
+    element-copy-out-spacing-by
+    add-spacing-by-2
+    mul-spacing-by-2
+    element-copy-out-spacing-by-2
+    spacing-by-requires
+    mul-young
+    element-copy-out-young
+    young-requires
+    returns)

@@ -2,16 +2,16 @@
 
 use arrivals::arrive;
 use arrivals::at_tempos;
-use arrivals::larger;
 use model::Outcome;
 use model::Policy;
 use model::Refusal;
+use numbers::larger_u32;
+use numbers::wide;
 use spacings::gap_at;
 use spacings::on_knob;
 use steps::pass;
 use steps::work;
 use words::Words;
-use words::long;
 ghost use mathlib.Core.Path.{_≡_};
 ghost use Prim.Native.Nat.{_+_, _≤_, _<_, _/_, _^_};
 ghost use lib.Dec.{ltb};
@@ -46,7 +46,7 @@ fn young(since: u64, gap: u32, tick: u64) -> bool
     requires { ⌜ since < 2 ^ 63 ⌝ }
     ensures { λ r. ⌜ r ≡ ltb tick (since + gap) ⌝ }
 {
-    tick < since + long(gap)
+    tick < since + wide(gap)
 }
 
 // Whether the age of source 33 + u is below its spacing at the fastest tempo given since it last fired. Peak is the fastest of those since the last
@@ -69,7 +69,7 @@ fn soon_at<'a>(
     if !young(since[u], longest[u], tick) {
         return false;
     }
-    let tempo = larger(fastest[u], peak);
+    let tempo = larger_u32(fastest[u], peak);
     let gap = gap_at(ticks, pulses, u, tempo, tempos, gaps);
     young(since[u], gap, tick)
 }
@@ -152,7 +152,7 @@ fn hear<'a>(
         if !on_knob(t) {
             return refused(Refusal::OffKnob, w);
         }
-        return admitted(at_tempos(w.low, larger(w.peak, t), w));
+        return admitted(at_tempos(w.low, larger_u32(w.peak, t), w));
     }
     if !on_knob(t) {
         return refused(Refusal::OffKnob, w);
@@ -160,7 +160,7 @@ fn hear<'a>(
     if above(mask, sources) != 0 {
         return refused(Refusal::Stranger, w);
     }
-    let peak = larger(w.peak, t);
+    let peak = larger_u32(w.peak, t);
     if too_soon(
         mask,
         peak,

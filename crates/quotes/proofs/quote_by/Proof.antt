@@ -33,7 +33,7 @@ here c = let w = c .before .before .before .before .before .before .before .pre 
 
 -- the level at hand, whether it is held at the best tempo so far, and the best one after it was in doubt
 own : (c : tie.After-wide Inv-loop μ-loop) (pol : Policy) (d : Description) → Of (c .before .before .before .before .before .before .before .before .before .before .before .before .before) pol d → LevelFrom pol d (suc (c .before .before .before .before .before .before .before .loop .j)) (levelWith (getD (c .before .before .before .before .before .before .before .before .before .before .before .before .before .args .starts .now) (c .before .before .before .before .before .before .before .loop .j) 0) (c .before .before .level-loads .result) (c .wide .result) (getD (c .before .before .before .before .before .before .before .before .before .before .before .before .before .args .critical .now) (c .before .before .before .before .before .before .before .loop .j) 0)) (c .before .before .before .before .before .before .before .before .before .before .before .before .before .args .t6)
-own c pol d k = let a = c .before .before .before .before .before .before .before .before .before .before .before .before .before .args in level-from pol d (a .levels .now) (a .starts .now) (a .tails .now) (a .critical .now) (a .t6) (a .tasks) (c .before .before .before .before .before .before .before .loop .j) (c .before .before .level-loads .result) (c .wide .result) k (c .before .before .before .before .before .before .loop-test .taken) (c .before .before .level-loads .ensures) (c .wide .ensures)
+own c pol d k = let a = c .before .before .before .before .before .before .before .before .before .before .before .before .before .args in level-from pol d (a .levels .now) (a .starts .now) (a .tails .now) (a .critical .now) (a .t6) (a .tasks) (c .before .before .before .before .before .before .before .loop .j) (c .before .before .level-loads .result) (c .wide .result) k (c .before .before .before .before .before .before .loop-test .taken) (c .before .before .level-loads .ensures) (c .wide .ensures .0)
 
 held : (c : tie.After-level-held Inv-loop μ-loop) (pol : Policy) (d : Description) → Of (c .before .before .before .before .before .before .before .before .before .before .before .before .before .before .before .before) pol d → c .level-held .result ≡ levelHeld pol d (spacingOf d (c .before .before .before .before .before .before .before .before .before .before .loop .best)) (suc (c .before .before .before .before .before .before .before .before .before .before .loop .j))
 held c pol d k = let L = c .before .before .before .before .before .before .before .before .before .before .loop in held-from pol d (suc (L .j)) (levelWith (getD (c .before .before .before .before .before .before .before .before .before .before .before .before .before .before .before .before .args .starts .now) (L .j) 0) (c .before .before .before .before .before .level-loads .result) (c .before .before .before .wide .result) (getD (c .before .before .before .before .before .before .before .before .before .before .before .before .before .before .before .before .args .critical .now) (L .j) 0)) (c .before .before .before .before .before .before .before .before .before .before .before .before .before .before .before .before .args .t6) (L .best) (L .gaps) (c .level-held .result) (own (c .before .before .before) pol d k) (L .inv .3) (c .level-held .ensures)

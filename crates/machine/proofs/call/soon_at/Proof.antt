@@ -35,14 +35,14 @@ returns c =
       asked = c .before .before .before .before .pre .1;
     }
 
-mul-larger : tie.Need-mul-larger
-mul-larger c = search needs
+mul-larger-u32 : tie.Need-mul-larger-u32
+mul-larger-u32 c = search needs
 
-element-copy-out-larger : tie.Need-element-copy-out-larger
-element-copy-out-larger c = search needs
+element-copy-out-larger-u32 : tie.Need-element-copy-out-larger-u32
+element-copy-out-larger-u32 c = search needs
 
-larger-requires : tie.Need-larger-requires
-larger-requires c κs = search needs
+larger-u32-requires : tie.Need-larger-u32-requires
+larger-u32-requires c κs = search needs
 
 gap-at-requires : tie.Need-gap-at-requires
 gap-at-requires c κs = search needs
@@ -60,7 +60,7 @@ returns-2 : tie.Need-returns-2
 returns-2 c =
     let A = c .before .before .before .before .before .before .before .before .before .before .before .args in
     let since = getD (A .since .now) (A .u) 0 in
-    let due : c .before .before .gap-at .result ≡ dueBy (A .ticks .now) (A .pulses .now) (A .fastest .now) (A .peak) (A .u) = c .before .before .gap-at .ensures .0 ∙ ap (spacingBy (getD (A .ticks .now) (A .u) 0) (getD (A .pulses .now) (A .u) 0)) (c .before .before .before .before .before .larger .ensures) in
+    let due : c .before .before .gap-at .result ≡ dueBy (A .ticks .now) (A .pulses .now) (A .fastest .now) (A .peak) (A .u) = c .before .before .gap-at .ensures .0 ∙ ap (spacingBy (getD (A .ticks .now) (A .u) 0) (getD (A .pulses .now) (A .u) 0)) (c .before .before .before .before .before .larger-u32 .ensures) in
     record {
       soon = λ e. subst (λ x. A .tick < since + x) due (ltb-true _ _ (sym (c .young2 .ensures) ∙ e));
       late = λ e. inl (subst (λ x. since + x ≤ A .tick) due (ltb-false _ _ (sym (c .young2 .ensures) ∙ e)));
@@ -77,9 +77,9 @@ soon-at-spec =
     element-copy-out-young-2
     young-requires
     returns
-    mul-larger
-    element-copy-out-larger
-    larger-requires
+    mul-larger-u32
+    element-copy-out-larger-u32
+    larger-u32-requires
     gap-at-requires
     mul-young-3
     element-copy-out-young-3

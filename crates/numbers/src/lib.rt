@@ -16,6 +16,7 @@ pub fn wide(x: u32) -> u64
     x as u64
 }
 
+// A number of 16 bits in 64.
 pub fn wide_u16(x: u16) -> u64
     ensures { λ r. ⌜ (r ≡ x) × (r < 2 ^ 16) ⌝ }
 {
@@ -29,6 +30,7 @@ pub fn larger(a: u64, b: u64) -> u64
     if a < b { b } else { a }
 }
 
+// The larger of two numbers of 32 bits.
 pub fn larger_u32(a: u32, b: u32) -> u32
     ensures { λ r. ⌜ r ≡ max a b ⌝ }
 {
@@ -42,6 +44,7 @@ pub fn smaller(a: u64, b: u64) -> u64
     if a < b { a } else { b }
 }
 
+// The smaller of two numbers of 16 bits.
 pub fn smaller_u16(a: u16, b: u16) -> u16
     ensures { λ r. ⌜ r ≡ min a b ⌝ }
 {

@@ -1,6 +1,6 @@
 // The parts of the vectors, and the count of the cases that agree.
 
-use fields::half_at;
+use headers::half_at;
 ghost use Prim.Native.Nat.{_≤_, _<_};
 ghost use lib.ListN.{length};
 

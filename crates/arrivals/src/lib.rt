@@ -126,13 +126,3 @@ pub fn at_tempos(low: u32, peak: u32, w: Words) -> Words
         peak,
     }
 }
-
-// The larger of two tempos.
-pub fn larger(f: u32, t: u32) -> u32
-    ensures { λ r. ⌜ r ≡ max f t ⌝ }
-{
-    if f < t {
-        return t;
-    }
-    f
-}

@@ -20,7 +20,8 @@ use Rattle.model.specs.declared.Quote.the-variants.{Tempo}
 use Rattle.model.specs.declared.Verdict.the-variants.{Doubt}
 use Rattle.model.specs.Basics.{sumN, topN, anyN, allN, tab, joined}
 use Rattle.model.specs.Refusals.{noSource}
-use Rattle.model.specs.Field.{bytesOf, numberIn, bodyOf, fieldBytes, fieldIn, takeField, checkField, fieldOf}
+use Rattle.model.specs.Header.{bytesOf, numberIn, headerAt}
+use Rattle.model.specs.Field.{bodyOf, fieldBytes, fieldIn, takeField, checkField, fieldOf}
 use Rattle.model.specs.Graph.{sourceAt, linked, system, walks, cyclic}
 use Rattle.model.specs.Loads.{workF, work, added, load, tooHeavy}
 use Rattle.model.specs.File.{SourceFits, Widths, fileOf, lastChecks, parseFrom, parseFile, readFile, overfull, judge}
@@ -56,7 +57,7 @@ use Rattle.assurance.proofs.Paper.{from-page}
 
 -- to unfold this is to unfold every definition that judging and a verdict compute with
 computing : ℕ
-unfolding sumN topN anyN allN joined bytesOf numberIn bodyOf fieldBytes fieldIn takeField checkField fieldOf linked system walks cyclic workF work added load tooHeavy fileOf lastChecks parseFrom parseFile readFile overfull judge spacing spacingOf spacings startOf roundOf settle delayOf visit walk inOrder sourceVerdict orderVerdict verdictOf verdictAt allHeld
+unfolding sumN topN anyN allN joined bytesOf numberIn bodyOf fieldBytes fieldIn headerAt takeField checkField fieldOf linked system walks cyclic workF work added load tooHeavy fileOf lastChecks parseFrom parseFile readFile overfull judge spacing spacingOf spacings startOf roundOf settle delayOf visit walk inOrder sourceVerdict orderVerdict verdictOf verdictAt allHeld
 computing = 0
 
 -- widths by a test

@@ -1,11 +1,18 @@
 // A reading place in the caller's bytes: the file is taken field by field from it. The functions over the place are thin: the work is done on a plain slice and an offset.
 
-use crate::field_at;
+use crate::TAGS;
+use crate::field_in;
+use headers::header_at;
 use model::Found;
+use model::Header;
 use model::Step;
-use model::Taken;
 ghost use mathlib.Core.Path.{_≡_};
-ghost use Rattle.model.specs.Field.{stepOf, stepAt};
+ghost use mathlib.Core.Bool.{true};
+ghost use Prim.Native.Nat.{_+_, _≤_};
+ghost use lib.ListN.{length};
+ghost use Rattle.model.specs.declared.Taken.the-variants.{Whole};
+ghost use Rattle.model.specs.Header.{isTag, lengthFits};
+ghost use Rattle.model.specs.Field.{fieldTags, fieldIn, stepOf, stepAt};
 
 // The bytes of a file, and the offset of the field that is read next.
 pub struct Reader<'a> {
@@ -20,31 +27,33 @@ pub fn new<'a>(src: &'a [u8]) -> Reader<'a>
     Reader { src, at: 0 }
 }
 
-// What was taken at a place as a step from it: a refusal has the place of its field, and only a whole field is passed.
-fn step_of(t: Taken, at: usize) -> Step
-    ensures { λ r. ⌜ r ≡ stepOf t at ⌝ }
+// The step past a whole body at b, of n bytes.
+fn step_past(s: &[u8], tag: u8, b: usize, n: u16) -> Step
+    requires { ⌜ (isTag fieldTags tag ≡ true) × (lengthFits fieldTags tag n ≡ true) × (b + n ≤ length (now s)) ⌝ }
+    ensures { λ r. ⌜ r ≡ stepOf (Whole (fieldIn (now (s .entry)) tag b n) (b + n)) b ⌝ }
 {
-    match t {
-        Taken::Whole(f, next) => Step {
-            found: Found::Read(f),
-            at: next,
-        },
-        Taken::Broken(r) => Step {
+    Step {
+        found: Found::Read(field_in(s, tag, b, n)),
+        at: b + n as usize,
+    }
+}
+
+// One step from an offset of the bytes: a refusal has the place of its field, and only a whole field is passed.
+fn step_at(s: &[u8], at: usize) -> Step
+    ensures { λ r. ⌜ r ≡ stepAt (now (s .entry)) at ⌝ }
+{
+    let h = header_at(&TAGS, s, at);
+    match h {
+        Header::Body(tag, b, n) => step_past(s, tag, b, n),
+        Header::Faulty(r) => Step {
             found: Found::Unread(r, at),
             at,
         },
-        Taken::End => Step {
+        Header::Ended => Step {
             found: Found::Nothing,
             at,
         },
     }
-}
-
-// One step from an offset of the bytes.
-fn step_at(s: &[u8], at: usize) -> Step
-    ensures { λ r. ⌜ r ≡ stepAt (now (s .entry)) at ⌝ }
-{
-    step_of(field_at(s, at), at)
 }
 
 // The field at the reading place, which moves past it; or its refusal with its offset, or the end, and the place stays.

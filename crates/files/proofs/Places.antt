@@ -1,18 +1,17 @@
 -- The fields from a place of the bytes on are those of the bytes that are left there. Assumes nothing.
 use Prim.Native.Nat.{ℕ, zero, suc, _+_, _-_}
 use mathlib.Core.Path.{_≡_, refl, sym, ap, _∙_}
-use mathlib.Core.Bool.{Bool, true, false, cond, not, _||_}
 use mathlib.Core.List.{List}
-use lib.Dec.{leb, ltb, eqb}
 use lib.ListN.{length, getD, drop, length-drop}
 use lib.Seq.{getD-drop}
-use native.Mathlib.Nat.{add-zero}
+use native.Mathlib.Nat.{add-zero, add-assoc}
 use native.Mathlib.Omega.{arith}
-use borrow.Author.Tests.{leb-true, le-leb}
 use Rattle.model.specs.declared.Description.{Description}
 use Rattle.model.specs.declared.Field.{Field}
 use Rattle.model.specs.declared.Refusal.{Refusal}
-use Rattle.model.specs.declared.Refusal.the-variants.{CutShort, StrangeTag, WrongLength}
+use Rattle.model.specs.declared.Refusal.the-variants.{CutShort}
+use Rattle.model.specs.declared.Header.{Header}
+use Rattle.model.specs.declared.Header.the-variants.{Body, Faulty, Ended}
 use Rattle.model.specs.declared.Taken.{Taken}
 use Rattle.model.specs.declared.Taken.the-variants.{Whole, Broken, End}
 use Rattle.model.specs.declared.Progress.{Progress}
@@ -21,22 +20,16 @@ use Rattle.model.specs.declared.Check.the-variants.{Fine, Unfit}
 use Rattle.model.specs.declared.Outcome.the-variants.{Done}
 use Rattle.model.specs.declared.Reading.{Reading}
 use Rattle.model.specs.Refusals.{blank}
-use Rattle.model.specs.Field.{lengthFits, numberIn, fieldIn, takeField, checkField, passed, withField, noProgress}
+use Rattle.model.specs.Header.{headerAt}
+use Rattle.model.specs.Field.{fieldTags, fieldIn, takenBy, takeField, checkField, passed, withField, noProgress}
 use Rattle.model.specs.File.{refusedReading, parseFrom, parseFile}
-use Rattle.lemmas.proofs.Tests.{same-test}
-use Rattle.theory.proofs.NumberBytes.{Bytes}
+use Rattle.theory.proofs.NumberBytes.{Bytes, number-left}
+use Rattle.theory.proofs.HeaderLaws.{onward, header-left}
 use Rattle.theory.proofs.WellFormed.{Fielded}
 use Rattle.theory.proofs.RecordLaws.{parse-fine, parse-unfit, parse-broken, parse-end}
 use Rattle.theory.proofs.ReadBack.{parsed-fielded}
 use Rattle.lemmas.proofs.Outcomes.{refused-not}
 use Rattle.model.specs.File.{parseAt}
-
-number-left : (s : List ℕ) (a b n : ℕ) → numberIn s (a + b) n ≡ numberIn (drop a s) b n
-unfolding numberIn
-number-left s a b zero = refl
-number-left s a b (suc n) =
-    let e : a + b + n ≡ a + (b + n) = omega arith in
-    rw (e, number-left s a b n, getD-drop a s (b + n) 0)
 
 field-left : (s : List ℕ) (a t b n : ℕ) → fieldIn s t (a + b) n ≡ fieldIn (drop a s) t b n
 unfolding fieldIn
@@ -51,53 +44,15 @@ further a (Whole f next) = Whole f (a + next)
 further a (Broken r) = Broken r
 further a End = End
 
-further-tests : (a : ℕ) (b c d e g : Bool) (f : Field) (next : ℕ) → cond b End (cond c (Broken CutShort) (cond d (Broken StrangeTag) (cond e (Broken WrongLength) (cond g (Broken CutShort) (Whole f (a + next)))))) ≡ further a (cond b End (cond c (Broken CutShort) (cond d (Broken StrangeTag) (cond e (Broken WrongLength) (cond g (Broken CutShort) (Whole f next))))))
-further-tests a true c d e g f next = refl
-further-tests a false true d e g f next = refl
-further-tests a false false true e g f next = refl
-further-tests a false false false true g f next = refl
-further-tests a false false false false true f next = refl
-further-tests a false false false false false f next = refl
-
-end-left : (s : List ℕ) (a k : ℕ) → leb (length s) (a + k) ≡ leb (length (drop a s)) k
-end-left s a k =
-    same-test (leb (length s) (a + k)) (leb (length (drop a s)) k)
-    (λ e. le-leb (length (drop a s)) k (omega (arith, leb-true (length s) (a + k) e, length-drop a s)))
-    (λ e. le-leb (length s) (a + k) (omega (arith, leb-true (length (drop a s)) k e, length-drop a s)))
-
--- the tests of a field in their order, over what they look at
-unfoldable takenBy : Bool → ℕ → ℕ → ℕ → Field → ℕ → Taken
-takenBy end left tag size f next =
-    cond end End
-    (cond (ltb left 3) (Broken CutShort)
-    (cond (eqb tag 0 || ltb 4 tag) (Broken StrangeTag)
-    (cond (not (lengthFits tag size)) (Broken WrongLength)
-    (cond (ltb (left - 3) size) (Broken CutShort)
-    (Whole f next)))))
-
-take-by : (s : List ℕ) (at : ℕ) → takeField s at ≡ takenBy (leb (length s) at) (length s - at) (getD s at 0) (numberIn s (at + 1) 2) (fieldIn s (getD s at 0) (at + 3) (numberIn s (at + 1) 2)) (at + 3 + numberIn s (at + 1) 2)
-unfolding takeField takenBy
-take-by s at = refl
-
-taken-further : (a : ℕ) (end : Bool) (left tag size : ℕ) (f : Field) (next : ℕ) → takenBy end left tag size f (a + next) ≡ further a (takenBy end left tag size f next)
-unfolding takenBy
-taken-further a end left tag size f next =
-    further-tests a end (ltb left 3) (eqb tag 0 || ltb 4 tag) (not (lengthFits tag size)) (ltb (left - 3) size) f next
-
 -- the field at a place is the one in the bytes that are left
 take-left : (s : List ℕ) (a k : ℕ) → takeField s (a + k) ≡ further a (takeField (drop a s) k)
-take-left s a k =
-    let left : length s - (a + k) ≡ length (drop a s) - k = omega (arith, length-drop a s) in
-    let tag : getD s (a + k) 0 ≡ getD (drop a s) k 0 = sym (getD-drop a s k 0) in
-    let one : a + k + 1 ≡ a + (k + 1) = omega arith in
-    let three : a + k + 3 ≡ a + (k + 3) = omega arith in
-    let size : numberIn s (a + k + 1) 2 ≡ numberIn (drop a s) (k + 1) 2 = ap (λ (x : ℕ). numberIn s x 2) one ∙ number-left s a (k + 1) 2 in
-    let f : fieldIn s (getD s (a + k) 0) (a + k + 3) (numberIn s (a + k + 1) 2) ≡ fieldIn (drop a s) (getD (drop a s) k 0) (k + 3) (numberIn (drop a s) (k + 1) 2) = (λ i. fieldIn s (tag i) (three i) (size i)) ∙ field-left s a (getD (drop a s) k 0) (k + 3) (numberIn (drop a s) (k + 1) 2) in
-    let next : a + k + 3 + numberIn s (a + k + 1) 2 ≡ a + (k + 3 + numberIn (drop a s) (k + 1) 2) = (λ i. a + k + 3 + size i) ∙ onward a k (numberIn (drop a s) (k + 1) 2) in
-    take-by s (a + k) ∙ (λ i. takenBy (end-left s a k i) (left i) (tag i) (size i) (f i) (next i)) ∙ taken-further a _ _ _ _ _ _ ∙ ap (further a) (sym (take-by (drop a s) k))
+unfolding takeField
+take-left s a k = ap (takenBy s) (header-left fieldTags s a k) ∙ body (headerAt fieldTags (drop a s) k)
   where
-    onward : (x y z : ℕ) → x + y + 3 + z ≡ x + (y + 3 + z)
-    onward x y z = omega arith
+    body : (h : Header) → takenBy s (onward a h) ≡ further a (takenBy (drop a s) h)
+    body (Body tag b n) = λ i. Whole (field-left s a tag b n i) (add-assoc a b n i)
+    body (Faulty r) = refl
+    body Ended = refl
 
 -- one reading holds what another does, and is done only if that one is
 abbrev Same : Reading → Reading → Type 0

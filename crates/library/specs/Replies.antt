@@ -14,7 +14,7 @@ use Rattle.model.specs.declared.Refusal.the-variants.{ShortPage}
 use Rattle.model.specs.declared.Outcome.{Outcome}
 use Rattle.model.specs.declared.Outcome.the-variants.{Done, Refused}
 use Rattle.model.specs.Refusals.{Numbered, ofOutcome, ofFilled, ofQuote, onDone}
-use Rattle.model.specs.Field.{numberIn}
+use Rattle.model.specs.Header.{numberIn}
 use Rattle.model.specs.File.{readFile, filledBy}
 use Rattle.model.specs.Verdicts.{quotedFile}
 use Rattle.model.specs.Report.{reported, pageReported}

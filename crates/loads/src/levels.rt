@@ -1,5 +1,6 @@
 // The columns of the load sheet that verdicts go by: the loads of sources at each task, and what the rounds of each task start from.
 use crate::rows::part;
+use numbers::larger;
 use numbers::wide;
 ghost use mathlib.Core.Path.{_≡_};
 ghost use Prim.Native.Nat.{ℕ, suc, _+_, _*_, _≤_, _<_, max};
@@ -59,13 +60,6 @@ pub fn loads_at(levels: &[u64; 528], m: usize, j: usize) -> [u64; 16]
         u += 1;
     }
     loads
-}
-
-// The larger of two numbers.
-pub fn larger(a: u64, b: u64) -> u64
-    ensures { λ r. ⌜ r ≡ max a b ⌝ }
-{
-    if a < b { b } else { a }
 }
 
 // The same for the tasks below j + 1, and the largest of their loads.

@@ -2,16 +2,16 @@
 
 use arrivals::arrive;
 use arrivals::at_tempos;
-use arrivals::larger;
 use model::Outcome;
 use model::Policy;
 use model::Refusal;
+use numbers::larger_u32;
+use numbers::wide;
 use spacings::on_knob;
 use spacings::spacing_by;
 use steps::pass;
 use steps::work;
 use words::Words;
-use words::long;
 ghost use mathlib.Core.Path.{_≡_};
 ghost use Prim.Native.Nat.{_+_, _≤_, _<_, _/_, _^_};
 ghost use lib.ListN.{getD};
@@ -63,7 +63,7 @@ fn young(since: u64, gap: u32, tick: u64) -> bool
     requires { ⌜ since < 2 ^ 63 ⌝ }
     ensures { λ r. ⌜ r ≡ ltb tick (since + gap) ⌝ }
 {
-    tick < since + long(gap)
+    tick < since + wide(gap)
 }
 
 // Whether the age of source 33 + u is below its spacing at the fastest tempo given since it last fired. Peak is the fastest of those since the last
@@ -79,7 +79,7 @@ fn soon_at(
     requires { ⌜ TimedAt u peak (now plan) (now since) (now fastest) ⌝ }
     ensures { λ r. ⌜ r ≡ ltb tick (getD (now (since .entry)) u 0 + dueBy (now (plan .entry)) (now (fastest .entry)) peak u) ⌝ }
 {
-    let tempo = larger(fastest[u], peak);
+    let tempo = larger_u32(fastest[u], peak);
     let gap = spacing_by(plan[32 + u], plan[48 + u], tempo);
     young(since[u], gap, tick)
 }
@@ -142,7 +142,7 @@ fn hear(
         if !on_knob(t) {
             return refused(Refusal::OffKnob, w);
         }
-        return admitted(at_tempos(w.low, larger(w.peak, t), w));
+        return admitted(at_tempos(w.low, larger_u32(w.peak, t), w));
     }
     if !on_knob(t) {
         return refused(Refusal::OffKnob, w);
@@ -150,7 +150,7 @@ fn hear(
     if above(mask, plan[64]) != 0 {
         return refused(Refusal::Stranger, w);
     }
-    let peak = larger(w.peak, t);
+    let peak = larger_u32(w.peak, t);
     if too_soon(mask, peak, plan, since, fastest, w.tick) {
         return refused(Refusal::TooSoon, w);
     }

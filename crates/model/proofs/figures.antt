@@ -1,5 +1,6 @@
 -- The rows hold: each is computed.
 pub mod Marked
+pub mod Header
 pub mod Swing
 pub mod Spacings
 pub mod Knob

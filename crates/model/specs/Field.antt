@@ -1,15 +1,17 @@
 -- "The description file": one field, its bytes, its reading, and whether it may stand where it does.
-use Prim.Native.Nat.{ℕ, zero, suc, _+_, _-_, _*_, _/_, _%_}
+use Prim.Native.Nat.{ℕ, _+_, _-_}
 use mathlib.Core.Bool.{Bool, true, cond, _&&_, _||_, not}
 use mathlib.Core.List.{List, [], _∷_, _++_}
-use lib.ListN.{length, getD, set}
+use lib.ListN.{getD, set}
 use lib.Dec.{leb, ltb, eqb}
 use Rattle.model.specs.declared.Source.{Source}
 use Rattle.model.specs.declared.Source.the-variants.{Fixed, Paced, Swung}
 use Rattle.model.specs.declared.Description.{Description}
 use Rattle.model.specs.declared.Field.{Field}
 use Rattle.model.specs.declared.Field.the-variants.{OfTask, OfSource, OfLink}
-use Rattle.model.specs.declared.Refusal.the-variants.{CutShort, StrangeTag, WrongLength, OutOfTurn, TooMany, OffScale, NoSuchEnd}
+use Rattle.model.specs.declared.Refusal.the-variants.{OutOfTurn, TooMany, OffScale, NoSuchEnd}
+use Rattle.model.specs.declared.Header.{Header}
+use Rattle.model.specs.declared.Header.the-variants.{Body, Faulty, Ended}
 use Rattle.model.specs.declared.Taken.{Taken}
 use Rattle.model.specs.declared.Taken.the-variants.{Whole, Broken, End}
 use Rattle.model.specs.declared.Found.{Found}
@@ -18,16 +20,8 @@ use Rattle.model.specs.declared.Step.{Step}
 use Rattle.model.specs.declared.Progress.{Progress}
 use Rattle.model.specs.declared.Check.{Check}
 use Rattle.model.specs.declared.Check.the-variants.{Fine, Unfit}
+use Rattle.model.specs.Header.{bytesOf, numberIn, headerAt}
 use Rattle.model.specs.Refusals.{Numbered, accepted, refusal, noLink, noSource}
-
--- "Numbers have their high byte first": x in n bytes, and the number in the n bytes from `at` on
-unfoldable pub bytesOf : ℕ → ℕ → List ℕ
-bytesOf zero x = []
-bytesOf (suc n) x = bytesOf n (x / 256) ++ (x % 256 ∷ [])
-
-unfoldable pub numberIn : List ℕ → ℕ → ℕ → ℕ
-numberIn s at zero = 0
-numberIn s at (suc n) = numberIn s at n * 256 + getD s (at + n) 0
 
 -- the table of fields: tag, length of the body, body. "A paced source may have a length of 3, the third byte being the swing in percent;
 -- straight time keeps length 2" (C-11)
@@ -56,9 +50,9 @@ bodyOf (OfLink l) = l .from ∷ l .to ∷ l .critical ∷ []
 unfoldable pub fieldBytes : Field → List ℕ
 fieldBytes f = tagOf f ∷ bytesOf 2 (bodyLength f) ++ bodyOf f
 
--- whether a length is the tag's: of a paced source 2 or 3
-abbrev pub lengthFits : ℕ → ℕ → Bool
-lengthFits tag n = cond (leb tag 2) (eqb n 4) (cond (eqb tag 3) (eqb n 2 || eqb n 3) (eqb n 3))
+-- the lengths of the tags 1 to 4, as a table of tags: of a paced source 2 or 3
+abbrev pub fieldTags : List ℕ
+fieldTags = 0 ∷ 0 ∷ 4 ∷ 4 ∷ 4 ∷ 4 ∷ 2 ∷ 3 ∷ 3 ∷ 3 ∷ []
 
 -- a paced source whose body begins at b and has n bytes: straight in two, and in three with a swing
 abbrev pub pacedIn : List ℕ → ℕ → ℕ → Source
@@ -72,15 +66,14 @@ fieldIn s tag b n =
     (cond (eqb tag 3) (OfSource (pacedIn s b n))
     (OfLink (record { from = getD s b 0; to = getD s (b + 1) 0; critical = getD s (b + 2) 0 }))))
 
--- the field at a reading place, checked for a "whole header (1), tag (2), length (3), whole body (1)"
+-- the field at a reading place: its header by that table, then its body
+abbrev pub takenBy : List ℕ → Header → Taken
+takenBy s (Body tag b n) = Whole (fieldIn s tag b n) (b + n)
+takenBy s (Faulty r) = Broken r
+takenBy s Ended = End
+
 unfoldable pub takeField : List ℕ → ℕ → Taken
-takeField s at =
-    cond (leb (length s) at) End
-    (cond (ltb (length s - at) 3) (Broken CutShort)
-    (cond (eqb (getD s at 0) 0 || ltb 4 (getD s at 0)) (Broken StrangeTag)
-    (cond (not (lengthFits (getD s at 0) (numberIn s (at + 1) 2))) (Broken WrongLength)
-    (cond (ltb (length s - at - 3) (numberIn s (at + 1) 2)) (Broken CutShort)
-    (Whole (fieldIn s (getD s at 0) (at + 3) (numberIn s (at + 1) 2)) (at + 3 + numberIn s (at + 1) 2))))))
+takeField s at = takenBy s (headerAt fieldTags s at)
 
 -- one step from a reading place: past a whole field; a refused one, with "the offset of the field's tag", and the end leave the place where it is
 abbrev pub stepOf : Taken → ℕ → Step

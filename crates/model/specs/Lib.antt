@@ -1,6 +1,7 @@
 -- Every definition of document 01, in its order. A reader starts at File and ends at Promise and Page; figures has rows that pin them.
 pub mod Basics
 pub mod Refusals
+pub mod Header
 pub mod Field
 pub mod Graph
 pub mod Loads

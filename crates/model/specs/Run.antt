@@ -13,7 +13,7 @@ use Rattle.model.specs.declared.Refusal.the-variants.{ShortPage}
 use Rattle.model.specs.declared.Quote.the-variants.{Tempo}
 use Rattle.model.specs.Basics.{tab}
 use Rattle.model.specs.Refusals.{ofOutcome, onDone}
-use Rattle.model.specs.Field.{numberIn}
+use Rattle.model.specs.Header.{numberIn}
 use Rattle.model.specs.File.{filledBy, judge}
 use Rattle.model.specs.Verdicts.{quoteOf}
 use Rattle.model.specs.Machine.{idle, unstarted}

@@ -63,6 +63,13 @@ pub enum Outcome {
     Refused(Refusal, usize),
 }
 
+// The header at a reading place: the tag of a whole body, its offset and its length; a refusal; or the end of the bytes.
+pub enum Header {
+    Body(u8, usize, u16),
+    Faulty(Refusal),
+    Ended,
+}
+
 // What stands at a reading place: a whole field and where the next one begins, a refusal, or the end of the file.
 pub enum Taken {
     Whole(Field, usize),

@@ -3,7 +3,7 @@ use Prim.Native.Nat.{ℕ, _+_, _*_, _/_, _%_, _≤_, _<_}
 use mathlib.Core.List.{List, _++_}
 use mathlib.Core.Path.{_≡_}
 use lib.ListN.{length, getD, take, drop}
-use Rattle.model.specs.Field.{numberIn}
+use Rattle.model.specs.Header.{numberIn}
 use Rattle.words.specs.declared.Words.{Words}
 
 -- the mask and the tempo of the call at a place, as one number

@@ -1,6 +1,6 @@
 // Tick calls as bytes: a call's head, the code of its end, and the calls in which nothing happens, passed together.
 
-use fields::half_at;
+use headers::half_at;
 use model::Outcome;
 use refusals::number_of;
 use words::Words;
@@ -9,7 +9,7 @@ ghost use mathlib.Core.Bool.{_&&_, cond};
 ghost use Prim.Native.Nat.{_+_, _-_, _*_, _/_, _%_, _≤_, _<_, _^_, min};
 ghost use lib.ListN.{length};
 ghost use lib.Dec.{leb, eqb};
-ghost use Rattle.model.specs.Field.{numberIn};
+ghost use Rattle.model.specs.Header.{numberIn};
 ghost use Rattle.model.specs.Refusals.{ofOutcome};
 ghost use Rattle.passing.specs.Passing.{Head, Skips, RunsAlong, laterBy};
 

@@ -1,5 +1,7 @@
 // Which sources of a level go together on a wheel, and each wheel's period: a common multiple of their spacings.
 
+use numbers::larger;
+use numbers::smaller;
 ghost use mathlib.Core.Path.{_≡_};
 ghost use Prim.Native.Nat.{ℕ, _≤_, _-_};
 ghost use lib.ListN.{length};
@@ -25,24 +27,6 @@ fn common(a: u64, b: u64) -> u64
     ensures { λ r. ⌜ r ≤ 1099511627776 ⌝ }
 {
     a / divisor(a, b) * b
-}
-
-// The smaller of two numbers.
-fn smaller(a: u64, b: u64) -> u64
-    ensures { λ r. ⌜ (r ≤ a) × (r ≤ b) ⌝ }
-{
-    if a < b {
-        return a;
-    }
-    b
-}
-
-// The larger of two numbers.
-fn larger(a: u64, b: u64) -> u64 {
-    if a < b {
-        return b;
-    }
-    a
 }
 
 // The period that a wheel has with a source besides; 0 if the source cannot join: it is on a wheel, has no load or one above its spacing, or the period is too long.

@@ -6,7 +6,6 @@ use sets::wide;
 use sets::wide::Wide;
 use words::Words;
 use words::kept_bits;
-use words::long;
 use words::row;
 ghost use mathlib.Core.Path.{_≡_};
 ghost use mathlib.Core.Bool.{true, false, _||_, _&&_};
@@ -140,7 +139,7 @@ fn age_at(gap: u32, since: u64, tick: u64) -> u32
         return 0;
     }
     let age = tick - since;
-    if age < long(gap) {
+    if age < numbers::wide(gap) {
         return age as u32;
     }
     gap
@@ -169,7 +168,7 @@ pub fn ages_of<'a>(
 fn since_at(age: u32) -> u64
     ensures { λ r. ⌜ r ≡ 4294967296 - age ⌝ }
 {
-    4294967296 - long(age)
+    4294967296 - numbers::wide(age)
 }
 
 pub fn since_of(ages: &[u32; 16]) -> [u64; 16]

@@ -1,24 +1,27 @@
 -- One field of a description file: what is written is taken whole, and what is taken whole was written. Assumes nothing.
-use Prim.Native.Nat.{ℕ, zero, suc, _+_, _-_, _^_, _≤_, _<_}
+use Prim.Native.Nat.{ℕ, zero, suc, _+_, _*_, _^_, _≤_, _<_}
 use mathlib.Core.Path.{_≡_, refl, sym, ap, subst, _∙_}
-use mathlib.Core.Bool.{Bool, true, false, cond, not, _||_}
+use mathlib.Core.Bool.{Bool, true, false, _&&_}
 use mathlib.Core.List.{List, [], _∷_, _++_, append-assoc}
 use native.Mathlib.Omega.{arith}
 use native.Mathlib.Numerals.{add-one}
 use native.Mathlib.Nat.{add-zero, add-assoc}
-use lib.Dec.{leb, ltb, eqb}
-use lib.ListN.{length, getD, take, drop, length-append}
+use lib.Dec.{leb, eqb}
+use lib.ListN.{length, getD, take, drop, length-append, List·getD-eq-default}
 use lib.Seq.{getD-append-add, take-add, drop-drop, drop-cons}
-use borrow.Author.Tests.{lt-leb, le-ltb, ne-eqb, leb-true, leb-false, ltb-false, eqb-true, eqb-false, not-false}
+use borrow.Author.Tests.{leb-true, leb-false, ltb-true, eqb-true, eqb-false}
 use Rattle.model.specs.declared.Source.the-variants.{Fixed, Paced, Swung}
 use Rattle.model.specs.declared.Field.{Field}
 use Rattle.model.specs.declared.Field.the-variants.{OfTask, OfSource, OfLink}
 use Rattle.model.specs.declared.Refusal.{Refusal}
-use Rattle.model.specs.declared.Refusal.the-variants.{CutShort, StrangeTag, WrongLength}
+use Rattle.model.specs.declared.Header.{Header}
+use Rattle.model.specs.declared.Header.the-variants.{Body, Faulty, Ended}
 use Rattle.model.specs.declared.Taken.the-variants.{Whole, Broken, End}
-use Rattle.model.specs.Field.{bytesOf, numberIn, tagOf, bodyLength, lengthFits, bodyOf, fieldBytes, fieldIn, takeField}
-use Rattle.lemmas.proofs.Tests.{or-false, or-false-left, or-false-right}
+use Rattle.model.specs.Header.{bytesOf, numberIn, isTag, lengthFits, headerAt}
+use Rattle.model.specs.Field.{tagOf, bodyLength, bodyOf, fieldBytes, fieldTags, fieldIn, takenBy, takeField}
+use Rattle.lemmas.proofs.Tests.{within}
 pub use Rattle.model.specs.File.{SourceFits}
+use Rattle.theory.proofs.HeaderLaws.{header-whole, header-headed, header-end}
 use Rattle.theory.proofs.NumberBytes.{Bytes, length-bytesOf, number-bytes, number-fits, bytes-number, number-same}
 
 -- the numbers of a field fit the widths that its body has for them
@@ -44,7 +47,7 @@ length-field f =
     omega arith
 
 -- a field's length is one of its tag's
-length-fits : (f : Field) → lengthFits (tagOf f) (bodyLength f) ≡ true
+length-fits : (f : Field) → lengthFits fieldTags (tagOf f) (bodyLength f) ≡ true
 length-fits (OfTask e) = refl
 length-fits (OfSource (Fixed m)) = refl
 length-fits (OfSource (Paced p)) = refl
@@ -65,11 +68,29 @@ tag-most (OfSource (Paced p)) = omega arith
 tag-most (OfSource (Swung p swing)) = omega arith
 tag-most (OfLink l) = omega arith
 
+-- the table has the tags 1 to 4, and no other
+tag-in : (t : ℕ) → 1 ≤ t → t ≤ 4 → isTag fieldTags t ≡ true
+tag-in zero lo hi = absurd (omega arith)
+tag-in (suc zero) lo hi = refl
+tag-in (suc (suc zero)) lo hi = refl
+tag-in (suc (suc (suc zero))) lo hi = refl
+tag-in (suc (suc (suc (suc zero)))) lo hi = refl
+tag-in (suc (suc (suc (suc (suc t))))) lo hi = absurd (omega arith)
+
+pub tag-range : (t : ℕ) → isTag fieldTags t ≡ true → (1 ≤ t) × (t ≤ 4)
+tag-range zero e = absurd (omega (arith, ltb-true 0 0 e))
+tag-range (suc t) e = (omega arith, go (leb t 3) refl)
+  where
+    go : (b : Bool) → leb t 3 ≡ b → suc t ≤ 4
+    go true q = omega (arith, leb-true t 3 q)
+    go false q =
+        let past : 10 ≤ 2 * suc t + 1 = omega (arith, leb-false t 3 q) in
+        absurd (omega (arith, ltb-true 0 (getD fieldTags (2 * suc t + 1) 0) e, List·getD-eq-default fieldTags 0 past))
+
 -- a field that passes the four tests is taken
-pub take-whole : (s : List ℕ) (at tag n : ℕ) → getD s at 0 ≡ tag → 1 ≤ tag → tag ≤ 4 → numberIn s (at + 1) 2 ≡ n → lengthFits tag n ≡ true → at + 3 + n ≤ length s → takeField s at ≡ Whole (fieldIn s tag (at + 3) n) (at + 3 + n)
+pub take-whole : (s : List ℕ) (at tag n : ℕ) → getD s at 0 ≡ tag → 1 ≤ tag → tag ≤ 4 → numberIn s (at + 1) 2 ≡ n → lengthFits fieldTags tag n ≡ true → at + 3 + n ≤ length s → takeField s at ≡ Whole (fieldIn s tag (at + 3) n) (at + 3 + n)
 unfolding takeField
-take-whole s at tag n e lo hi size right fits =
-    rw (e, size, lt-leb (length s) at (omega arith), le-ltb (length s - at) 3 (omega arith), or-false (eqb tag 0) (ltb 4 tag) (ne-eqb tag 0 (λ q. omega arith)) (le-ltb 4 tag hi), right, le-ltb (length s - at - 3) n (omega arith))
+take-whole s at tag n e lo hi size right fits = ap (takenBy s) (header-whole fieldTags s at tag n e (tag-in tag lo hi) size right fits)
 
 -- reading past what stands before
 number-shift : (pre ys : List ℕ) (b n : ℕ) → numberIn (pre ++ ys) (length pre + b) n ≡ numberIn ys b n
@@ -120,14 +141,10 @@ take-written pre f rest h =
 pub record Took (s : List ℕ) (at : ℕ) (f : Field) (next : ℕ) : Type 0 where
   pub tag-low : 1 ≤ getD s at 0
   pub tag-high : getD s at 0 ≤ 4
-  pub header : lengthFits (getD s at 0) (numberIn s (at + 1) 2) ≡ true
+  pub header : lengthFits fieldTags (getD s at 0) (numberIn s (at + 1) 2) ≡ true
   pub inside : at + 3 + numberIn s (at + 1) 2 ≤ length s
   pub is : fieldIn s (getD s at 0) (at + 3) (numberIn s (at + 1) 2) ≡ f
   pub ends : next ≡ at + 3 + numberIn s (at + 1) 2
-
-cond-else : {A : Type 0} (b : Bool) (x y z : A) → cond b x y ≡ z → (x ≡ z → ⊥) → (b ≡ false) × (y ≡ z)
-cond-else true x y z e n = absurd (n e)
-cond-else false x y z e n = (refl, e)
 
 broken-whole : {r : Refusal} {f : Field} {n : ℕ} → Broken r ≡ Whole f n → ⊥
 broken-whole q = let z : _≡_ {A = ℕ} 0 1 = cc in omega arith
@@ -137,32 +154,24 @@ end-whole q = let z : _≡_ {A = ℕ} 0 1 = cc in omega arith
 
 pub take-took : (s : List ℕ) (at : ℕ) (f : Field) (next : ℕ) → takeField s at ≡ Whole f next → Took s at f next
 unfolding takeField
-take-took s at f next e =
-    let a = cond-else (leb (length s) at) _ _ (Whole f next) e end-whole in
-    let b = cond-else (ltb (length s - at) 3) _ _ (Whole f next) (a .1) broken-whole in
-    let c = cond-else (eqb (getD s at 0) 0 || ltb 4 (getD s at 0)) _ _ (Whole f next) (b .1) broken-whole in
-    let d = cond-else (not (lengthFits (getD s at 0) (numberIn s (at + 1) 2))) _ _ (Whole f next) (c .1) broken-whole in
-    let g = cond-else (ltb (length s - at - 3) (numberIn s (at + 1) 2)) _ _ (Whole f next) (d .1) broken-whole in
-    let q : Whole (fieldIn s (getD s at 0) (at + 3) (numberIn s (at + 1) 2)) (at + 3 + numberIn s (at + 1) 2) ≡ Whole f next = g .1 in
-    let h1 = leb-false (length s) at (a .0) in
-    let h2 = ltb-false (length s - at) 3 (b .0) in
-    let h3 = eqb-false (getD s at 0) 0 (or-false-left (eqb (getD s at 0) 0) (ltb 4 (getD s at 0)) (c .0)) in
-    let h4 = ltb-false 4 (getD s at 0) (or-false-right (eqb (getD s at 0) 0) (ltb 4 (getD s at 0)) (c .0)) in
-    let h5 = ltb-false (length s - at - 3) (numberIn s (at + 1) 2) (g .0) in
-    record {
-      tag-low = omega (arith, h3);
-      tag-high = h4;
-      header = not-false _ (d .0);
-      inside = omega arith;
-      is = cc;
-      ends = cc;
-    }
+take-took s at f next e = go (headerAt fieldTags s at) refl e
+  where
+    go : (h : Header) → headerAt fieldTags s at ≡ h → takenBy s h ≡ Whole f next → Took s at f next
+    go (Body tag b n) q w =
+        let k = header-headed fieldTags s at tag b n q in
+        let r = tag-range tag (k .known) in
+        record {
+          tag-low = rw (k .tag-is) (r .0);
+          tag-high = rw (k .tag-is) (r .1);
+          header = rw (k .tag-is, k .size-is) (k .right);
+          inside = omega (arith, k .begins, k .size-is, k .inside);
+          is = rw (k .tag-is, k .size-is, k .begins) cc;
+          ends = rw (k .size-is, k .begins) cc;
+        }
+    go (Faulty r) q w = absurd (broken-whole w)
+    go Ended q w = absurd (end-whole w)
 
 -- only past the last byte is there no field
-cond-not : {A : Type 0} (b : Bool) (x y z : A) → (x ≡ z → ⊥) → (y ≡ z → ⊥) → cond b x y ≡ z → ⊥
-cond-not true x y z f g e = f e
-cond-not false x y z f g e = g e
-
 broken-end : {r : Refusal} → Broken r ≡ End → ⊥
 broken-end q = let z : _≡_ {A = ℕ} 0 1 = cc in omega arith
 
@@ -171,40 +180,35 @@ whole-end q = let z : _≡_ {A = ℕ} 0 1 = cc in omega arith
 
 pub take-end : (s : List ℕ) (at : ℕ) → takeField s at ≡ End → length s ≤ at
 unfolding takeField
-take-end s at e = go (leb (length s) at) refl
+take-end s at e = go (headerAt fieldTags s at) refl e
   where
-    go : (b : Bool) → leb (length s) at ≡ b → length s ≤ at
-    go true q = leb-true (length s) at q
-    go false q =
-        absurd
-        (cond-not (ltb (length s - at) 3) (Broken CutShort) _ End broken-end
-        (cond-not (eqb (getD s at 0) 0 || ltb 4 (getD s at 0)) (Broken StrangeTag) _ End broken-end
-        (cond-not (not (lengthFits (getD s at 0) (numberIn s (at + 1) 2))) (Broken WrongLength) _ End broken-end
-        (cond-not (ltb (length s - at - 3) (numberIn s (at + 1) 2)) (Broken CutShort) _ End broken-end whole-end)))
-        (rw q at e))
+    go : (h : Header) → headerAt fieldTags s at ≡ h → takenBy s h ≡ End → length s ≤ at
+    go (Body tag b n) q w = absurd (whole-end w)
+    go (Faulty r) q w = absurd (broken-end w)
+    go Ended q w = header-end fieldTags s at q
 
 -- a tag from 1 to 4 and a length of its own
-by-length : (P : ℕ → Type 0) (n m : ℕ) → eqb n m ≡ true → P m → P n
-by-length P n m e x = subst P (sym (eqb-true n m e)) x
+by-length : (P : ℕ → Type 0) (n m : ℕ) → (leb m n && leb n m) ≡ true → P m → P n
+by-length P n m e x = let l : n ≡ m = omega (arith, within m n m e) in subst P (sym l) x
 
-pub by-form : (P : ℕ → ℕ → Type 0) (t n : ℕ) → 1 ≤ t → t ≤ 4 → lengthFits t n ≡ true → P 1 4 → P 2 4 → P 3 2 → P 3 3 → P 4 3 → P t n
+pub by-form : (P : ℕ → ℕ → Type 0) (t n : ℕ) → 1 ≤ t → t ≤ 4 → lengthFits fieldTags t n ≡ true → P 1 4 → P 2 4 → P 3 2 → P 3 3 → P 4 3 → P t n
 by-form P zero n lo hi e a b c d f = absurd (omega arith)
 by-form P (suc zero) n lo hi e a b c d f = by-length (P 1) n 4 e a
 by-form P (suc (suc zero)) n lo hi e a b c d f = by-length (P 2) n 4 e b
 by-form P (suc (suc (suc zero))) n lo hi e a b c d f = go (eqb n 2) refl
   where
     go : (x : Bool) → eqb n 2 ≡ x → P 3 n
-    go true q = by-length (P 3) n 2 q c
-    go false q = by-length (P 3) n 3 (rw q at e) d
+    go true q = subst (P 3) (sym (eqb-true n 2 q)) c
+    go false q = let l : n ≡ 3 = omega (arith, within 2 n 3 e, eqb-false n 2 q) in subst (P 3) (sym l) d
 by-form P (suc (suc (suc (suc zero)))) n lo hi e a b c d f = by-length (P 4) n 3 e f
 by-form P (suc (suc (suc (suc (suc t))))) n lo hi e a b c d f = absurd (omega arith)
 
 -- the field of a tag has that tag, the length and the body that were read
-tag-of-field : (s : List ℕ) (b t n : ℕ) → 1 ≤ t → t ≤ 4 → lengthFits t n ≡ true → tagOf (fieldIn s t b n) ≡ t
+tag-of-field : (s : List ℕ) (b t n : ℕ) → 1 ≤ t → t ≤ 4 → lengthFits fieldTags t n ≡ true → tagOf (fieldIn s t b n) ≡ t
 unfolding fieldIn
 tag-of-field s b t n lo hi e = by-form (λ x y. tagOf (fieldIn s x b y) ≡ x) t n lo hi e refl refl refl refl refl
 
-length-of-field : (s : List ℕ) (b t n : ℕ) → 1 ≤ t → t ≤ 4 → lengthFits t n ≡ true → bodyLength (fieldIn s t b n) ≡ n
+length-of-field : (s : List ℕ) (b t n : ℕ) → 1 ≤ t → t ≤ 4 → lengthFits fieldTags t n ≡ true → bodyLength (fieldIn s t b n) ≡ n
 unfolding fieldIn
 length-of-field s b t n lo hi e = by-form (λ x y. bodyLength (fieldIn s x b y) ≡ y) t n lo hi e refl refl refl refl refl
 
@@ -223,7 +227,7 @@ two-and-one s b h l = rw (bytes-number s b 2 h (omega arith)) (pair ∙ three s 
     pair : take 2 (drop b s) ++ (getD s (b + 2) 0 ∷ []) ≡ getD s b 0 ∷ getD s (b + 1) 0 ∷ getD s (b + 2) 0 ∷ []
     pair = rw (drop-one s b (omega arith), drop-one s (b + 1) (omega arith))
 
-body-of-field : (s : List ℕ) (b t n : ℕ) → Bytes s → 1 ≤ t → t ≤ 4 → lengthFits t n ≡ true → b + n ≤ length s → bodyOf (fieldIn s t b n) ≡ take n (drop b s)
+body-of-field : (s : List ℕ) (b t n : ℕ) → Bytes s → 1 ≤ t → t ≤ 4 → lengthFits fieldTags t n ≡ true → b + n ≤ length s → bodyOf (fieldIn s t b n) ≡ take n (drop b s)
 unfolding fieldIn bodyOf
 body-of-field s b t n h lo hi e = by-form (λ x y. b + y ≤ length s → bodyOf (fieldIn s x b y) ≡ take y (drop b s)) t n lo hi e
     (λ l. bytes-number s b 4 h l)
@@ -232,7 +236,7 @@ body-of-field s b t n h lo hi e = by-form (λ x y. b + y ≤ length s → bodyOf
     (λ l. two-and-one s b h l)
     (λ l. three s b l)
 
-fits-of-field : (s : List ℕ) (b t n : ℕ) → Bytes s → 1 ≤ t → t ≤ 4 → lengthFits t n ≡ true → FieldFits (fieldIn s t b n)
+fits-of-field : (s : List ℕ) (b t n : ℕ) → Bytes s → 1 ≤ t → t ≤ 4 → lengthFits fieldTags t n ≡ true → FieldFits (fieldIn s t b n)
 unfolding fieldIn
 fits-of-field s b t n h lo hi e = by-form (λ x y. FieldFits (fieldIn s x b y)) t n lo hi e (number-fits s b 4 h) (number-fits s b 4 h) (number-fits s b 2 h) (number-fits s b 2 h) tt
 

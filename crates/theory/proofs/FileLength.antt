@@ -1,14 +1,14 @@
 -- How long a description's file can be, and that a reading looks at no byte past the first 4,096. Assumes nothing.
 use Prim.Native.Nat.{ℕ, zero, suc, _+_, _-_, _*_, _≤_, _<_}
-use mathlib.Core.Path.{_≡_, refl, sym, _∙_}
-use mathlib.Core.Bool.{Bool, true, false, cond, not, _||_}
+use mathlib.Core.Path.{_≡_, refl, sym, ap, _∙_}
+use mathlib.Core.Bool.{Bool, true, false, cond, not}
 use mathlib.Core.List.{List}
 use native.Mathlib.Omega.{arith}
 use native.Mathlib.Nat.{add-zero, add-suc}
-use lib.Dec.{leb, ltb, eqb}
+use lib.Dec.{ltb, eqb}
 use lib.ListN.{length, getD, take}
 use lib.Seq.{getD-take, length-take-le, take-all}
-use borrow.Author.Tests.{lt-leb, le-ltb, ltb-true, eqb-true}
+use borrow.Author.Tests.{lt-leb, le-ltb, ltb-true}
 use Rattle.model.specs.declared.Source.{Source}
 use Rattle.model.specs.declared.Link.{Link}
 use Rattle.model.specs.declared.Description.{Description}
@@ -19,6 +19,8 @@ use Rattle.model.specs.declared.Outcome.{Outcome}
 use Rattle.model.specs.declared.Outcome.the-variants.{Done, Refused}
 use Rattle.model.specs.declared.Refusal.{Refusal}
 use Rattle.model.specs.declared.Refusal.the-variants.{CutShort, StrangeTag, WrongLength, NoTask, Loop, TooHeavy}
+use Rattle.model.specs.declared.Header.{Header}
+use Rattle.model.specs.declared.Header.the-variants.{Body, Faulty, Ended}
 use Rattle.model.specs.declared.Taken.{Taken}
 use Rattle.model.specs.declared.Taken.the-variants.{Whole, Broken, End}
 use Rattle.model.specs.declared.Check.{Check}
@@ -27,11 +29,13 @@ use Rattle.model.specs.Basics.{joined}
 use Rattle.model.specs.Refusals.{blank, noLink, noSource, onDone}
 use Rattle.model.specs.Graph.{system, cyclic}
 use Rattle.model.specs.Loads.{tooHeavy}
-use Rattle.model.specs.Field.{numberIn, lengthFits, fieldBytes, fieldIn, takeField, checkField, withField, passed, noProgress, fieldOf}
+use Rattle.model.specs.Header.{numberIn, isTag, lengthFits, headerAt}
+use Rattle.model.specs.Field.{fieldBytes, fieldTags, fieldIn, takenBy, takeField, checkField, withField, passed, noProgress, fieldOf}
 use Rattle.model.specs.File.{fileOf, parseFrom, parseFile, lastChecks, finished, refusedReading, readFile}
 use Rattle.lemmas.proofs.Tests.{Cmp, less, same, more, cmp}
 use Rattle.theory.proofs.NumberBytes.{number-same}
-use Rattle.theory.proofs.FieldLaws.{length-field, body-most, take-took, took-length}
+use Rattle.theory.proofs.HeaderLaws.{header-headed}
+use Rattle.theory.proofs.FieldLaws.{length-field, tag-range, body-most, take-took, by-form, took-length}
 use Rattle.theory.proofs.RecordLaws.{offset, offset-more, field-task, field-source, field-link, parse-fine, parse-unfit, parse-broken, parse-end}
 use Rattle.theory.proofs.JudgeLaws.{Few, fine-passes}
 
@@ -76,30 +80,23 @@ unfolding fileOf
 file-length d w = omega (arith, offset-links d (d .«link_count»), w .tasks, w .sources, w .links)
 
 -- where seven bytes or more are left, a field is not cut short
-length-most : (t n : ℕ) → lengthFits t n ≡ true → n ≤ 4
-length-most t n = go (leb t 2) (eqb t 3)
+length-most : (t n : ℕ) → isTag fieldTags t ≡ true → lengthFits fieldTags t n ≡ true → n ≤ 4
+length-most t n k e =
+    by-form (λ t n. n ≤ 4) t n (tag-range t k .0) (tag-range t k .1) e (omega arith) (omega arith) (omega arith) (omega arith) (omega arith)
+
+uncut : (left t n : ℕ) (w : Header) → 4 ≤ left → cond (not (isTag fieldTags t)) (Faulty StrangeTag) (cond (not (lengthFits fieldTags t n)) (Faulty WrongLength) (cond (ltb left n) (Faulty CutShort) w)) ≡ cond (not (isTag fieldTags t)) (Faulty StrangeTag) (cond (not (lengthFits fieldTags t n)) (Faulty WrongLength) w)
+uncut left t n w h = go (isTag fieldTags t) (lengthFits fieldTags t n) refl refl
   where
-    either : (a : Bool) → eqb n 2 ≡ a → (a || eqb n 3) ≡ true → n ≤ 4
-    either true q e = omega (arith, eqb-true n 2 q)
-    either false q e = omega (arith, eqb-true n 3 e)
+    go : (a b : Bool) → isTag fieldTags t ≡ a → lengthFits fieldTags t n ≡ b → cond (not a) (Faulty StrangeTag) (cond (not b) (Faulty WrongLength) (cond (ltb left n) (Faulty CutShort) w)) ≡ cond (not a) (Faulty StrangeTag) (cond (not b) (Faulty WrongLength) w)
+    go true true k e = rw (le-ltb left n (omega (arith, length-most t n k e)))
+    go true false k e = refl
+    go false b k e = refl
 
-    go : (a b : Bool) → cond a (eqb n 4) (cond b (eqb n 2 || eqb n 3) (eqb n 3)) ≡ true → n ≤ 4
-    go true b e = omega (arith, eqb-true n 4 e)
-    go false true e = either (eqb n 2) refl e
-    go false false e = omega (arith, eqb-true n 3 e)
-
-uncut : (left t n : ℕ) (w : Taken) → 4 ≤ left → cond (not (lengthFits t n)) (Broken WrongLength) (cond (ltb left n) (Broken CutShort) w) ≡ cond (not (lengthFits t n)) (Broken WrongLength) w
-uncut left t n w h = go (lengthFits t n) refl
-  where
-    go : (b : Bool) → lengthFits t n ≡ b → cond (not b) (Broken WrongLength) (cond (ltb left n) (Broken CutShort) w) ≡ cond (not b) (Broken WrongLength) w
-    go true q = rw (le-ltb left n (omega (arith, length-most t n q)))
-    go false q = refl
-
-take-roomy : (s : List ℕ) (at : ℕ) → at + 7 ≤ length s → takeField s at ≡ cond (eqb (getD s at 0) 0 || ltb 4 (getD s at 0)) (Broken StrangeTag) (cond (not (lengthFits (getD s at 0) (numberIn s (at + 1) 2))) (Broken WrongLength) (Whole (fieldIn s (getD s at 0) (at + 3) (numberIn s (at + 1) 2)) (at + 3 + numberIn s (at + 1) 2)))
-unfolding takeField
-take-roomy s at h =
+header-roomy : (s : List ℕ) (at : ℕ) → at + 7 ≤ length s → headerAt fieldTags s at ≡ cond (not (isTag fieldTags (getD s at 0))) (Faulty StrangeTag) (cond (not (lengthFits fieldTags (getD s at 0) (numberIn s (at + 1) 2))) (Faulty WrongLength) (Body (getD s at 0) (at + 3) (numberIn s (at + 1) 2)))
+unfolding headerAt
+header-roomy s at h =
     rw
-    (lt-leb (length s) at (omega arith), le-ltb (length s - at) 3 (omega arith), uncut (length s - at - 3) (getD s at 0) (numberIn s (at + 1) 2) (Whole (fieldIn s (getD s at 0) (at + 3) (numberIn s (at + 1) 2)) (at + 3 + numberIn s (at + 1) 2)) (omega arith))
+    (lt-leb (length s) at (omega arith), le-ltb (length s - at) 3 (omega arith), uncut (length s - at - 3) (getD s at 0) (numberIn s (at + 1) 2) (Body (getD s at 0) (at + 3) (numberIn s (at + 1) 2)) (omega arith))
 
 field-same : (s t : List ℕ) (b tag n : ℕ) → ((i : ℕ) → i < 4 → getD s (b + i) 0 ≡ getD t (b + i) 0) → fieldIn s tag b n ≡ fieldIn t tag b n
 unfolding fieldIn
@@ -109,10 +106,21 @@ field-same s t b tag n h =
     (number-same s t b b 4 h, number-same s t b b 2 (λ i p. h i (omega arith)), z, h 1 (omega arith), h 2 (omega arith))
 
 take-same : (s : List ℕ) (m at : ℕ) → at + 7 ≤ m → m ≤ length s → takeField (take m s) at ≡ takeField s at
-take-same s m at h l =
-    let g : (i : ℕ) → i < m → getD (take m s) i 0 ≡ getD s i 0 = λ i p. getD-take m s i 0 p in
-    rw
-    (take-roomy (take m s) at (omega (arith, length-take-le m s l)), take-roomy s at (omega arith), g at (omega arith), number-same (take m s) s (at + 1) (at + 1) 2 (λ i p. g (at + 1 + i) (omega arith)), field-same (take m s) s (at + 3) (getD s at 0) (numberIn s (at + 1) 2) (λ i p. g (at + 3 + i) (omega arith)))
+unfolding takeField
+take-same s m at h l = ap (takenBy (take m s)) header ∙ body (headerAt fieldTags s at) refl
+  where
+    shared : (i : ℕ) → i < m → getD (take m s) i 0 ≡ getD s i 0
+    shared i p = getD-take m s i 0 p
+
+    header : headerAt fieldTags (take m s) at ≡ headerAt fieldTags s at
+    header =
+        rw
+        (header-roomy (take m s) at (omega (arith, length-take-le m s l)), header-roomy s at (omega arith), shared at (omega arith), number-same (take m s) s (at + 1) (at + 1) 2 (λ i p. shared (at + 1 + i) (omega arith)))
+
+    body : (k : Header) → headerAt fieldTags s at ≡ k → takenBy (take m s) k ≡ takenBy s k
+    body (Body tag b n) q = ap (λ (f : Field). Whole f (b + n)) (field-same (take m s) s b tag n (λ i p. shared (b + i) (omega (arith, header-headed fieldTags s at tag b n q .begins))))
+    body (Faulty r) q = refl
+    body Ended q = refl
 
 -- a place that the fields before it can have come to
 record Near (at : ℕ) (p : Progress) : Type 0 where

@@ -9,6 +9,7 @@ pub mod Order
 pub mod Levels
 pub mod Jumps
 pub mod NumberBytes
+pub mod HeaderLaws
 pub mod FieldLaws
 pub mod RecordLaws
 pub mod RecordState

@@ -19,7 +19,8 @@ use Rattle.model.specs.Basics.{tab, joined, allN, sumN}
 use Rattle.model.specs.Refusals.{noLink, noSource}
 use Rattle.model.specs.Graph.{system, linkAt, cyclic}
 use Rattle.model.specs.Loads.{work, added, load, tooHeavy}
-use Rattle.model.specs.Field.{onScale, fieldBytes, fieldOf, bodyOf, bytesOf}
+use Rattle.model.specs.Header.{bytesOf}
+use Rattle.model.specs.Field.{onScale, fieldBytes, fieldOf, bodyOf}
 use Rattle.model.specs.File.{fileOf, readFile, Accepted, judge}
 use Rattle.lemmas.proofs.Tests.{false-of, and-left, and-right}
 use Rattle.lemmas.proofs.Range.{all-at, any-none, sumTo-le}

@@ -6,7 +6,7 @@ use native.Mathlib.Omega.{arith}
 use native.Mathlib.Nat.{pow-suc, pow-zero}
 use lib.ListN.{length, getD, take, drop, length-append, length-drop}
 use lib.Seq.{take-suc, getD-drop, getD-append-add, getD-at}
-use Rattle.model.specs.Field.{bytesOf, numberIn}
+use Rattle.model.specs.Header.{bytesOf, numberIn}
 
 -- a list of bytes
 abbrev pub Bytes : List ℕ → Type 0
@@ -48,3 +48,11 @@ pub number-same : (s t : List ℕ) (at at′ n : ℕ) → ((i : ℕ) → i < n �
 unfolding numberIn
 number-same s t at at′ zero h = refl
 number-same s t at at′ (suc n) h = rw (number-same s t at at′ n (λ i p. h i (omega arith)), h n (omega arith))
+
+-- a number from a place on is one in the bytes that are left there
+pub number-left : (s : List ℕ) (a b n : ℕ) → numberIn s (a + b) n ≡ numberIn (drop a s) b n
+unfolding numberIn
+number-left s a b zero = refl
+number-left s a b (suc n) =
+    let e : a + b + n ≡ a + (b + n) = omega arith in
+    rw (e, number-left s a b n, getD-drop a s (b + n) 0)

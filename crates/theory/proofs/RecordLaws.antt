@@ -17,6 +17,7 @@ use Rattle.model.specs.declared.Outcome.the-variants.{Done}
 use Rattle.model.specs.declared.Reading.{Reading}
 use Rattle.model.specs.Basics.{joined, upTo}
 use Rattle.model.specs.Refusals.{blank, noLink, noSource}
+use Rattle.model.specs.Header.{headerAt}
 use Rattle.model.specs.Field.{fieldBytes, takeField, checkField, withField, passed, noProgress, fieldOf, fieldCount}
 use Rattle.model.specs.File.{fileOf, parseFrom, parseFile, refusedReading}
 pub use Rattle.model.specs.File.{Widths}
@@ -128,7 +129,7 @@ file-field d w k h =
     rw (c .1, offset-more d k) (take-written (joined k (λ i. fieldBytes (fieldOf d i))) (fieldOf d k) (c .0) (field-fits d w k h))
 
 pub file-end : (d : Description) → takeField (fileOf d) (offset d (fieldCount d)) ≡ End
-unfolding fileOf takeField
+unfolding fileOf takeField headerAt
 file-end d = rw (le-leb (offset d (fieldCount d)) (offset d (fieldCount d)) (omega arith))
 
 -- a reading of the file, from its field k on, with what the fields before it gave

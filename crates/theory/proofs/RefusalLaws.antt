@@ -1,7 +1,7 @@
 -- Which refusals a reading and a judging give: those numbered 1 to 10. Assumes nothing.
 use Prim.Native.Nat.{ℕ, zero, suc, _+_, _-_, _≤_}
 use mathlib.Core.Path.{_≡_, refl}
-use mathlib.Core.Bool.{Bool, true, false, cond, not, _||_}
+use mathlib.Core.Bool.{Bool, true, false, cond, not}
 use mathlib.Core.List.{List}
 use native.Mathlib.Omega.{arith}
 use lib.Dec.{leb, ltb, eqb}
@@ -10,6 +10,8 @@ use Rattle.model.specs.declared.Description.{Description}
 use Rattle.model.specs.declared.Field.{Field}
 use Rattle.model.specs.declared.Progress.{Progress}
 use Rattle.model.specs.declared.Refusal.the-variants.{CutShort, StrangeTag, WrongLength, OutOfTurn, TooMany, OffScale, NoSuchEnd, NoTask, Loop, TooHeavy}
+use Rattle.model.specs.declared.Header.{Header}
+use Rattle.model.specs.declared.Header.the-variants.{Body, Faulty, Ended}
 use Rattle.model.specs.declared.Taken.{Taken}
 use Rattle.model.specs.declared.Taken.the-variants.{Whole, Broken, End}
 use Rattle.model.specs.declared.Check.{Check}
@@ -19,7 +21,8 @@ use Rattle.model.specs.declared.Outcome.the-variants.{Done, Refused}
 use Rattle.model.specs.Refusals.{numberOf, onDone}
 use Rattle.model.specs.Graph.{system, cyclic}
 use Rattle.model.specs.Loads.{tooHeavy}
-use Rattle.model.specs.Field.{numberIn, lengthFits, fieldIn, takeField, checkField, inTurn, hasRoom, onScale, hasEnds, withField, passed}
+use Rattle.model.specs.Header.{numberIn, isTag, lengthFits, headerAt}
+use Rattle.model.specs.Field.{fieldTags, takenBy, takeField, checkField, inTurn, hasRoom, onScale, hasEnds, withField, passed}
 use Rattle.model.specs.File.{fileOf, parseFrom, parseFile, lastChecks, finished, refusedReading, readFile, overfull, judge}
 use Rattle.theory.proofs.RecordLaws.{parse-fine, parse-unfit, parse-broken, parse-end}
 
@@ -39,14 +42,14 @@ checkNumber (Unfit r) = numberOf r
 
 -- a field that does not come out whole: 1, 2 or 3
 taken-number : (s : List ℕ) (at : ℕ) → takenNumber (takeField s at) ≤ 7
-unfolding takeField
+unfolding takeField headerAt
 taken-number s at =
-    go (leb (length s) at) (ltb (length s - at) 3) (eqb (getD s at 0) 0 || ltb 4 (getD s at 0))
-    (not (lengthFits (getD s at 0) (numberIn s (at + 1) 2))) (ltb (length s - at - 3) (numberIn s (at + 1) 2))
-    (Whole (fieldIn s (getD s at 0) (at + 3) (numberIn s (at + 1) 2)) (at + 3 + numberIn s (at + 1) 2))
+    go (leb (length s) at) (ltb (length s - at) 3) (not (isTag fieldTags (getD s at 0)))
+    (not (lengthFits fieldTags (getD s at 0) (numberIn s (at + 1) 2))) (ltb (length s - at - 3) (numberIn s (at + 1) 2))
+    (Body (getD s at 0) (at + 3) (numberIn s (at + 1) 2))
     (omega arith)
   where
-    go : (a b c d e : Bool) (w : Taken) → takenNumber w ≤ 7 → takenNumber (cond a End (cond b (Broken CutShort) (cond c (Broken StrangeTag) (cond d (Broken WrongLength) (cond e (Broken CutShort) w))))) ≤ 7
+    go : (a b c d e : Bool) (w : Header) → takenNumber (takenBy s w) ≤ 7 → takenNumber (takenBy s (cond a Ended (cond b (Faulty CutShort) (cond c (Faulty StrangeTag) (cond d (Faulty WrongLength) (cond e (Faulty CutShort) w)))))) ≤ 7
     go true b c d e w h = omega arith
     go false true c d e w h = omega arith
     go false false true d e w h = omega arith

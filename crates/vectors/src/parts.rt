@@ -1,5 +1,6 @@
 // The parts of the vectors, and the count of the cases that agree.
 
+use headers::half_at;
 ghost use Prim.Native.Nat.{_≤_, _<_};
 ghost use lib.ListN.{length};
 
@@ -16,12 +17,6 @@ pub struct Tally {
     pub first: u64,
 }
 
-pub fn wide(b: u8) -> usize
-    ensures { λ r. ⌜ r < 256 ⌝ }
-{
-    b as usize
-}
-
 // The part whose length stands at `at`, cut off where the vectors end.
 pub fn part_at(s: &[u8], at: usize) -> Part
     requires { ⌜ at ≤ length (now s) ⌝ }
@@ -31,10 +26,8 @@ pub fn part_at(s: &[u8], at: usize) -> Part
     if n - at < 2 {
         return Part { start: n, end: n };
     }
-    let high = wide(s[at]);
-    let low = wide(s[at + 1]);
     let start = at + 2;
-    let size = high * 256 + low;
+    let size = half_at(s, at) as usize;
     if n - start < size {
         return Part { start, end: n };
     }

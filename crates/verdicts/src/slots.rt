@@ -1,13 +1,13 @@
 // The verdict on each link from the tables, at given spacings.
 
 use crate::level::room;
-use loads::levels::larger;
 use loads::levels::loads_at;
 use model::Description;
 use model::Link;
 use model::Verdict;
 use model::VerdictSlot;
 use numbers::index;
+use numbers::larger;
 use numbers::wide;
 use reach::level_reach;
 ghost use mathlib.Core.Path.{_≡_};

@@ -1,5 +1,6 @@
 // Stretches without a fixed point: as long as the wheels waste more than the level has to spare, the next eight blocks have none.
 
+use numbers::wide_u16;
 ghost use mathlib.Core.Path.{_≡_};
 ghost use mathlib.Core.Bool.{cond};
 ghost use Prim.Native.Nat.{ℕ, _+_, _-_, _*_, _/_, _%_, _^_, _≤_, _<_};
@@ -77,13 +78,6 @@ fn block_at(turn: u64, shift: u32) -> u64
     turn >> shift
 }
 
-// An entry in 64 bits.
-fn wide(entry: u16) -> u64
-    ensures { λ r. ⌜ (r ≡ entry) × (r ≤ 65535) ⌝ }
-{
-    entry as u64
-}
-
 // The least waste of all wheels together in the stretch from where they stand; then each is turned some ticks on.
 fn waste_passed(
     table: &[u16; 65536],
@@ -102,7 +96,7 @@ fn waste_passed(
     while k < count {
         let turn = turns[k];
         let at = places[k] + block_at(turn, shift) as usize;
-        sum = sum + wide(table[at]);
+        sum = sum + wide_u16(table[at]);
         turns[k] = turned(turn, width, periods[k]);
         k += 1;
     }

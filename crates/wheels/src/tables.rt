@@ -1,5 +1,6 @@
 // The tables of the wheels: for each block of a period, the least that a wheel's sources waste in eight blocks from there on.
 
+use numbers::smaller_u16;
 use rounds::next_reach;
 use rounds::round_at;
 ghost use mathlib.Core.Path.{_≡_};
@@ -208,16 +209,6 @@ fn fill(
     }
 }
 
-// The smaller of two entries.
-fn smaller(a: u16, b: u16) -> u16
-    ensures { λ r. ⌜ (r ≤ a) × (r ≤ b) ⌝ }
-{
-    if a < b {
-        return a;
-    }
-    b
-}
-
 // Lowers each entry of a wheel to the one that many places on.
 fn spread(place: usize, entries: usize, many: usize, table: &mut [u16; 65536])
     requires { ⌜ (place + entries ≤ 65536) × (1 ≤ many) × (many ≤ 8) × (length (now table) ≡ 65536) ⌝ }
@@ -226,7 +217,7 @@ fn spread(place: usize, entries: usize, many: usize, table: &mut [u16; 65536])
     let mut i: usize = 0;
     while i + many < entries {
         let at = place + i;
-        table[at] = smaller(table[at], table[at + many]);
+        table[at] = smaller_u16(table[at], table[at + many]);
         i += 1;
     }
 }

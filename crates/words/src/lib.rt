@@ -4,7 +4,7 @@ use model::Policy;
 use sets::wide::Wide;
 ghost use mathlib.Core.Path.{_≡_};
 ghost use mathlib.Core.Bool.{cond};
-ghost use Prim.Native.Nat.{_<_, _^_};
+ghost use Prim.Native.Nat.{_<_};
 ghost use Rattle.words.specs.Words.{wideAt, holdsOn};
 
 // A task reads its inputs when its run begins, so an event is fresh until then and taken from then on. Bit k of woken is task k if it was woken since
@@ -36,13 +36,6 @@ pub fn row(rows: &[u64; 576], i: usize) -> Wide
         w2: rows[i + 2],
         w3: rows[i + 3],
     }
-}
-
-// A number of ticks as a number of 64 bits.
-pub fn long(x: u32) -> u64
-    ensures { λ r. ⌜ (r ≡ x) × (r < 2 ^ 32) ⌝ }
-{
-    x as u64
 }
 
 // What is kept of the number of a task whose run is not over: all of its bits on the hold-on model, else none.

@@ -12,7 +12,8 @@ ghost use Prim.Native.Nat.{_+_, _≤_};
 ghost use mathlib.Core.List.{_∷_, [], _++_};
 ghost use lib.ListN.{length};
 ghost use lib.Seq.{sets};
-ghost use Rattle.model.specs.Field.{bytesOf, fieldBytes};
+ghost use Rattle.model.specs.Header.{bytesOf};
+ghost use Rattle.model.specs.Field.{fieldBytes};
 ghost use Rattle.model.specs.File.{fileOf, fillWith, filledBy};
 
 // A field whose body is a number of four bytes: a task or a fixed source.

@@ -7,7 +7,8 @@ use lib.Dec.{eqb}
 use Rattle.model.specs.declared.Policy.the-variants.{Preemptive}
 use Rattle.model.specs.figures.Marked.{twin, quick, callsWhere, Figures, CallOrder}
 use Rattle.model.specs.Basics.{sumN, topN, anyN, allN, unset, upTo, tab, joined}
-use Rattle.model.specs.Field.{bytesOf, numberIn, bodyOf, fieldBytes, fieldIn, takeField, checkField, fieldOf}
+use Rattle.model.specs.Header.{bytesOf, numberIn, headerAt}
+use Rattle.model.specs.Field.{bodyOf, fieldBytes, fieldIn, takeField, checkField, fieldOf}
 use Rattle.model.specs.Graph.{linked, system, walks, cyclic}
 use Rattle.model.specs.Loads.{workF, work, added, load, tooHeavy}
 use Rattle.model.specs.File.{fileOf, lastChecks, parseFrom, parseFile, readFile, overfull, judge}
@@ -22,7 +23,7 @@ use Rattle.model.specs.Page.{linesOf, tempoWords, heldWords}
 
 -- to unfold this is to unfold every definition that a row computes with
 unfoldable pub computing : ℕ
-unfolding sumN topN anyN allN unset upTo tab joined bytesOf numberIn bodyOf fieldBytes fieldIn takeField checkField fieldOf linked system walks cyclic workF work added load tooHeavy fileOf lastChecks parseFrom parseFile readFile overfull judge spacing spacingOf spacings startOf roundOf settle delayOf visit walk inOrder sourceVerdict orderVerdict verdictOf verdictAt allHeld judgeAt largestBelow quoteOf idle rulesKept partsDone lawful fireLink fire arriveOne arrive highestIn choose runTask clearLink clearInto endRun ageOne ageAll keep stepped strangers tooSoon judgeTick plainTick answers left observe ticks endsWithin ticksUntil servedBefore waitOf codes digits decimal tempoText tempoLine verdictText linkLine linkLines refusedLine reportFor plainReport reportOf linesOf tempoWords heldWords
+unfolding sumN topN anyN allN unset upTo tab joined bytesOf numberIn bodyOf fieldBytes fieldIn headerAt takeField checkField fieldOf linked system walks cyclic workF work added load tooHeavy fileOf lastChecks parseFrom parseFile readFile overfull judge spacing spacingOf spacings startOf roundOf settle delayOf visit walk inOrder sourceVerdict orderVerdict verdictOf verdictAt allHeld judgeAt largestBelow quoteOf idle rulesKept partsDone lawful fireLink fire arriveOne arrive highestIn choose runTask clearLink clearInto endRun ageOne ageAll keep stepped strangers tooSoon judgeTick plainTick answers left observe ticks endsWithin ticksUntil servedBefore waitOf codes digits decimal tempoText tempoLine verdictText linkLine linkLines refusedLine reportFor plainReport reportOf linesOf tempoWords heldWords
 computing = 0
 
 -- what is asked of one list of ticks is computed at once

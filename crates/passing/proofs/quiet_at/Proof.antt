@@ -5,7 +5,7 @@ use mathlib.Core.Bool.{true, _&&_}
 use native.Mathlib.Omega.{arith}
 use lib.Dec.{eqb, leb}
 use borrow.Author.Tests.{eq-eqb, eqb-true, le-leb, leb-true}
-use Rattle.model.specs.Field.{numberIn}
+use Rattle.model.specs.Header.{numberIn}
 use Rattle.lemmas.proofs.Tests.{false-of, and-left, and-right}
 use Rattle.passing.proofs.quiet_at.Statement.{statement}
 use Rattle.passing.proofs.quiet_at.Tie as tie

@@ -13,7 +13,7 @@ use Rattle.model.specs.declared.Machine.{Machine}
 use Rattle.model.specs.declared.Outcome.{Outcome}
 use Rattle.model.specs.declared.Outcome.the-variants.{Done}
 use Rattle.model.specs.Refusals.{ofOutcome}
-use Rattle.model.specs.Field.{numberIn}
+use Rattle.model.specs.Header.{numberIn}
 use Rattle.model.specs.Graph.{runOf}
 use Rattle.model.specs.File.{judge}
 use Rattle.model.specs.Machine.{idle}

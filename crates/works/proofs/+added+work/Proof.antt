@@ -138,7 +138,7 @@ work-loop-holds : (t : ℕ) → work-lts.Need-loop-holds (work-calls t) (work-at
 work-loop-holds t c =
     let S = c .before .before in
     let p = S .pre .1 in
-    (omega arith, omega arith, c .wide .ensures ∙ sym (workTo-start (S .args .succ .now) (S .args .runs .now) (S .args .n) (p .0) (S .args .j) (p .1)), p .2, p .3)
+    (omega arith, omega arith, c .wide .ensures .0 ∙ sym (workTo-start (S .args .succ .now) (S .args .runs .now) (S .args .n) (p .0) (S .args .j) (p .1)), p .2, p .3)
 
 work-added-requires : (t : ℕ) → work-lts.Need-added-requires (work-calls t) (work-at t) work.Post work-Inv-loop work-μ-loop
 work-added-requires t c κs =

@@ -2,7 +2,8 @@
 use native.Mathlib.Omega.{arith}
 use Rattle.model.specs.declared.Source.the-variants.{Fixed, Paced, Swung}
 use Rattle.model.specs.declared.Field.the-variants.{OfSource}
-use Rattle.model.specs.Field.{bytesOf, bodyOf, fieldBytes}
+use Rattle.model.specs.Header.{bytesOf}
+use Rattle.model.specs.Field.{bodyOf, fieldBytes}
 use Rattle.theory.proofs.FieldLaws.{length-field}
 use Rattle.theory.proofs.FileLength.{length-task, length-link}
 use borrow.Author.Needs.{needs}

@@ -1,6 +1,6 @@
 -- `writing::put_swung` meets its contract. Assumes nothing.
 use native.Mathlib.Numerals.{towards-suc}
-use Rattle.model.specs.Field.{bytesOf}
+use Rattle.model.specs.Header.{bytesOf}
 use borrow.Author.Needs.{needs}
 use Rattle.writing.proofs.put_swung.Statement.{statement}
 use Rattle.writing.proofs.put_swung.Tie as tie

@@ -56,7 +56,7 @@ add-larger : tie.Need-add-larger Inv-loop μ-loop
 add-larger c =
     let S = c .before .before .before .before .before .before .before in
     let L = c .before .before .before .before .before .before .loop in
-    omega (arith, S .pre .3 (L .k) (omega arith), S .pre .4 (L .k) (omega arith), L .inv .1 .2 (L .k) (omega arith), c .before .before .wide .ensures)
+    omega (arith, S .pre .3 (L .k) (omega arith), S .pre .4 (L .k) (omega arith), L .inv .1 .2 (L .k) (omega arith), c .before .before .wide .ensures .0)
 
 larger-requires : tie.Need-larger-requires Inv-loop μ-loop
 larger-requires c κs = search needs
@@ -83,7 +83,7 @@ loop-again c =
     let x = getD (L .loads) (L .k) 0 + c .before .part .result in
     let z : 0 + L .k ≡ L .k = omega arith in
     let long : L .k < length before = omega (arith, S .pre .1, S .pre .0) in
-    let now : c .before .before .before .wide .result + getD (L .loads) (L .k) 0 ≡ held runs (λ i. getD before i 0) (L .k) = omega (arith, c .before .before .before .wide .ensures, L .inv .1 .2 (L .k) (omega arith)) in
+    let now : c .before .before .before .wide .result + getD (L .loads) (L .k) 0 ≡ held runs (λ i. getD before i 0) (L .k) = omega (arith, c .before .before .before .wide .ensures .0, L .inv .1 .2 (L .k) (omega arith)) in
     let best : c .larger .result ≡ max (L .best) (c .before .before .before .wide .result + getD (L .loads) (L .k) 0) = c .larger .ensures in (
       omega arith,
       column-more 0 (S .args .brings .now) (S .args .j) (S .args .w) (L .k) before (L .loads) x long (rw z (ap (λ y. getD (L .loads) (L .k) 0 + y) (c .before .part .ensures))) (L .inv .1),

@@ -30,8 +30,8 @@ returns c =
     let off : onKnob (A .call .tempo) ≡ false = sym (c .before .before .on-knob .ensures) ∙ not-true (c .before .before .on-knob .result) (c .before .if2 .taken) in
     refused-hears (A .rows .now) (A .plan .now) (A .call) (A .w) (A .since .now) (A .fastest .now) OffKnob (c .refused .result) (c .refused .ensures) (λ p d used m T j l R. tick-off p d (A .call .tempo) m (record { marks = marksIn (A .call .mask) }) (A .call .finish) j off)
 
-larger-requires : tie.Need-larger-requires
-larger-requires c κs = search needs
+larger-u32-requires : tie.Need-larger-u32-requires
+larger-u32-requires c κs = search needs
 
 at-tempos-requires : tie.Need-at-tempos-requires
 at-tempos-requires c κs = search needs
@@ -48,11 +48,11 @@ returns-2 c =
     let on : onKnob t ≡ true = sym (c .before .before .before .before .on-knob .ensures) ∙ not-false (c .before .before .before .before .on-knob .result) (c .before .before .before .if2 .left) in
     let given = c .before .at-tempos in
     let low : given .result .low ≡ A .w .low = ap (λ (x : Words). x .low) (given .ensures) in
-    let peak : given .result .peak ≡ max (A .w .peak) t = ap (λ (x : Words). x .peak) (given .ensures) ∙ c .before .before .larger .ensures in
+    let peak : given .result .peak ≡ max (A .w .peak) t = ap (λ (x : Words). x .peak) (given .ensures) ∙ c .before .before .larger-u32 .ensures in
     admitted-hears (A .rows .now) (A .plan .now) (A .call) (A .w) (given .result) (A .since .now) (A .fastest .now) (A .since .now) (A .fastest .now) (c .admitted .result) (c .admitted .ensures) (λ p d used m T j l R. record {
       judged = judged-at d t j on;
       passed = sym (end-none d t mask m (strangers-none d mask (silent-known d mask (T .formed) e)) (silent-soon d t mask m (T .formed) e));
-      arrived = subst (λ (k : Machine). Holds d (given .result) used (A .since .now) k) (silent-arrive d mask m (T .formed) e) (tempos-hold d (A .w .low) (c .before .before .larger .result) (A .w) (given .result) used (A .since .now) m (given .ensures) (R .holds));
+      arrived = subst (λ (k : Machine). Holds d (given .result) used (A .since .now) k) (silent-arrive d mask m (T .formed) e) (tempos-hold d (A .w .low) (c .before .before .larger-u32-u32 .result) (A .w) (given .result) used (A .since .now) m (given .ensures) (R .holds));
       keeps = keeps-given t mask (A .w) (given .result) (A .fastest .now) m (within 200 t 3000 on .1) low peak (silent-keeps t mask (A .w) (A .fastest .now) m e (R .keeps));
       high = (omega arith, within 200 t 3000 on .1);
     }) (ap (λ (x : Words). x .tick) (given .ensures)) (ap (λ (x : Words). x .running) (given .ensures))
@@ -87,8 +87,8 @@ returns-4 c =
     refused-hears (A .rows .now) (A .plan .now) (A .call) (A .w) (A .since .now) (A .fastest .now) Stranger (c .refused3 .result) (c .refused3 .ensures)
     (λ p d used m T j l R. tick-refused p d t mask m (A .call .finish) Stranger 0 (judged-at d t j on) l (sym (end-stranger d t mask m (strangers-some d mask (planSources (A .plan .now)) (T .as-wide) (omega (arith, T .as-wide, T .formed .fields .few-sources)) (c .before .before .before .before .before .before .before .pre .going .fits) (c .before .before .before .before .before .before .before .pre .going .sourced) (λ z. c .before .if4 .taken (c .before .before .above .ensures ∙ z))))))
 
-larger-requires-2 : tie.Need-larger-requires-2
-larger-requires-2 c κs = search needs
+larger-u32-requires-2 : tie.Need-larger-u32-requires-2
+larger-u32-requires-2 c κs = search needs
 
 too-soon-requires : tie.Need-too-soon-requires
 too-soon-requires c κs =
@@ -100,7 +100,7 @@ too-soon-requires c κs =
     let T = G .tables in
     let d = G .description in
     let on : onKnob t ≡ true = sym (c .before .before .before .before .before .before .before .on-knob2 .ensures) ∙ not-false (c .before .before .before .before .before .before .before .on-knob2 .result) (c .before .before .before .before .before .before .if3 .left) in
-    timed (S .policy) d t mask (c .before .before .larger2 .result) (A .w) (A .rows .now) (A .plan .now) (S .used) (A .since .now) (A .fastest .now) (G .machine) T (G .tracks) (lawful-rules (S .policy) d (G .machine) (G .keeps)) (G .early) (G .sourced) (known d mask (planSources (A .plan .now)) (c .before .before .before .before .above .result) (T .as-wide) (omega (arith, T .as-wide, T .formed .fields .few-sources)) (c .before .before .before .before .above .ensures) (c .before .before .before .if4 .left)) on (c .before .before .larger2 .ensures)
+    timed (S .policy) d t mask (c .before .before .larger-u322 .result) (A .w) (A .rows .now) (A .plan .now) (S .used) (A .since .now) (A .fastest .now) (G .machine) T (G .tracks) (lawful-rules (S .policy) d (G .machine) (G .keeps)) (G .early) (G .sourced) (known d mask (planSources (A .plan .now)) (c .before .before .before .before .above .result) (T .as-wide) (omega (arith, T .as-wide, T .formed .fields .few-sources)) (c .before .before .before .before .above .ensures) (c .before .before .before .if4 .left)) on (c .before .before .larger-u322 .ensures)
 
 refused-requires-4 : tie.Need-refused-requires-4
 refused-requires-4 c κs = search needs
@@ -114,7 +114,7 @@ returns-5 c =
     refused-hears (A .rows .now) (A .plan .now) (A .call) (A .w) (A .since .now) (A .fastest .now) TooSoon (c .refused4 .result) (c .refused4 .ensures)
     (λ p d used m T j l R.
     let K = known d mask (planSources (A .plan .now)) (c .before .before .before .before .before .before .before .above .result) (T .as-wide) (omega (arith, T .as-wide, T .formed .fields .few-sources)) (c .before .before .before .before .before .before .before .above .ensures) (c .before .before .before .before .before .before .if4 .left) in
-    tick-refused p d t mask m (A .call .finish) TooSoon 0 (judged-at d t j on) l (sym (end-soon d t mask m (strangers-none d mask K) (sym (c .before .before .too-soon .ensures d t (A .w) m (T .formed) (T .same-sources) K (lawful-rules p d m l) (R .holds .ages) (R .keeps) (c .before .before .before .before .before .larger2 .ensures) (within 200 t 3000 on .0)) ∙ c .before .if5 .taken))))
+    tick-refused p d t mask m (A .call .finish) TooSoon 0 (judged-at d t j on) l (sym (end-soon d t mask m (strangers-none d mask K) (sym (c .before .before .too-soon .ensures d t (A .w) m (T .formed) (T .same-sources) K (lawful-rules p d m l) (R .holds .ages) (R .keeps) (c .before .before .before .before .before .larger-u322 .ensures) (within 200 t 3000 on .0)) ∙ c .before .if5 .taken))))
 
 arrive-requires : tie.Need-arrive-requires
 arrive-requires c κs = (omega (arith, c .before .before .before .before .before .before .before .before .before .before .before .before .if1 .left), c .before .before .before .before .before .before .before .before .before .before .before .before .before .pre .going .sourced, c .before .before .before .before .before .before .before .before .before .before .before .before .before .pre .going .tracks .holds .ages .many, c .before .before .before .before .before .before .before .before .before .before .before .before .before .pre .going .tracks .keeps .many)
@@ -135,13 +135,13 @@ returns-6 c =
     let K = known d mask (planSources (A .plan .now)) (c .before .before .before .before .before .before .before .before .before .before .above .result) (T .as-wide) (omega (arith, T .as-wide, T .formed .fields .few-sources)) (c .before .before .before .before .before .before .before .before .before .before .above .ensures) (c .before .before .before .before .before .before .before .before .before .if4 .left) in
     record {
       judged = judged-at d t j on;
-      passed = sym (end-none d t mask m (strangers-none d mask K) (sym (c .before .before .before .before .before .too-soon .ensures d t (A .w) m (T .formed) (T .same-sources) K (lawful-rules p d m l) (R .holds .ages) (R .keeps) (c .before .before .before .before .before .before .before .before .larger2 .ensures) (within 200 t 3000 on .0)) ∙ c .before .before .before .before .if5 .left));
+      passed = sym (end-none d t mask m (strangers-none d mask K) (sym (c .before .before .before .before .before .too-soon .ensures d t (A .w) m (T .formed) (T .same-sources) K (lawful-rules p d m l) (R .holds .ages) (R .keeps) (c .before .before .before .before .before .before .before .before .larger-u322 .ensures) (within 200 t 3000 on .0)) ∙ c .before .before .before .before .if5 .left));
       arrived = a .ensures .arrived d used m (T .formed) (T .rowed) K (R .holds);
-      keeps = arrived-keeps t mask (c .before .before .before .before .before .before .before .before .larger2 .result) (A .w) (a .result) (A .fastest .now) fastest m (within 200 t 3000 on .0) (within 200 t 3000 on .1) (c .before .before .before .before .before .before .before .before .larger2 .ensures) (a .ensures .knob) (R .keeps) (a .ensures .many) (a .ensures .fired) (a .ensures .others);
+      keeps = arrived-keeps t mask (c .before .before .before .before .before .before .before .before .larger-u322 .result) (A .w) (a .result) (A .fastest .now) fastest m (within 200 t 3000 on .0) (within 200 t 3000 on .1) (c .before .before .before .before .before .before .before .before .larger-u322 .ensures) (a .ensures .knob) (R .keeps) (a .ensures .many) (a .ensures .fired) (a .ensures .others);
       high = (omega (arith, a .ensures .knob .1), within 200 t 3000 on .1);
     }) (a .ensures .then) (a .ensures .runs)
 
 pub hear-spec : {M : Type 1} → statement M
 hear-spec =
     tie.close
-    (tie.spec on-knob-requires refused-requires returns larger-requires at-tempos-requires admitted-requires returns-2 on-knob-requires-2 refused-requires-2 returns-3 element-copy-out-above above-requires refused-requires-3 returns-4 larger-requires-2 too-soon-requires refused-requires-4 returns-5 arrive-requires admitted-requires-2 returns-6)
+    (tie.spec on-knob-requires refused-requires returns larger-u32-requires at-tempos-requires admitted-requires returns-2 on-knob-requires-2 refused-requires-2 returns-3 element-copy-out-above above-requires refused-requires-3 returns-4 larger-u32-requires-2 too-soon-requires refused-requires-4 returns-5 arrive-requires admitted-requires-2 returns-6)

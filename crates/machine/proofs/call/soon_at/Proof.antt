@@ -10,14 +10,14 @@ use borrow.Author.Needs.{needs}
 use Rattle.machine.proofs.call.soon_at.Statement.{statement}
 use Rattle.machine.proofs.call.soon_at.Tie as tie
 
-mul-larger : tie.Need-mul-larger
-mul-larger c = search needs
+mul-larger-u32 : tie.Need-mul-larger-u32
+mul-larger-u32 c = search needs
 
-element-copy-out-larger : tie.Need-element-copy-out-larger
-element-copy-out-larger c = search needs
+element-copy-out-larger-u32 : tie.Need-element-copy-out-larger-u32
+element-copy-out-larger-u32 c = search needs
 
-larger-requires : tie.Need-larger-requires
-larger-requires c κs = search needs
+larger-u32-requires : tie.Need-larger-u32-requires
+larger-u32-requires c κs = search needs
 
 add-spacing-by : tie.Need-add-spacing-by
 add-spacing-by c = omega (arith, c .before .before .pre .here)
@@ -40,7 +40,7 @@ element-copy-out-spacing-by-2 c = omega (arith, c .before .before .before .pre .
 spacing-by-requires : tie.Need-spacing-by-requires
 spacing-by-requires c κs =
     let S = c .before .before .before .before in
-    (S .pre .few, omega (arith, c .before .before .larger .ensures, S .pre .low), omega (arith, c .before .before .larger .ensures, S .pre .high, S .pre .kept))
+    (S .pre .few, omega (arith, c .before .before .larger-u32 .ensures, S .pre .low), omega (arith, c .before .before .larger-u32 .ensures, S .pre .high, S .pre .kept))
 
 mul-young : tie.Need-mul-young
 mul-young c = search needs
@@ -54,16 +54,16 @@ young-requires c κs = search needs
 returns : tie.Need-returns
 returns c =
     let A = c .before .before .before .before .before .before .before .args in
-    let due : c .before .before .spacing-by .result ≡ dueBy (A .plan .now) (A .fastest .now) (A .peak) (A .u) = c .before .before .spacing-by .ensures ∙ ap (spacingBy (planTicks (A .plan .now) (A .u)) (planPulses (A .plan .now) (A .u))) (c .before .before .before .before .before .larger .ensures) in
+    let due : c .before .before .spacing-by .result ≡ dueBy (A .plan .now) (A .fastest .now) (A .peak) (A .u) = c .before .before .spacing-by .ensures ∙ ap (spacingBy (planTicks (A .plan .now) (A .u)) (planPulses (A .plan .now) (A .u))) (c .before .before .before .before .before .larger-u32 .ensures) in
     c .young .ensures ∙ ap (λ x. ltb (A .tick) (getD (A .since .now) (A .u) 0 + x)) due
 
 pub soon-at-spec : {M : Type 1} → statement M
 soon-at-spec =
     tie.close
     (tie.spec
-    mul-larger
-    element-copy-out-larger
-    larger-requires
+    mul-larger-u32
+    element-copy-out-larger-u32
+    larger-u32-requires
     add-spacing-by
     mul-spacing-by
     element-copy-out-spacing-by

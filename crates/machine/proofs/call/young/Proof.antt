@@ -7,14 +7,14 @@ use borrow.Author.Needs.{needs}
 use Rattle.machine.proofs.call.young.Statement.{statement}
 use Rattle.machine.proofs.call.young.Tie as tie
 
-long-requires : tie.Need-long-requires
-long-requires c κs = search needs
+wide-requires : tie.Need-wide-requires
+wide-requires c κs = search needs
 
 add-result : tie.Need-add-result
-add-result c = omega (arith, c .before .pre, c .long .ensures .1)
+add-result c = omega (arith, c .before .pre, c .wide .ensures .1)
 
 returns : tie.Need-returns
-returns c = ap (λ g. ltb (c .before .args .tick) (c .before .args .since + g)) (c .long .ensures .0)
+returns c = ap (λ g. ltb (c .before .args .tick) (c .before .args .since + g)) (c .wide .ensures .0)
 
 pub young-spec : {M : Type 1} → statement M
-young-spec = tie.close (tie.spec long-requires add-result returns)
+young-spec = tie.close (tie.spec wide-requires add-result returns)

@@ -28,7 +28,7 @@ element-copy-out-t16 : tie.Need-element-copy-out-t16
 element-copy-out-t16 c = search needs
 
 returns : tie.Need-returns
-returns c = let a = c .before .before .before .before .args in ap (λ x. getD (a .starts .now) (a .j) 0 ∷ x ∷ getD (a .critical .now) (a .j) 0 ∷ []) (c .before .before .wide .ensures)
+returns c = let a = c .before .before .before .before .args in ap (λ x. getD (a .starts .now) (a .j) 0 ∷ x ∷ getD (a .critical .now) (a .j) 0 ∷ []) (c .before .before .wide .ensures .0)
 
 pub level-terms-spec : {M : Type 1} → statement M
 level-terms-spec =

@@ -42,7 +42,7 @@ loop-again : tie.Need-loop-again Inv-loop μ-loop
 loop-again c =
     let L = c .before .before .before .before .before .loop in
     let a = c .before .before .before .before .before .before .args in
-    (omega arith, narrowest-more (a .set) (a .gaps .now) (L .u) (L .best) (c .narrower .result) (c .before .before .before .has .result) (c .before .before .before .has .ensures) (c .narrower .ensures ∙ ap (λ x. narrowerOf (L .best) (c .before .before .before .has .result) x) (c .before .wide .ensures)) (L .inv .1))
+    (omega arith, narrowest-more (a .set) (a .gaps .now) (L .u) (L .best) (c .narrower .result) (c .before .before .before .has .result) (c .before .before .before .has .ensures) (c .narrower .ensures ∙ ap (λ x. narrowerOf (L .best) (c .before .before .before .has .result) x) (c .before .wide .ensures .0)) (L .inv .1))
 
 returns : tie.Need-returns Inv-loop μ-loop
 returns c = let L = c .before .loop in let a = c .before .before .args in let e : L .u ≡ a .m = omega (arith, L .inv .0, c .loop-test .left) in rw e at (L .inv .1)

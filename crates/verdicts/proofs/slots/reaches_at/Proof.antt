@@ -56,7 +56,7 @@ add-reaches c =
     let S = c .before .before .before .before .before .before .before .before .before .before in
     let a = S .args in
     let L = c .before .before .before .before .before .before .before .before .before .loop in
-    omega (arith, reach-most (getD (a .starts .now) (L .j) 0) (c .before .before .before .before .before .before .before .loads-at .result) (a .gaps .now) (a .m) (c .before .before .before .room .result), c .level-reach .ensures, c .before .before .before .room .ensures, S .pre .2 (L .j), c .before .before .before .before .before .wide .ensures, S .pre .0 .tail-most (L .j) (omega arith))
+    omega (arith, reach-most (getD (a .starts .now) (L .j) 0) (c .before .before .before .before .before .before .before .loads-at .result) (a .gaps .now) (a .m) (c .before .before .before .room .result), c .level-reach .ensures, c .before .before .before .room .ensures, S .pre .2 (L .j), c .before .before .before .before .before .wide .ensures .0, S .pre .0 .tail-most (L .j) (omega arith))
 
 mul-reaches : tie.Need-mul-reaches Inv-loop μ-loop
 mul-reaches c = let S = c .before .before .before .before .before .before .before .before .before .before in omega (arith, S .pre .0 .few-tasks)
@@ -75,7 +75,7 @@ loop-again c =
     let S = c .before .before .before .before .before .before .before .before .before .before in
     let a = S .args in
     let L = c .before .before .before .before .before .before .before .before .before .loop in
-    (omega arith, length-set (L .reaches) (L .j) (c .level-reach .result + c .before .before .before .before .before .wide .result) ∙ L .inv .1, reaches-more (a .levels .now) (a .starts .now) (a .tails .now) (a .gaps .now) (a .limits .now) (a .n) (a .m) (L .reaches) (L .j) (c .before .before .before .before .before .before .before .loads-at .result) (c .level-reach .result) (c .before .before .before .before .before .wide .result) (c .before .before .before .room .result) (omega arith) (S .pre .0 .few-tasks) (L .inv .1) (c .before .before .before .before .before .before .before .loads-at .ensures) (c .before .before .before .before .before .wide .ensures) (c .before .before .before .room .ensures) (c .level-reach .ensures) (L .inv .2))
+    (omega arith, length-set (L .reaches) (L .j) (c .level-reach .result + c .before .before .before .before .before .wide .result) ∙ L .inv .1, reaches-more (a .levels .now) (a .starts .now) (a .tails .now) (a .gaps .now) (a .limits .now) (a .n) (a .m) (L .reaches) (L .j) (c .before .before .before .before .before .before .before .loads-at .result) (c .level-reach .result) (c .before .before .before .before .before .wide .result) (c .before .before .before .room .result) (omega arith) (S .pre .0 .few-tasks) (L .inv .1) (c .before .before .before .before .before .before .before .loads-at .ensures) (c .before .before .before .before .before .wide .ensures .0) (c .before .before .before .room .ensures) (c .level-reach .ensures) (L .inv .2))
 
 returns : tie.Need-returns Inv-loop μ-loop
 returns c = let L = c .before .loop in λ pol d gap g a b t e f z k p. L .inv .2 pol d gap g a b t e f z k (omega (arith, L .inv .0, c .loop-test .left))

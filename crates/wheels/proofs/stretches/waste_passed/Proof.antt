@@ -44,17 +44,17 @@ inside c = omega (arith, standing c, c .before .before .before .before .before .
 add-at : tie.Need-add-at Inv-loop μ-loop
 add-at c = omega (arith, inside c)
 
-mul-wide : tie.Need-mul-wide Inv-loop μ-loop
-mul-wide c = omega (arith, inside (c))
+mul-wide-u16 : tie.Need-mul-wide-u16 Inv-loop μ-loop
+mul-wide-u16 c = omega (arith, inside (c))
 
-element-copy-out-wide : tie.Need-element-copy-out-wide Inv-loop μ-loop
-element-copy-out-wide c = omega (arith, inside (c))
+element-copy-out-wide-u16 : tie.Need-element-copy-out-wide-u16 Inv-loop μ-loop
+element-copy-out-wide-u16 c = omega (arith, inside (c))
 
-wide-requires : tie.Need-wide-requires Inv-loop μ-loop
-wide-requires c κs = tt
+wide-u16-requires : tie.Need-wide-u16-requires Inv-loop μ-loop
+wide-u16-requires c κs = tt
 
 add-sum : tie.Need-add-sum Inv-loop μ-loop
-add-sum c = omega (arith, c .wide .ensures .1, c .before .before .before .before .before .before .loop .inv .5)
+add-sum c = omega (arith, c .wide-u16 .ensures .1, c .before .before .before .before .before .before .loop .inv .5)
 
 mul-turned : tie.Need-mul-turned Inv-loop μ-loop
 mul-turned c = omega arith
@@ -88,8 +88,8 @@ loop-again c =
       stored (λ j x. x ≡ (getD (a .turns .now) j 0 + a .width) % getD (a .periods .now) j 0) 0 (L .turns) (L .k) v (omega (arith, L .inv .1)) (L .inv .2)
           (c .turned .ensures ∙ ap (λ x. (x + a .width) % getD (a .periods .now) (L .k) 0) (L .inv .3 (L .k) (omega arith))),
       (λ j p. getD-set-other (L .turns) (L .k) j v 0 (λ e. omega arith) ∙ L .inv .3 j (omega arith)),
-      omega (arith, L .inv .4, c .before .before .wide .ensures .0, e, waste-more (2 ^ a .shift) (a .places .now) (a .table .now) (a .turns .now) (L .k)),
-      omega (arith, L .inv .5, c .before .before .wide .ensures .1),
+      omega (arith, L .inv .4, c .before .before .wide-u16 .ensures .0, e, waste-more (2 ^ a .shift) (a .places .now) (a .table .now) (a .turns .now) (L .k)),
+      omega (arith, L .inv .5, c .before .before .wide-u16 .ensures .1),
     )
 
 returns : tie.Need-returns Inv-loop μ-loop
@@ -115,9 +115,9 @@ waste-passed-spec =
     element-copy-out-at
     block-at-requires
     add-at
-    mul-wide
-    element-copy-out-wide
-    wide-requires
+    mul-wide-u16
+    element-copy-out-wide-u16
+    wide-u16-requires
     add-sum
     mul-turned
     element-copy-out-turned

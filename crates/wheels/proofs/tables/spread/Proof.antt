@@ -20,23 +20,23 @@ add-loop c = omega arith
 add-at : tie.Need-add-at Inv-loop μ-loop
 add-at c = omega arith
 
-mul-smaller : tie.Need-mul-smaller Inv-loop μ-loop
-mul-smaller c = omega arith
+mul-smaller-u16 : tie.Need-mul-smaller-u16 Inv-loop μ-loop
+mul-smaller-u16 c = omega arith
 
-element-copy-out-smaller : tie.Need-element-copy-out-smaller Inv-loop μ-loop
-element-copy-out-smaller c = omega arith
+element-copy-out-smaller-u16 : tie.Need-element-copy-out-smaller-u16 Inv-loop μ-loop
+element-copy-out-smaller-u16 c = omega arith
 
-add-smaller : tie.Need-add-smaller Inv-loop μ-loop
-add-smaller c = omega arith
+add-smaller-u16 : tie.Need-add-smaller-u16 Inv-loop μ-loop
+add-smaller-u16 c = omega arith
 
-mul-smaller-2 : tie.Need-mul-smaller-2 Inv-loop μ-loop
-mul-smaller-2 c = omega arith
+mul-smaller-u16-2 : tie.Need-mul-smaller-u16-2 Inv-loop μ-loop
+mul-smaller-u16-2 c = omega arith
 
-element-copy-out-smaller-2 : tie.Need-element-copy-out-smaller-2 Inv-loop μ-loop
-element-copy-out-smaller-2 c = omega arith
+element-copy-out-smaller-u16-2 : tie.Need-element-copy-out-smaller-u16-2 Inv-loop μ-loop
+element-copy-out-smaller-u16-2 c = omega arith
 
-smaller-requires : tie.Need-smaller-requires Inv-loop μ-loop
-smaller-requires c κs = tt
+smaller-u16-requires : tie.Need-smaller-u16-requires Inv-loop μ-loop
+smaller-u16-requires c κs = tt
 
 mul-table : tie.Need-mul-table Inv-loop μ-loop
 mul-table c = omega arith
@@ -54,7 +54,7 @@ loop-again : tie.Need-loop-again Inv-loop μ-loop
 loop-again c =
     let a = c .before .before .before .before .before .args in
     let L = c .before .before .before .before .loop in
-    (omega arith, lowering-more (a .place) (a .many) (L .i) (c .smaller .result) (a .table .now) (L .table) (omega arith) (L .inv .1) (c .smaller .ensures .0) (c .smaller .ensures .1))
+    (omega arith, lowering-more (a .place) (a .many) (L .i) (c .smaller-u16 .result) (a .table .now) (L .table) (omega arith) (L .inv .1) (omega (arith, c .smaller-u16 .ensures)) (omega (arith, c .smaller-u16 .ensures)))
 
 returns : tie.Need-returns Inv-loop μ-loop
 returns c =
@@ -71,12 +71,12 @@ spread-spec =
     loop-holds
     add-loop
     add-at
-    mul-smaller
-    element-copy-out-smaller
-    add-smaller
-    mul-smaller-2
-    element-copy-out-smaller-2
-    smaller-requires
+    mul-smaller-u16
+    element-copy-out-smaller-u16
+    add-smaller-u16
+    mul-smaller-u16-2
+    element-copy-out-smaller-u16-2
+    smaller-u16-requires
     mul-table
     element-write-table
     add-i

@@ -1,9 +1,9 @@
--- `fields::byte_at` meets its contract. Assumes nothing.
+-- `headers::byte_at` meets its contract. Assumes nothing.
 use mathlib.Core.Path.{refl}
 use native.Mathlib.Omega.{arith}
 use borrow.Author.Needs.{needs}
-use Rattle.fields.proofs.byte_at.Statement.{statement}
-use Rattle.fields.proofs.byte_at.Tie as tie
+use Rattle.headers.proofs.byte_at.Statement.{statement}
+use Rattle.headers.proofs.byte_at.Tie as tie
 
 shared-slice-read-result : tie.Need-shared-slice-read-result
 shared-slice-read-result c = search needs

@@ -5,7 +5,7 @@ use sets::wide::Wide;
 use words::Words;
 use words::row;
 ghost use mathlib.Core.Path.{_≡_};
-ghost use Prim.Native.Nat.{ℕ, _<_, max};
+ghost use Prim.Native.Nat.{ℕ, _<_};
 ghost use lib.ListN.{length, getD};
 ghost use Rattle.arrivals.specs.Parts.{Sourced};
 ghost use Rattle.words.specs.Words.{raisedTo};

@@ -3,7 +3,7 @@ use crate::rows::part;
 use numbers::larger;
 use numbers::wide;
 ghost use mathlib.Core.Path.{_≡_};
-ghost use Prim.Native.Nat.{ℕ, suc, _+_, _*_, _≤_, _<_, max};
+ghost use Prim.Native.Nat.{ℕ, suc, _+_, _*_, _≤_, _<_};
 ghost use lib.ListN.{getD, length};
 ghost use Rattle.model.specs.Basics.{topN};
 ghost use Rattle.works.specs.Works.{Scaled, loadBy};

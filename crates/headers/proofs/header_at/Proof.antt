@@ -15,7 +15,7 @@ sub-left c = search needs
 
 returns-2 : tie.Need-returns-2
 unfolding headerAt
-returns-2 c = rw (lt-leb _ _ (c .before .if1 .left), lt-ltb _ _ (c .if2 .taken))
+returns-2 c = rw (lt-leb _ _ (c .before .if1 .left), lt-ltb _ 3 (c .if2 .taken))
 
 shared-slice-read-tag : tie.Need-shared-slice-read-tag
 shared-slice-read-tag c = search needs
@@ -42,7 +42,7 @@ returns-4 c = rw (lt-leb _ _ (c .before .before .before .before .before .before 
 
 returns-5 : tie.Need-returns-5
 unfolding headerAt
-returns-5 c = rw (lt-leb _ _ (c .before .before .before .before .before .before .before .before .if1 .left), le-ltb _ _ (c .before .before .before .before .before .before .before .if2 .left), ← (c .before .before .before .before .before .most-length .ensures), ← (c .before .before .before .half-at .ensures), ← (c .before .before .least-length .ensures), lt-ltb 0 (c .before .before .before .before .before .most-length .result) (omega (arith, c .before .before .before .before .if3 .left)), le-leb _ _ (c .before .if4 .left), lt-leb _ _ (c .if5 .taken))
+returns-5 c = rw (lt-leb _ _ (c .before .before .before .before .before .before .before .before .if1 .left), le-ltb _ _ (c .before .before .before .before .before .before .before .if2 .left), ← (c .before .before .before .before .before .most-length .ensures), ← (c .before .before .before .half-at .ensures), ← (c .before .before .least-length .ensures), lt-ltb 0 (c .before .before .before .before .before .most-length .result) (omega (arith, c .before .before .before .before .if3 .left)), le-leb _ _ (c .before .if4 .left), lt-leb (c .before .before .before .half-at .result) (c .before .before .before .before .before .most-length .result) (c .if5 .taken))
 
 cast-if6 : tie.Need-cast-if6
 cast-if6 c = search needs

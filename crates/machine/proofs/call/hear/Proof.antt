@@ -52,7 +52,7 @@ returns-2 c =
     admitted-hears (A .rows .now) (A .plan .now) (A .call) (A .w) (given .result) (A .since .now) (A .fastest .now) (A .since .now) (A .fastest .now) (c .admitted .result) (c .admitted .ensures) (λ p d used m T j l R. record {
       judged = judged-at d t j on;
       passed = sym (end-none d t mask m (strangers-none d mask (silent-known d mask (T .formed) e)) (silent-soon d t mask m (T .formed) e));
-      arrived = subst (λ (k : Machine). Holds d (given .result) used (A .since .now) k) (silent-arrive d mask m (T .formed) e) (tempos-hold d (A .w .low) (c .before .before .larger-u32-u32 .result) (A .w) (given .result) used (A .since .now) m (given .ensures) (R .holds));
+      arrived = subst (λ (k : Machine). Holds d (given .result) used (A .since .now) k) (silent-arrive d mask m (T .formed) e) (tempos-hold d (A .w .low) (c .before .before .larger-u32 .result) (A .w) (given .result) used (A .since .now) m (given .ensures) (R .holds));
       keeps = keeps-given t mask (A .w) (given .result) (A .fastest .now) m (within 200 t 3000 on .1) low peak (silent-keeps t mask (A .w) (A .fastest .now) m e (R .keeps));
       high = (omega arith, within 200 t 3000 on .1);
     }) (ap (λ (x : Words). x .tick) (given .ensures)) (ap (λ (x : Words). x .running) (given .ensures))

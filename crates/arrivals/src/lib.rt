@@ -1,4 +1,5 @@
 // Firing on words of bits, by the rows of the wiring: the links out of a node, and step 1 of a tick, with the tempos that sources keep.
+#![tactic(auto)]
 
 ghost use Rattle.std.specs.Prelude.{◌≡◌, ℕ, ◌<◌, length, get_or};
 ghost use Rattle.arrivals.specs.Parts.{Sourced};

@@ -1,1 +1,2 @@
 // Theorems about the tick machine and the promise: see `proofs/`. There is no code here.
+#![tactic(auto)]

@@ -1,4 +1,5 @@
 // The bench for the preemptive model: the report of the description file on standard input goes to standard output.
+#![tactic(auto)]
 
 use model::Policy;
 

@@ -1,5 +1,6 @@
 // What the programs that run figures share: a tally of those that agree and its line, the files of examples, and the
 // comparison of a call's answer with what a document says.
+#![tactic(auto)]
 
 use libc::STDOUT_FILENO;
 use model::{Outcome, Policy};
@@ -13,7 +14,7 @@ pub mod page;
 pub mod verdict;
 
 // How many figures were run, how many agree, and the model that the next one is run on.
-#[derive(Drop)]
+#[derive(Clone, Copy)]
 pub struct Tally {
     pub policy: Policy,
     pub cases: u64,

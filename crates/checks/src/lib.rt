@@ -1,4 +1,6 @@
 // Whether a field may stand where it does, in a file or in a record, and what is known behind it: the refusals 4 to 7.
+#![tactic(auto)]
+
 ghost use Rattle.std.specs.Prelude.{◌≡◌, true, ◌||◌, ◌&&◌, leb};
 ghost use Rattle.model.specs.Field.{in_turn, has_room, on_scale, has_ends, is_task, is_source, check_field, passed};
 

@@ -1,4 +1,5 @@
 // The list of the MIDI clock's spacings goes to standard output. Nothing is read. Where a write fails, a line on standard error says so.
+#![tactic(auto)]
 
 use libc::STDOUT_FILENO;
 use streams::Transfer;

@@ -1,4 +1,6 @@
 // The list of the MIDI clock's spacings that players look up: a line for each tempo.
+#![tactic(auto)]
+
 ghost use Rattle.std.specs.Prelude.{◌≡◌, ◌+◌, ◌≤◌, length};
 ghost use Rattle.model.specs.Clock.{clock_line, clock_list, clock_length};
 ghost use Rattle.text.specs.Page.{Put};

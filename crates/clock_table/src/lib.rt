@@ -1,6 +1,8 @@
 // The spacings of the MIDI clock, a source of 24 pulses in straight time, for each tempo: a constant table of 2,801 numbers.
 // Arms of one `match` on consecutive numbers are laid out as constant data, and a call is one comparison and one load. A constant array would be
 // written to the stack at each use.
+#![tactic(auto)]
+
 ghost use Rattle.std.specs.Prelude.{◌≡◌, ◌≤◌};
 ghost use Rattle.model.specs.Clock.{clock_spacing};
 

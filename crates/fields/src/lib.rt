@@ -1,4 +1,6 @@
 // One field of a description file: the field at a reading place, the field of a record, and the number of its bytes.
+#![tactic(auto)]
+
 ghost use Rattle.std.specs.Prelude.{◌≡◌, true, ◌+◌, ◌≤◌, ◌<◌, length};
 ghost use Rattle.model.specs.Header.{is_tag, length_fits};
 ghost use Rattle.model.specs.Field.{field_tags, paced_in, field_in, field_of, field_bytes};

@@ -10,7 +10,7 @@ use headers::header_at;
 use model::{Found, Header, Step};
 
 // The bytes of a file, and the offset of the field that is read next.
-#[derive(Drop)]
+#[derive(Clone, Copy)]
 pub struct Reader<'a> {
     pub src: &'a [u8],
     pub at: usize,

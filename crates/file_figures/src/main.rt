@@ -1,5 +1,6 @@
 // The figures of a file and of its record: every range at both ends and one beyond, lengths, counts, fields from a
 // reading place, records judged, and buffers that are just filled.
+#![tactic(auto)]
 
 use cases::example::{BOX, swung};
 use cases::{Tally, file, machine};

@@ -1,4 +1,5 @@
 // Descriptions: a file or a record judged by all of the refusals 1 to 10, with its load sheet, and a record written.
+#![tactic(auto)]
 
 ghost use Rattle.std.specs.Prelude.{◌≡◌};
 ghost use Rattle.model.specs.declared.Outcome.TheVariants.{Refused};
@@ -14,7 +15,7 @@ use refusals::{blank, refused_sheet};
 pub mod reader;
 
 // A file or a record judged: how that ends, and if it is accepted its description, for each node the tasks it brings in and for each task its work.
-#[derive(Drop)]
+#[derive(Clone, Copy)]
 pub struct Judged {
     pub outcome: Outcome,
     pub description: Description,

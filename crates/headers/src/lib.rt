@@ -1,4 +1,6 @@
 // The header of a field: numbers in bytes, and what stands at a reading place by a table of tags.
+#![tactic(auto)]
+
 ghost use Rattle.std.specs.Prelude.{◌≡◌, ◌+◌, ◌*◌, ◌≤◌, ◌<◌, length, get_or};
 ghost use Rattle.model.specs.Header.{number_in, header_at};
 

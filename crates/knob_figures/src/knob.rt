@@ -5,7 +5,7 @@ use model::{Machine, Policy};
 
 // Source 33 comes in call 0 and in the last one. The knob stands at 20.0, but in one call at another tempo, and in that
 // the source may come too.
-#[derive(Drop)]
+#[derive(Clone, Copy)]
 pub struct Turn {
     pub call: usize,
     pub tempo: u32,
@@ -16,14 +16,14 @@ pub struct Turn {
 // How the calls of a run are made: from a turn, or in rounds of three calls at one tempo. In a round source 33 tries to
 // come, then source 34, and the third call has no arrival. The knob rises from 20.0 in 63 rounds, up to a tempo, and is
 // at that in the 64th.
-#[derive(Drop)]
+#[derive(Clone, Copy)]
 enum Rule {
     Turned(Turn),
     Rounds(u32),
 }
 
 // The arrivals of a call, as a mask, and its tempo.
-#[derive(Drop)]
+#[derive(Clone, Copy)]
 struct Call {
     mask: u8,
     tempo: u32,
@@ -160,7 +160,7 @@ fn done_in(codes: &[u8], place: usize) -> u64 {
 }
 
 // Rounds played: the record after them, and how often sources 33 and 34 came and the third call was done.
-#[derive(Drop)]
+#[derive(Clone, Copy)]
 pub struct AfterRounds {
     pub machine: Machine,
     pub first: u64,

@@ -1,5 +1,6 @@
 // The figures of the knob: tempos off it (11), the knob turned between calls (C-13), and Box with the knob moving, on
 // both models.
+#![tactic(auto)]
 
 use cases::example::{BOX, swung};
 use cases::file::described;

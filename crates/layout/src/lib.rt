@@ -1,4 +1,5 @@
 // The bytes of a record: a byte for each mark, four for each number and two for each tempo, high byte first.
+#![tactic(auto)]
 
 ghost use Rattle.std.specs.Prelude.{◌≡◌, false, ◌+◌, ◌*◌, ◌/◌, ◌%◌, ◌≤◌, ◌++◌, length, get_or, drop};
 ghost use Rattle.layout.specs.Layout.{record_length, bit, byte_in, record_bytes, Puts};

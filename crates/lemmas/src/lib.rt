@@ -1,1 +1,2 @@
 // General lemmas: see `proofs/`. There is no code here.
+#![tactic(auto)]

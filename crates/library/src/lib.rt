@@ -1,5 +1,6 @@
 // The calls for programs in C and Rust: lent bytes and numbers in, one number out. A number below 0 is a refusal. There is a call of each kind for the
 // preemptive model and one for the hold-on model; the MIDI clock is the same on both.
+#![tactic(auto)]
 
 ghost use Rattle.std.specs.Prelude.{◌≡◌, ◌≤◌, pos, neg_ℤ};
 ghost use Rattle.model.specs.declared.Policy.TheVariants.{Preemptive, HoldOn};

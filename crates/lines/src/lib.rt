@@ -1,4 +1,5 @@
 // The lines of a report: the model, the tempo, the verdict on a link, a refusal.
+#![tactic(auto)]
 
 ghost use Rattle.std.specs.Prelude.{◌+◌, ◌<◌, ◌≤◌, length};
 ghost use Rattle.model.specs.Report.{policy_line, tempo_text, tempo_line, verdict_text, link_line, refused_line};

@@ -1,4 +1,6 @@
 // Loads and cycles of a description whose fields have been checked: the checks 8, 9 and 10, and the load sheet.
+#![tactic(auto)]
+
 use model::{Description, LoadSheet, Outcome, Refusal, Row};
 use refusals::refused_sheet;
 
@@ -11,7 +13,7 @@ ghost use Rattle.model.specs.declared.Outcome.TheVariants.{Refused};
 ghost use Rattle.loads.specs.Tables.{WorkedOf, RowsAre, checked_loads};
 
 // How the last checks end, and if they pass, for each node the tasks it brings in and for each task its work: all that loads are sums of.
-#[derive(Drop)]
+#[derive(Clone, Copy)]
 pub struct Worked {
     pub outcome: Outcome,
     pub brings: [u64; 48],

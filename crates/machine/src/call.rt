@@ -13,7 +13,7 @@ use steps::{pass, work};
 use words::Words;
 
 // What a caller brings to a tick: the arrivals, whose bit u is source 33 + u, the tempo, and finish.
-#[derive(Drop)]
+#[derive(Clone, Copy)]
 pub struct Call {
     pub mask: u64,
     pub tempo: u32,
@@ -21,7 +21,7 @@ pub struct Call {
 }
 
 // A call's end, and the words it leaves.
-#[derive(Drop)]
+#[derive(Clone, Copy)]
 pub struct Advanced {
     pub outcome: Outcome,
     pub words: Words,

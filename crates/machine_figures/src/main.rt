@@ -1,5 +1,6 @@
 // The figures of the machine: document 01's P5 and P9, ticks of a lent record, the rules of the record, a swung source,
 // the hold-on model, and latched inputs.
+#![tactic(auto)]
 
 use cases::example::{swung, twin};
 use cases::file::described;

@@ -1,4 +1,5 @@
 // The order of critical links between tasks: each by the backward walk, and whether all are in order.
+#![tactic(auto)]
 
 use into::predecessors;
 use model::{Description, Link};

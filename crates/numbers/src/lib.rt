@@ -1,4 +1,6 @@
 // Numbers in a wider type, where the value stays and its bound is known, and the larger and the smaller of two numbers. The caller is asked for nothing.
+#![tactic(auto)]
+
 ghost use Rattle.std.specs.Prelude.{◌≡◌, ◌<◌, ◌^◌, min, max};
 
 // A node's number as an index.

@@ -1,4 +1,5 @@
 // Tick calls as bytes: a call's head, the code of its end, and the calls in which nothing happens, passed together.
+#![tactic(auto)]
 
 ghost use Rattle.std.specs.Prelude.{◌≡◌, ◌&&◌, cond, ◌+◌, ◌-◌, ◌*◌, ◌/◌, ◌%◌, ◌≤◌, ◌<◌, ◌^◌, min, length, leb, eqb};
 ghost use Rattle.model.specs.Header.{number_in};

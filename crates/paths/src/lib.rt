@@ -1,5 +1,7 @@
 // The links of a description as a set of tasks for each node, and the cycle test: a task that brings itself in, along a path through higher
 // tasks alone. Tasks are let in from the highest down.
+#![tactic(auto)]
+
 ghost use Rattle.std.specs.Prelude.{◌≡◌, ◌≤◌, ◌<◌, length};
 ghost use Rattle.theory.proofs.WellFormed.{Fielded};
 ghost use Rattle.paths.specs.Rows.{SuccessorsOf, Grown, Allowed, Closed, self_in};

@@ -1,4 +1,5 @@
 // Which sources of a level go together on a wheel, and each wheel's period: a common multiple of their spacings.
+#![tactic(auto)]
 
 ghost use Rattle.std.specs.Prelude.{◌≡◌, ℕ, ◌≤◌, ◌-◌, length};
 

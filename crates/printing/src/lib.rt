@@ -1,4 +1,5 @@
 // What the programs do: the first 4,096 bytes of standard input are a description file, and its report on a model goes to standard output.
+#![tactic(auto)]
 
 use libc::{STDIN_FILENO, STDOUT_FILENO};
 use model::Policy;

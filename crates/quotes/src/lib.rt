@@ -1,6 +1,7 @@
 // The quote: the highest tempo at which every critical link is held, level by level, by halves where a level is in doubt.
 // It goes by the verdicts' door and the search above it alone: tables worked out once, whether a level is held at given spacings, and the law that a
 // level that is held stays held when spacings grow.
+#![tactic(auto)]
 
 ghost use Rattle.std.specs.Prelude.{◌≡◌};
 ghost use Rattle.model.specs.Verdicts.{quote_of, quoted_file};

@@ -1,4 +1,5 @@
 // How far a level reaches: a few plain rounds first, and where they do not settle, rounds between stretches that cannot have a fixed point.
+#![tactic(auto)]
 
 ghost use Rattle.std.specs.Prelude.{◌≡◌, true, false, ◌^◌, ◌≤◌, ◌<◌};
 ghost use Rattle.rounds.specs.Level.{LevelOn, reach_in, OpenAt, ReachedBy};

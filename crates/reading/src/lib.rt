@@ -1,4 +1,6 @@
 // All fields of a description file from a place on, and the fields of a record: the refusals 1 to 7 with their places.
+#![tactic(auto)]
+
 ghost use Rattle.std.specs.Prelude.{◌≡◌, ◌||◌, ltb};
 ghost use Rattle.model.specs.Field.{take_field, step_of};
 ghost use Rattle.model.specs.File.{parse_at};

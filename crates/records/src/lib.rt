@@ -1,4 +1,5 @@
 // The machine's record from words of bits, and words from a record.
+#![tactic(auto)]
 
 ghost use Rattle.std.specs.Prelude.{◌≡◌, true, false, ◌||◌, ◌&&◌, List, ℕ, ◌+◌, ◌-◌, ◌*◌, ◌≤◌, ◌<◌, min, get_or, length, eqb, ltb};
 ghost use Rattle.sets.specs.Sets.{member};
@@ -246,7 +247,7 @@ fn running_in(p: Policy, part: u64) -> usize
 }
 
 // The words of a record and the ticks at which ages were 0; what tasks have used and the tempos that are kept stay as they are.
-#[derive(Drop)]
+#[derive(Clone, Copy)]
 pub struct Packed {
     pub words: Words,
     pub since: [u64; 16],

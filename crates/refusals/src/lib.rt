@@ -1,4 +1,5 @@
 // Refusals: the number of each, and what stands beside one.
+#![tactic(auto)]
 
 ghost use Rattle.std.specs.Prelude.{◌≡◌};
 ghost use Rattle.model.specs.Refusals.{number_of, blank};

@@ -1,4 +1,5 @@
 // The report of a description file.
+#![tactic(auto)]
 
 ghost use Rattle.std.specs.Prelude.{◌≡◌, ◌+◌, ◌≤◌, length, take};
 ghost use Rattle.model.specs.Report.{shown_tempo, plain_report, report_of, reported, page_reported};

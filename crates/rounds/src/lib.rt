@@ -1,4 +1,5 @@
 // The rounds that work out how long a task's level may stay busy.
+#![tactic(auto)]
 
 ghost use Rattle.std.specs.Prelude.{◌≡◌, cond, ◌+◌, ◌*◌, ◌/◌, ◌≤◌, ◌<◌, ltb, length};
 ghost use Rattle.model.specs.Delays.{spacings};
@@ -217,7 +218,7 @@ pub fn jumped(
 }
 
 // Where rounds stand: settled at the least d that one leaves unchanged, or at the limit; or at a place that no fixed point is below.
-#[derive(Drop)]
+#[derive(Clone, Copy)]
 pub struct Reached {
     pub place: u64,
     pub settled: bool,

@@ -1,4 +1,5 @@
 // The rules of the machine's record.
+#![tactic(auto)]
 
 ghost use Rattle.std.specs.Prelude.{◌≡◌, ◌||◌, ◌&&◌, not, cond, ltb, leb, eqb};
 ghost use Rattle.model.specs.Basics.{given};

@@ -1,4 +1,5 @@
 // A run of many tick calls from the start: the description is judged and tabulated once, and the record is kept as words of bits.
+#![tactic(auto)]
 
 ghost use Rattle.std.specs.Prelude.{◌≡◌};
 ghost use Rattle.model.specs.declared.Outcome.TheVariants.{Done};

@@ -1,4 +1,6 @@
 // Sets of numbers below 64, as the bits of a word.
+#![tactic(auto)]
+
 ghost use Rattle.std.specs.Prelude.{◌≡◌, ◌||◌, ◌&&◌, not, ℕ, ◌<◌, eqb, ltb};
 ghost use Rattle.sets.specs.Sets.{member, FirstIn, LastIn, RestOf};
 

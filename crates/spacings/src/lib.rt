@@ -1,4 +1,6 @@
 // The spacings of a description's sources at a tempo: the one rule, the one table, and the test of the knob.
+#![tactic(auto)]
+
 ghost use Rattle.std.specs.Prelude.{◌≡◌, true, ◌≤◌, ◌<◌};
 ghost use Rattle.model.specs.declared.Field.TheVariants.{OfSource};
 ghost use Rattle.model.specs.Field.{on_scale};
@@ -11,7 +13,7 @@ use model::{Description, Source};
 
 // The sources of a description in plain numbers, as one row that can be lent: the ticks of source 33 + u at place u, its pulses at 16 + u. A paced
 // one has pulses, and its spacing is its ticks divided by tempo and pulses; of a fixed one the pulses are 0, and its spacing is its ticks.
-#[derive(Drop)]
+#[derive(Clone, Copy)]
 pub struct Sources {
     pub count: usize,
     pub paces: [u32; 32],

@@ -1,4 +1,5 @@
 // Steps 2 to 4 of a tick on words of bits, by the rows of the wiring.
+#![tactic(auto)]
 
 ghost use Rattle.std.specs.Prelude.{◌≡◌, ◌||◌, ◌<◌, ◌^◌, eqb};
 ghost use Rattle.steps.specs.Steps.{Sleeps, Completes, Ends, Chosen, Starts, GoesOn, Works, Workable, Passes};

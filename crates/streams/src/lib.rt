@@ -1,5 +1,6 @@
 // A program's input and output. A call that fails is never taken for the end of the input, and one that a signal
 // interrupted is made again.
+#![tactic(auto)]
 
 ghost use Rattle.std.specs.Prelude.{◌-◌, ◌≤◌, ◌≡◌, length};
 ghost use Rattle.streams.specs.Transfers.{told_by, standing_at, interrupted_at, after_call, after_read, after_write, Bounded, Within, Entire};
@@ -8,7 +9,7 @@ ghost use Rattle.streams.specs.Transfers.{told_by, standing_at, interrupted_at, 
 const PATIENCE: u64 = 18446744073709551615;
 
 // What one call of the system says: it moved so many bytes, a signal interrupted it, or it failed.
-#[derive(Drop)]
+#[derive(Clone, Copy)]
 enum Answer {
     Bytes(usize),
     Interrupted,
@@ -16,14 +17,14 @@ enum Answer {
 }
 
 // How a transfer ended: it is whole and has so many bytes, or a call failed, and errno has the reason.
-#[derive(Drop)]
+#[derive(Clone, Copy)]
 pub enum Transfer {
     Whole(usize),
     Failed,
 }
 
 // Where a transfer stands: so many bytes are moved and so many interruptions are left, or it has ended.
-#[derive(Drop)]
+#[derive(Clone, Copy)]
 enum Progress {
     Going(usize, u64),
     Ended(Transfer),

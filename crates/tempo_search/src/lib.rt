@@ -1,5 +1,6 @@
 // The search for a tempo: whether a level is held at one, and the highest below a doubtful one at which it is, by halves. Level and sources are lent
 // rows. A part of a level, such as one link of it, is searched for as the level with that part of its critical set.
+#![tactic(auto)]
 
 ghost use Rattle.std.specs.Prelude.{◌≡◌, false, ℕ, ◌≤◌};
 ghost use Rattle.model.specs.declared.Description.{Description};

@@ -1,4 +1,5 @@
 // Text on a page: bytes, words and decimal numbers written one after the other, and a whole page copied out.
+#![tactic(auto)]
 
 ghost use Rattle.std.specs.Prelude.{◌∷◌, [], ◌++◌, ◌≡◌, ◌+◌, ◌<◌, ◌≤◌, length, take};
 ghost use Rattle.model.specs.File.{fill_with, filled_by};

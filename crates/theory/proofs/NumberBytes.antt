@@ -1,6 +1,6 @@
 -- Numbers as bytes, high byte first: what is written reads back, and what is read writes back. Assumes nothing.
 use Prim.Native.Nat.{ℕ, zero, suc, ◌+◌, ◌*◌, ◌/◌, ◌%◌, ◌^◌, ◌≤◌, ◌<◌}
-use mathlib.Core.Path.{◌≡◌, refl, ◌∙◌}
+use mathlib.Core.Path.{◌≡◌, refl, ap, ◌∙◌}
 use mathlib.Core.List.{List, [], ◌∷◌, ◌++◌, append_assoc}
 use native.Mathlib.Omega.{arith}
 use native.Mathlib.Nat.{pow-suc, pow-zero}
@@ -25,7 +25,9 @@ number_bytes (suc n) x pre rest h =
     let e : (bytes_of n (x / 256) ++ (x % 256 ∷ [])) ++ rest ≡ bytes_of n (x / 256) ++ (x % 256 ∷ rest) = append_assoc (bytes_of n (x / 256)) (x % 256 ∷ []) rest in
     let h2 : x / 256 < 256 ^ n = omega (arith, pow-suc 256 n) in
     let g : get_or (pre ++ (bytes_of n (x / 256) ++ (x % 256 ∷ rest))) (length pre + n) 0 ≡ x % 256 = get_or-append-add pre (bytes_of n (x / 256) ++ (x % 256 ∷ rest)) n 0 ∙ get_or_at (bytes_of n (x / 256)) (x % 256) rest 0 n (length-bytes_of n (x / 256)) in
-    rw (e, number_bytes n (x / 256) pre (x % 256 ∷ rest) h2, g) (omega arith)
+    let whole : pre ++ (bytes_of (suc n) x ++ rest) ≡ pre ++ (bytes_of n (x / 256) ++ (x % 256 ∷ rest)) = ap (λ l. pre ++ l) e in
+    let back : number_in (pre ++ (bytes_of n (x / 256) ++ (x % 256 ∷ rest))) (length pre) (suc n) ≡ x = rw (number_bytes n (x / 256) pre (x % 256 ∷ rest) h2, g) (omega arith) in
+    ap (λ l. number_in l (length pre) (suc n)) whole ∙ back
 
 -- a number read from n bytes fits them
 pub number_fits : (s : List ℕ) (at n : ℕ) → Bytes s → number_in s at n < 256 ^ n

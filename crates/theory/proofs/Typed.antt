@@ -1,12 +1,11 @@
 -- What a description is known to be by its type alone: a call that is handed one has its widths and lengths for nothing. Assumes nothing.
 use Prim.Native.Nat.{ℕ, zero, suc}
-use mathlib.Core.Path.{sym, ◌∙◌}
-use mathlib.Core.List.{List, [], ◌∷◌, map}
+use mathlib.Core.List.{List, [], ◌∷◌}
 use native.Mathlib.Omega.{arith}
-use lib.ListN.{get_or, length-map}
+use lib.ListN.{get_or}
 use mir.Val.{Val}
 use mir.Syntax.{w32}
-use borrow.Author.Rules.{elem_fits_field}
+use borrow.Author.Rules.{elem_Fits}
 use denote.Laws.{Is}
 use denote.Shadow.{shadow}
 use denote.Array.{each}
@@ -38,7 +37,7 @@ field_typed (OfTask e) vs p = p.1.1.1.1.0.1
 field_typed (OfSource s) vs p = source_typed s _ p.1.1.1.1.0
 field_typed (OfLink l) vs p = tt
 
-slots_typed : (xs : List SourceSlot) (us : List Val) (i : ℕ) → shadow (each (Structs.field TheSlot.the_type).row.Denot (Structs.field TheSlot.the_type).row.own_val (map (Structs.field TheSlot.the_type).into xs) us) → SourceFits (get_or xs i no_source).source
+slots_typed : (xs : List SourceSlot) (us : List Val) (i : ℕ) → shadow (each TheSlot.the_row.Denot TheSlot.the_row.own_val xs us) → SourceFits (get_or xs i no_source).source
 slots_typed [] us i p = omega arith
 slots_typed (x ∷ xs) [] i p = absurd p
 slots_typed (x ∷ xs) (u ∷ us) zero p = source_typed x.source _ p.0.1.1.0
@@ -50,13 +49,13 @@ Typed d vs = Is (Structs.row TheDescription.the_type) d vs
 
 pub typed_widths : (d : Description) (vs : List Val) → Typed d vs → Widths d
 typed_widths d vs p = record {
-  run_width = λ k h. (elem_fits_field w32 w32 d.runs _ k p.1.1.1.0.1.1 tt).fits;
+  run_width = λ k h. (elem_Fits w32 w32 d.runs _ k p.1.1.1.0.1.1 tt).fits;
   source_width = λ k h. slots_typed d.sources _ k p.1.1.1.1.1.0.1.1;
 }
 
 pub typed_sized : (d : Description) (vs : List Val) → Typed d vs → Sized d
 typed_sized d vs p = record {
-  runs = sym (length-map d.runs _) ∙ p.1.1.1.0.1.0.1;
-  sources = sym (length-map d.sources _) ∙ p.1.1.1.1.1.0.1.0.1;
-  links = sym (length-map d.links _) ∙ p.1.1.1.1.1.1.1.0.1.0.1;
+  runs = p.1.1.1.0.1.0.1;
+  sources = p.1.1.1.1.1.0.1.0.1;
+  links = p.1.1.1.1.1.1.1.0.1.0.1;
 }

@@ -1,5 +1,6 @@
 // The public calls of the tick machine, on the model that the policy names: a start, which is the same on both, one tick, and a run of many ticks. Each
 // judges its description itself.
+#![tactic(auto)]
 
 ghost use Rattle.std.specs.Prelude.{◌≡◌};
 ghost use Rattle.model.specs.declared.Outcome.TheVariants.{Done};

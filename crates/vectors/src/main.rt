@@ -1,4 +1,5 @@
 // Compares the answers of the calls with the shared vectors: the report of each file, and each run of the tick machine.
+#![tactic(auto)]
 
 use libc::STDOUT_FILENO;
 use model::Policy;
@@ -38,7 +39,7 @@ fn print_tally(t: Tally, what: &[u8]) {
 }
 
 // What the cases of a data file are, and the model that they are of.
-#[derive(Drop)]
+#[derive(Clone, Copy)]
 enum Cases {
     Reports(Policy),
     Runs(Policy),

@@ -5,14 +5,14 @@ ghost use Rattle.std.specs.Prelude.{◌<◌, ◌≤◌, length};
 use headers::half_at;
 
 // A part of the vectors: where it begins and ends.
-#[derive(Drop)]
+#[derive(Clone, Copy)]
 pub struct Part {
     pub start: usize,
     pub end: usize,
 }
 
 // How many cases were run, how many agree, and the number of the first that does not (0 for none).
-#[derive(Drop)]
+#[derive(Clone, Copy)]
 pub struct Tally {
     pub cases: u64,
     pub agree: u64,

@@ -11,7 +11,7 @@ use crate::records::{begins, unlatched};
 use model::{Machine, Outcome, Policy};
 
 // Whether a run agrees, and where the next one begins.
-#[derive(Drop)]
+#[derive(Clone, Copy)]
 struct Step {
     agree: bool,
     next: usize,

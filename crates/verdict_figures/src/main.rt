@@ -1,5 +1,6 @@
 // The figures of loads, verdicts, quotes and reports: tempos, buffers, what papers print, document 01's P1 to P4, P6 to
 // P8 and P10, swing, a pulse of each kind, and Box and Twin on the hold-on model.
+#![tactic(auto)]
 
 use cases::example::{BOX, swung, twin};
 use cases::page::reports;

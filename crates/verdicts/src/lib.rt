@@ -1,5 +1,6 @@
 // Verdicts on the links of a description. What is worked out once for a description (`Tables`), whether the critical links to a
 // task are held at given spacings (`level`), the verdict on each link at given spacings (`slots`), and the verdict call.
+#![tactic(auto)]
 
 use level::critical_of;
 use loads::levels::{hold_starts_of, levels_of, starts_of};
@@ -23,7 +24,7 @@ ghost use Rattle.verdicts.specs.Slots.{refused_verdicts};
 // What is worked out once for a description, whatever the tempo: its sources in plain numbers; for each task the loads of sources
 // that its rounds go by (16 places a task), the start of its rounds, what its delay has beyond them, and the sources with a critical link to it; for
 // each link whether it is in order, and whether all critical ones between tasks are. Where the model has a say, it has it here alone.
-#[derive(Drop)]
+#[derive(Clone, Copy)]
 pub struct Tables {
     pub tasks: usize,
     pub sources: Sources,

@@ -1,4 +1,5 @@
 // Sources on wheels, and stretches of a level that cannot have a fixed point.
+#![tactic(auto)]
 
 pub mod stretches;
 pub mod tables;

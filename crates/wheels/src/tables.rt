@@ -8,7 +8,7 @@ use numbers::smaller_u16;
 use rounds::{next_reach, round_at};
 
 // How many wheels have a table, and what their flow leaves of each tick, in parts of 2^33, rounded up.
-#[derive(Drop)]
+#[derive(Clone, Copy)]
 pub struct Built {
     pub count: usize,
     pub slope: u64,

@@ -1,4 +1,5 @@
 // The links of a description as tables of sets: for each node the links out of it, the links into it and the tasks that it wakes.
+#![tactic(auto)]
 
 ghost use Rattle.std.specs.Prelude.{◌≡◌, ◌<◌, length};
 ghost use Rattle.theory.proofs.WellFormed.{WellFormed};
@@ -9,7 +10,7 @@ use numbers::index;
 
 // A node's row has nine words: four of the links out of it, four of the links into it, and one of the tasks that it wakes. The
 // rows are one array, since that can be lent without a copy. Beside them stand the tasks that links enter, longest runs and counts.
-#[derive(Drop)]
+#[derive(Clone, Copy)]
 pub struct Wiring {
     pub rows: [u64; 576],
     pub to: [u8; 256],

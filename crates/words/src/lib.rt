@@ -1,4 +1,5 @@
 // The machine's marks as words of bits, and what is read off the tables beside them.
+#![tactic(auto)]
 
 ghost use Rattle.std.specs.Prelude.{◌≡◌, cond, ◌<◌};
 ghost use Rattle.words.specs.Words.{wide_at, holds_on};
@@ -12,7 +13,7 @@ use sets::wide::Wide;
 // run. running is the task that goes on: on the hold-on model the one that is part done, else 0. tick counts the ticks, from 2^32 on. Ages are not kept:
 // beside the words goes, for each source, the tick at which its age was 0, be it before the first. So do kept tempos, as they were at the last
 // arrival: none is below low, but 0, and peak is the fastest tempo given since, or 200.
-#[derive(Drop)]
+#[derive(Clone, Copy)]
 pub struct Words {
     pub woken: u64,
     pub part: u64,

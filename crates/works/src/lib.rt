@@ -1,5 +1,7 @@
 // The work of a task and the added load of a node, each stated through the other, and the tasks that a node brings in, along the links.
 // The rank of links without a cycle falls with every link and ends the calls; memos let each set and each work be found once.
+#![tactic(auto)]
+
 ghost use Rattle.std.specs.Prelude.{◌≡◌, false, [], ◌≤◌, length};
 ghost use Rattle.model.specs.Graph.{cyclic};
 ghost use Rattle.paths.specs.Rows.{NodeOf, TaskOf, Brought, graph};

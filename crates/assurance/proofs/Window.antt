@@ -17,7 +17,7 @@ brought load fire a n x w = sum_n (λ u. load u * count (fire u) x w) a n
 
 brought_none : (load : ℕ → ℕ) (fire : ℕ → ℕ → Bool) (a n x : ℕ) → brought load fire a n x 0 ≡ 0
 unfolding brought count sum_n
-brought_none load fire a n x = sum_n-zero _ a n (λ u p q. omega arith)
+brought_none load fire a n x = sum_n-zero (λ u. load u * count (fire u) x 0) a n (λ u p q. omega arith)
 
 count_more : (f : ℕ → Bool) (x w : ℕ) → count f x (suc w) ≡ count f x w + given (f (x + w)) 1
 unfolding count sum_n

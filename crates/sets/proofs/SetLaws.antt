@@ -17,14 +17,14 @@ use Rattle.lemmas.proofs.Bools.{and_on}
 odd_of : (z b m : ℕ) → z ≡ b * 2 + m → m < 2 → z % 2 ≡ m
 odd_of z b m e p = omega arith
 
-bit_or : (p q : ℕ) → p < 2 → q < 2 → eqb (max p q) 1 ≡ (eqb p 1 || eqb q 1)
-bit_or zero zero h k = refl
-bit_or zero (suc zero) h k = refl
-bit_or (suc zero) zero h k = refl
-bit_or (suc zero) (suc zero) h k = refl
-bit_or (suc (suc p)) q h k = absurd (omega arith)
-bit_or zero (suc (suc q)) h k = absurd (omega arith)
-bit_or (suc zero) (suc (suc q)) h k = absurd (omega arith)
+bit_or_lem : (p q : ℕ) → p < 2 → q < 2 → eqb (max p q) 1 ≡ (eqb p 1 || eqb q 1)
+bit_or_lem zero zero h k = refl
+bit_or_lem zero (suc zero) h k = refl
+bit_or_lem (suc zero) zero h k = refl
+bit_or_lem (suc zero) (suc zero) h k = refl
+bit_or_lem (suc (suc p)) q h k = absurd (omega arith)
+bit_or_lem zero (suc (suc q)) h k = absurd (omega arith)
+bit_or_lem (suc zero) (suc (suc q)) h k = absurd (omega arith)
 
 pub member_or : (a b k : ℕ) → member (bit_or a b) k ≡ (member a k || member b k)
 unfolding member
@@ -33,7 +33,7 @@ member_or a b k =
     let y = b / 2 ^ k in
     ap (λ z. eqb (z % 2) 1) (or_shr a b k)
     ∙ ap (λ z. eqb z 1) (odd_of (bit_or x y) (bit_or (x / 2) (y / 2)) (max (x % 2) (y % 2)) (or_step x y) (omega arith))
-    ∙ bit_or (x % 2) (y % 2) (omega arith) (omega arith)
+    ∙ bit_or_lem (x % 2) (y % 2) (omega arith) (omega arith)
 
 one_here : (k : ℕ) → member (1 * 2 ^ k) k ≡ true
 unfolding member
@@ -147,21 +147,21 @@ first_some (suc n) s p q = go (s % 2) refl (first_some n (s / 2))
     go (suc b) e ih = (omega arith, member_zero s ∙ eq-eqb (s % 2) 1 (omega arith))
 
 -- the members that both have
-bit_and : (p q : ℕ) → p < 2 → q < 2 → (min p q < 2) × (eqb (min p q) 1 ≡ (eqb p 1 && eqb q 1))
-bit_and zero zero h k = (omega arith, refl)
-bit_and zero (suc zero) h k = (omega arith, refl)
-bit_and (suc zero) zero h k = (omega arith, refl)
-bit_and (suc zero) (suc zero) h k = (omega arith, refl)
-bit_and (suc (suc p)) q h k = absurd (omega arith)
-bit_and zero (suc (suc q)) h k = absurd (omega arith)
-bit_and (suc zero) (suc (suc q)) h k = absurd (omega arith)
+bit_and_lem : (p q : ℕ) → p < 2 → q < 2 → (min p q < 2) × (eqb (min p q) 1 ≡ (eqb p 1 && eqb q 1))
+bit_and_lem zero zero h k = (omega arith, refl)
+bit_and_lem zero (suc zero) h k = (omega arith, refl)
+bit_and_lem (suc zero) zero h k = (omega arith, refl)
+bit_and_lem (suc zero) (suc zero) h k = (omega arith, refl)
+bit_and_lem (suc (suc p)) q h k = absurd (omega arith)
+bit_and_lem zero (suc (suc q)) h k = absurd (omega arith)
+bit_and_lem (suc zero) (suc (suc q)) h k = absurd (omega arith)
 
 pub member_and : (a b k : ℕ) → member (bit_and a b) k ≡ (member a k && member b k)
 unfolding member
 member_and a b k =
     let x = a / 2 ^ k in
     let y = b / 2 ^ k in
-    let w = bit_and (x % 2) (y % 2) (omega arith) (omega arith) in
+    let w = bit_and_lem (x % 2) (y % 2) (omega arith) (omega arith) in
     ap (λ z. eqb (z % 2) 1) (and_shr a b k)
     ∙ ap (λ z. eqb z 1) (odd_of (bit_and x y) (bit_and (x / 2) (y / 2)) (min (x % 2) (y % 2)) (and_step x y) w.0)
     ∙ w.1
@@ -182,7 +182,7 @@ member_less a b k =
     let x = a / 2 ^ k in
     let y = b / 2 ^ k in
     let w = bit_less (x % 2) (y % 2) (omega arith) (omega arith) in
-    let n : bit_and x y % 2 ≡ min (x % 2) (y % 2) = odd_of (bit_and x y) (bit_and (x / 2) (y / 2)) (min (x % 2) (y % 2)) (and_step x y) (bit_and (x % 2) (y % 2) (omega arith) (omega arith)).0 in
+    let n : bit_and x y % 2 ≡ min (x % 2) (y % 2) = odd_of (bit_and x y) (bit_and (x / 2) (y / 2)) (min (x % 2) (y % 2)) (and_step x y) (bit_and_lem (x % 2) (y % 2) (omega arith) (omega arith)).0 in
     ap (λ z. eqb (z % 2) 1) (xor_shr a (bit_and a b) k ∙ ap (bit_xor x) (and_shr a b k))
     ∙ ap (λ z. eqb z 1) (odd_of (bit_xor x (bit_and x y)) (bit_xor (x / 2) (bit_and x y / 2)) (differ (x % 2) (min (x % 2) (y % 2))) (xor_step x (bit_and x y) ∙ ap (λ z. bit_xor (x / 2) (bit_and x y / 2) * 2 + differ (x % 2) z) n) w.0)
     ∙ w.1

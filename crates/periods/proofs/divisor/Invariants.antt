@@ -1,0 +1,8 @@
+use Prim.Native.Nat.{◌≤◌}
+use Rattle.periods.proofs.divisor.Given as goal
+
+abbrev pub invariant-loop-small : goal.invariant-loop-small
+invariant-loop-small l = 1 ≤ l.large
+
+abbrev pub decreases-loop-small : goal.decreases-loop-small
+decreases-loop-small l = l.small

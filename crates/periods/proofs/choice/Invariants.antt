@@ -1,3 +1,4 @@
+-- `choice` meets its contract: the best so far is a source or none. Assumes nothing.
 use Prim.Native.Nat.{◌≤◌, ◌-◌}
 use Rattle.periods.proofs.choice.Given as goal
 

@@ -1,3 +1,4 @@
+-- `divisor` meets its contract: the larger number is never 0, and each remainder is less than the one before. Assumes nothing.
 use Prim.Native.Nat.{◌≤◌}
 use Rattle.periods.proofs.divisor.Given as goal
 

@@ -1,3 +1,4 @@
+-- `fill` meets its contract: a period other than 1 is at most the most, and each turn is one source. Assumes nothing.
 use Prim.Native.Nat.{◌≤◌, ◌-◌}
 use mathlib.Core.Path.{◌≡◌}
 use lib.ListN.{length}

@@ -1,3 +1,4 @@
+-- `plan` meets its contract: at most 15 wheels are filled, and each period is at most the room left. Assumes nothing.
 use Prim.Native.Nat.{◌≤◌, ◌-◌}
 use mathlib.Core.Path.{◌≡◌}
 use lib.ListN.{length}

@@ -1,3 +1,4 @@
+-- `count_on` meets its contract: nothing up to the end, else the firings beyond it. Assumes nothing.
 use Prim.Native.Nat.{◌+◌, ◌*◌, ◌≤◌}
 use mathlib.Core.Path.{◌≡◌, refl, ap, ◌∙◌}
 use native.Mathlib.Omega.{arith}
@@ -21,7 +22,9 @@ returns-then-d-end c =
 
 pub overflow_mul-ends : goal.overflow_mul-ends
 overflow_mul-ends c =
+    -- the firings beyond the end
     let beyond : c.spacings_in-count.result ≡ more_by c.args.d (get_or c.args.ends.now c.args.u 0) c.args.gap = c.spacings_in-count.ensures ∙ more_some c.args.d (get_or c.args.ends.now c.args.u 0) c.args.gap c.requires.2 c.if-d-end.false in
+    -- how far they reach, and what they add
     let reach : get_or c.args.ends.now c.args.u 0 + c.spacings_in-count.result * c.args.gap ≤ 2000000000 = rw beyond (omega (arith, more_reach c.args.d (get_or c.args.ends.now c.args.u 0) c.args.gap c.requires.2 c.if-d-end.false, c.requires.3, c.requires.4)) in
     omega (arith, reach)
 

@@ -1,3 +1,4 @@
+-- `few_rounds` meets its contract: no fixed point is below d, and the round at d is worked out. Assumes nothing.
 use Prim.Native.Nat.{◌≤◌, ◌-◌}
 use mathlib.Core.Path.{◌≡◌}
 use Rattle.rounds.specs.Level.{round_in, Counted, Shares, Jump}

@@ -1,3 +1,4 @@
+-- `fill_shares` meets its contract: every entry stored is a share, and those before were. Assumes nothing.
 use Prim.Native.Nat.{◌≤◌, ◌-◌}
 use Rattle.rounds.specs.Level.{Shares}
 use Rattle.rounds.proofs.fill_shares.Given as goal

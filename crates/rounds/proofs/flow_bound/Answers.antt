@@ -22,6 +22,7 @@ rest_of-rest-requires c = let a = c.args in (c.requires.0.gap_some c.loop-u.u (o
 
 pub overflow_add-rest : goal.overflow_add-rest
 overflow_add-rest c =
+    -- what one source adds to the rest and to the flow
     let rest_part : c.rest_of-rest.result ≤ 1000000000 = let a = c.args in
     let u = c.loop-u.u in
     let x = get_or a.loads.now u 0 * (get_or a.ends.now u 0 / get_or a.gaps.now u 0) in
@@ -64,6 +65,7 @@ loop-u-preserved c =
 
 pub flow_end-requires : goal.flow_end-requires
 flow_end-requires c =
+    -- the sums of all sources
     let whole : c.loop-u.rest ≡ rest_to c.args.start c.args.loads.now c.args.gaps.now c.args.n c.args.ends.now c.args.shares.now c.args.far c.requires.1.place c.args.n = let a = c.args in
     let L = c.loop-u in
     let e : L.u ≡ a.n = omega (arith, L.invariant.0) in

@@ -1,3 +1,4 @@
+-- `flow_bound` meets its contract: the sums of the first u sources, as a flow or by their firings. Assumes nothing.
 use Prim.Native.Nat.{ℕ, ◌≤◌, ◌+◌, ◌-◌, ◌*◌}
 use mathlib.Core.Path.{◌≡◌}
 use Rattle.rounds.specs.Level.{Counted}

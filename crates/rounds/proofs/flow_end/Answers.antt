@@ -1,3 +1,4 @@
+-- `flow_end` meets its contract: no length holds more than it, and else the quotient. Assumes nothing.
 use native.Mathlib.Omega.{arith}
 use Rattle.theory.proofs.Jumps.{flow_bound}
 use Rattle.rounds.proofs.flow_end.Goals as goal

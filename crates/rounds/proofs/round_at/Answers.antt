@@ -17,6 +17,7 @@ end_of-requires c =
 
 pub overflow_mul-sum : goal.overflow_mul-sum
 overflow_mul-sum c =
+    -- the part of one source is at most a thousand million times a thousand million
     let part : get_or c.args.loads.now c.loop-u.u 0 * c.spacings_in-count.result ≤ 1000000000000000000 = let L = c.loop-u in
     rw c.spacings_in-count.ensures (term_most c.args.start c.args.loads.now c.args.gaps.now c.args.n c.args.d c.requires.0 c.requires.2 L.u (omega arith)) in
     omega (arith, part)

@@ -1,3 +1,4 @@
+-- `round_at` meets its contract: the sum of the first u sources' parts, which 64 bits hold, and their ends. Assumes nothing.
 use Prim.Native.Nat.{◌≤◌, ◌+◌, ◌-◌, ◌*◌}
 use mathlib.Core.Path.{◌≡◌}
 use Rattle.rounds.specs.Level.{round_in, Counted}

@@ -1,3 +1,4 @@
+-- `spacings_in` meets its contract: one spacing where d is no longer, else the rounded quotient. Assumes nothing.
 use Rattle.rounds.proofs.Laws.{spacings_near, spacings_far}
 use Rattle.rounds.proofs.spacings_in.Goals as goal
 

@@ -1,3 +1,4 @@
+-- `left_of` meets its contract: the sum of the first u sources, those on a wheel left out. Assumes nothing.
 use Prim.Native.Nat.{ℕ, ◌≤◌, ◌+◌, ◌-◌, ◌*◌}
 use mathlib.Core.Path.{◌≡◌}
 use Rattle.rounds.specs.Level.{Counted}

@@ -1,3 +1,4 @@
+-- `pass` meets its contract: no stretch that is passed has a fixed point. Assumes nothing.
 use Prim.Native.Nat.{◌≤◌, ◌-◌, ◌*◌, ◌^◌}
 use mathlib.Core.Path.{◌≡◌}
 use Rattle.wheels.specs.Wheel.{Turned, Passes}

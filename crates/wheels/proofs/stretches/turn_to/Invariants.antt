@@ -1,3 +1,4 @@
+-- `turn_to` meets its contract: the first k wheels stand where d is. Assumes nothing.
 use Prim.Native.Nat.{ℕ, ◌≤◌, ◌<◌, ◌-◌, ◌%◌}
 use mathlib.Core.Path.{◌≡◌}
 use lib.ListN.{get_or, length}

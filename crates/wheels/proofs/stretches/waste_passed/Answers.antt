@@ -13,6 +13,7 @@ loop-k-init c = let a = c.args in (omega arith, c.requires.6, (λ j p. absurd (o
 
 pub loop-k-preserved : goal.loop-k-preserved
 loop-k-preserved c =
+    -- the block that the wheel stands in, and its entry in the table
     let standing : c.block_at.result ≡ get_or c.args.turns.now c.loop-k.k 0 / 2 ^ c.args.shift = c.block_at.ensures ∙ ap (λ x. x / 2 ^ c.args.shift) (c.loop-k.invariant.3 c.loop-k.k (omega arith)) in
     let a = c.args in
     let L = c.loop-k in

@@ -1,3 +1,4 @@
+-- `waste_passed` meets its contract: the sum of the first k wheels' entries, and where these wheels stand then. Assumes nothing.
 use Prim.Native.Nat.{ℕ, ◌≤◌, ◌<◌, ◌+◌, ◌-◌, ◌*◌, ◌%◌, ◌^◌}
 use mathlib.Core.Path.{◌≡◌}
 use lib.ListN.{get_or, length}

@@ -1,3 +1,4 @@
+-- `build` meets its contract: the tables of the first k wheels are put, and their flows summed. Assumes nothing.
 use Prim.Native.Nat.{◌≤◌, ◌-◌, ◌*◌}
 use mathlib.Core.Path.{◌≡◌}
 use lib.ListN.{length}

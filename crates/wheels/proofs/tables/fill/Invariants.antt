@@ -1,3 +1,4 @@
+-- `fill` meets its contract: every place done has a waste in the entry of its block. Assumes nothing.
 use Prim.Native.Nat.{◌≤◌, ◌-◌, ◌*◌}
 use mathlib.Core.Path.{◌≡◌}
 use Rattle.wheels.proofs.Steps.{Filling, Counting}

@@ -1,3 +1,4 @@
+-- `part_of` meets its contract: the loads of the first u sources, and the sum of their flows. Assumes nothing.
 use Prim.Native.Nat.{ℕ, ◌≤◌, ◌<◌, ◌-◌, ◌*◌, ◌/◌}
 use mathlib.Core.Path.{◌≡◌}
 use lib.ListN.{get_or, length}

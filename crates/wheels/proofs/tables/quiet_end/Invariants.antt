@@ -1,3 +1,4 @@
+-- `quiet_end` meets its contract: each turn keeps an end beyond the place. Assumes nothing.
 use Prim.Native.Nat.{◌≤◌, ◌<◌, ◌-◌}
 use Rattle.wheels.proofs.tables.quiet_end.Given as goal
 

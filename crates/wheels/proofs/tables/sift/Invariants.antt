@@ -1,3 +1,4 @@
+-- `sift` meets its contract: every source looked at is off its wheel or may be on it. Assumes nothing.
 use Prim.Native.Nat.{ℕ, ◌≤◌, ◌<◌, ◌-◌}
 use mathlib.Core.Path.{◌≡◌}
 use lib.ListN.{get_or, length}

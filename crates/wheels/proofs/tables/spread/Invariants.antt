@@ -1,3 +1,4 @@
+-- `spread` meets its contract: the first i entries are lowered. Assumes nothing.
 use Prim.Native.Nat.{◌≤◌, ◌-◌}
 use Rattle.wheels.proofs.Steps.{Lowering}
 use Rattle.wheels.proofs.tables.spread.Given as goal

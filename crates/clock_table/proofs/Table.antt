@@ -9,13 +9,12 @@ use Rattle.model.specs.declared.Source.TheVariants.{Paced}
 use Rattle.model.specs.Delays.{spacing}
 use Rattle.model.specs.Verdicts.{tempos}
 use Rattle.model.specs.Clock.{clock_spacing}
-use Rattle.clock_table.proofs.clock_spacing.Code.Mir.{s-1}
-use Rattle.clock_table.proofs.Arms.{numbers_of, small}
+use Rattle.clock_table.specs.declared.TheConstants.{SPACINGS}
 use Rattle.clock_table.proofs.Tests.{agrees, agrees_at, falls, falls_at}
 
 -- the numbers that stand in the code
 abbrev pub table : List ℕ
-table = numbers_of s-1
+table = SPACINGS
 
 pub counted : length table ≡ tempos
 counted = refl
@@ -33,11 +32,6 @@ ruled = refl
 pub falling : falls 125000 table ≡ true
 unfolding falls
 falling = refl
-
--- they fit the width of the answer
-pub fit : small table ≡ true
-unfolding small
-fit = refl
 
 -- every entry is the rule's
 pub entry : (t : ℕ) → 200 ≤ t → t ≤ 3000 → get_or table (t - 200) 0 ≡ clock_spacing t

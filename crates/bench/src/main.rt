@@ -2,7 +2,8 @@
 #![tactic(auto)]
 
 use model::Policy;
+use std::io;
 
-fn main() {
-    printing::print_report(Policy::Preemptive, b"bench: read", b"bench: write");
+fn main(rt: HostRuntime) -> io::Result<()> {
+    printing::print_report(&rt, Policy::Preemptive, "bench: read", "bench: write")
 }

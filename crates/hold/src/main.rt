@@ -2,7 +2,8 @@
 #![tactic(auto)]
 
 use model::Policy;
+use std::io;
 
-fn main() {
-    printing::print_report(Policy::HoldOn, b"hold: read", b"hold: write");
+fn main(rt: HostRuntime) -> io::Result<()> {
+    printing::print_report(&rt, Policy::HoldOn, "hold: read", "hold: write")
 }

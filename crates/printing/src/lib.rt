@@ -1,21 +1,22 @@
 // What the programs do: the first 4,096 bytes of standard input are a description file, and its report on a model goes to standard output.
 #![tactic(auto)]
 
-use libc::{STDIN_FILENO, STDOUT_FILENO};
 use model::Policy;
-use streams::Transfer;
+use std::io;
+use streams::{read_input, write_output};
 
 // Where a read or a write fails, a line on standard error begins with the words for it, and after a failed read there is no report.
-pub fn print_report(p: Policy, unread: &[u8], unwritten: &[u8]) {
+pub fn print_report(rt: &HostRuntime, p: Policy, unread: &str, unwritten: &str) -> io::Result<()> {
     let mut input = [0u8; 4096];
-    let Transfer::Whole(n) = streams::read_input(STDIN_FILENO, &mut input) else {
-        os::fail(unread);
-        return;
-    };
-    let mut page = [0u8; report::LONGEST];
-    let length = report::put_whole(p, &input[..n], &mut page);
-    let Transfer::Whole(_) = streams::write_output(STDOUT_FILENO, &page[..length]) else {
-        os::fail(unwritten);
-        return;
-    };
+    match read_input(&mut rt.stdin(), &mut input) {
+        Err(e) => eprintln!(rt; "{unread}: {e}"),
+        Ok(n) => {
+            let mut page = [0u8; report::LONGEST];
+            let length = report::put_whole(p, &input[..n], &mut page);
+            match write_output(&mut rt.stdout(), &page[..length]) {
+                Err(e) => eprintln!(rt; "{unwritten}: {e}"),
+                Ok(_) => Ok(()),
+            }
+        }
+    }
 }

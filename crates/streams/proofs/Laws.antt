@@ -3,58 +3,38 @@ use Prim.Native.Nat.{ℕ, suc, ◌+◌, ◌-◌, ◌≤◌, ◌<◌}
 use mathlib.Core.Path.{◌≡◌, refl}
 use mathlib.Core.Bool.{Bool, true, false}
 use native.Mathlib.Omega.{arith}
-use lib.Dec.{T, ltb, eqb}
-use lib.IntN.{ℤ, pos, negsuc, nat_abs}
-use lib.Signed.{le_z, non_neg}
-use mir.Syntax.{w32, w64}
-use mir.Val.{Fits, SFits, of_z, to_z}
-use mir.ValLaws.{to_z-of_z}
-use borrow.Author.Tests.{ltb-true, ltb-false, leb-false, eqb-false, eq-eqb, ne_eqb}
-use Rattle.libc.specs.Io.{Moved}
+use lib.Dec.{ltb, eqb}
+use borrow.Author.Tests.{ltb-true, ltb-false, eqb-false}
+use Rattle.std.specs.Prelude.{Result, Ok, Err, IfOk}
+use Rattle.std.specs.declared.io.Error.{Error as IoError}
+use Rattle.std.specs.declared.io.ErrorKind.{ErrorKind}
+use Rattle.std.specs.declared.io.ErrorKind.TheVariants.{Interrupted as Signalled}
+use Rattle.std.specs.IoError.{error_kind}
 use Rattle.streams.specs.declared.Answer.{Answer}
 use Rattle.streams.specs.declared.Answer.TheVariants.{Bytes, Interrupted, Error}
 use Rattle.streams.specs.declared.Transfer.{Transfer}
 use Rattle.streams.specs.declared.Transfer.TheVariants.{Whole, Failed}
 use Rattle.streams.specs.declared.Progress.{Progress}
 use Rattle.streams.specs.declared.Progress.TheVariants.{Going, Ended}
-use Rattle.streams.specs.Transfers.{cause_of, told_by, standing_at, interrupted_at, after_call, Bounded}
+use Rattle.streams.specs.Transfers.{cause_of, told_by, standing_at, interrupted_at, after_call, ended_by, Bounded, Moves, MovesAll, Within, Entire}
 
--- An answer that is not below 0 is a count that fits.
-pub count_fits : (z : ℤ) → SFits w64 z → le_z (pos 0) z ≡ true → T (non_neg z) × Fits w64 (nat_abs z)
-count_fits (pos n) f e = let h = f.sfits in (tt, record { fits = omega arith })
-count_fits (negsuc n) f e = let z : ◌≡◌ {A = ℕ} 0 1 = cc in absurd (omega arith)
+-- What a call told is bounded as its answer is.
+cause_bounded : (room : ℕ) (k : ErrorKind) → Bounded room (cause_of k)
+cause_bounded room Signalled = tt
+cause_bounded room _ = tt
 
--- It tells of so many bytes.
-pub told_bytes : (z error : ℤ) → le_z (pos 0) z ≡ true → Bytes (nat_abs z) ≡ told_by z error
-told_bytes (pos n) error e = refl
-told_bytes (negsuc n) error e = let z : ◌≡◌ {A = ℕ} 0 1 = cc in absurd (omega arith)
+pub told_bounded : (room : ℕ) (got : Result ℕ IoError) → IfOk got (λ n. n ≤ room) → Bounded room (told_by got)
+told_bounded room (Ok n) m = m
+told_bounded room (Err e) m = cause_bounded room (error_kind e)
 
--- Below 0 the cause is told.
-pub told_cause : (z error : ℤ) → le_z (pos 0) z ≡ false → cause_of error ≡ told_by z error
-told_cause (pos n) error e = absurd (omega (arith, leb-false 0 n e))
-told_cause (negsuc n) error e = refl
+-- What a transfer stands for is what its caller is told.
+pub ended_within : (size : ℕ) (t : Transfer) (reason : IoError) → Moves size t → Within size (ended_by t reason)
+ended_within size (Whole n) reason h = h
+ended_within size Failed reason h = tt
 
--- A signal is the cause exactly if errno is 4.
-pub cause_signal : (error : ℤ) → SFits w32 error → of_z w32 error ≡ 4 → Interrupted ≡ cause_of error
-cause_signal (pos e) f h = rw (eq-eqb e 4 h) refl
-cause_signal (negsuc e) f h = let s = f.sfits in absurd (omega arith)
-
-pub cause_error : (error : ℤ) → (of_z w32 error ≡ 4 → ⊥) → Error ≡ cause_of error
-cause_error (pos e) h = rw (ne_eqb e 4 h) refl
-cause_error (negsuc e) h = refl
-
--- What a call told is bounded as its answer is, read as it was or back from its bits.
-told_moved : (room : ℕ) (got error : ℤ) → Moved room got → Bounded room (told_by got error)
-told_moved room (pos n) error m = m
-told_moved room (negsuc n) (pos e) m = go (eqb e 4) refl
-  where
-    go : (b : Bool) → eqb e 4 ≡ b → Bounded room (cause_of (pos e))
-    go true q = rw q tt
-    go false q = rw q tt
-told_moved room (negsuc n) (negsuc e) m = tt
-
-pub told_bounded : (room : ℕ) (got error : ℤ) → SFits w64 got → Moved room got → Bounded room (told_by (to_z w64 (of_z w64 got)) error)
-told_bounded room got error f m = rw (to_z-of_z w64 got f) (told_moved room got error m)
+pub ended_entire : (size : ℕ) (t : Transfer) (reason : IoError) → MovesAll size t → Entire size (ended_by t reason)
+ended_entire size (Whole n) reason h = h
+ended_entire size Failed reason h = tt
 
 -- A transfer within a size: what is moved leaves a byte, or the end is one that is wanted.
 abbrev pub Stands : (Transfer → Type 0) → ℕ → Progress → Type 0

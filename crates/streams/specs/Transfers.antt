@@ -1,5 +1,9 @@
 -- How a transfer follows from what its calls of the system answered. Of the bytes that come or go nothing is said.
-use Rattle.std.specs.Prelude.{ℕ, ◌+◌, ◌-◌, ◌≤◌, ◌≡◌, cond, ltb, eqb, ℤ, pos, negsuc}
+use Rattle.std.specs.Prelude.{ℕ, ◌+◌, ◌-◌, ◌≤◌, ◌≡◌, cond, ltb, eqb, Result, Ok, Err}
+use Rattle.std.specs.declared.io.Error.{Error as IoError}
+use Rattle.std.specs.declared.io.ErrorKind.{ErrorKind}
+use Rattle.std.specs.declared.io.ErrorKind.TheVariants.{Interrupted as Signalled}
+use Rattle.std.specs.IoError.{error_kind}
 use Rattle.streams.specs.declared.Answer.{Answer}
 use Rattle.streams.specs.declared.Answer.TheVariants.{Bytes, Interrupted, Error}
 use Rattle.streams.specs.declared.Transfer.{Transfer}
@@ -7,15 +11,15 @@ use Rattle.streams.specs.declared.Transfer.TheVariants.{Whole, Failed}
 use Rattle.streams.specs.declared.Progress.{Progress}
 use Rattle.streams.specs.declared.Progress.TheVariants.{Going, Ended}
 
--- The number that errno has after a call that a signal interrupted is 4.
-abbrev pub cause_of : ℤ → Answer
-cause_of (pos e) = cond (eqb e 4) Interrupted Error
-cause_of (negsuc e) = Error
+-- A call that failed was interrupted by a signal (errno 4), or it failed for another reason.
+abbrev pub cause_of : ErrorKind → Answer
+cause_of Signalled = Interrupted
+cause_of _ = Error
 
--- A call that answered 0 or more moved so many bytes; below 0, errno has the cause.
-abbrev pub told_by : ℤ → ℤ → Answer
-told_by (pos n) error = Bytes n
-told_by (negsuc n) error = cause_of error
+-- A call that answered a number moved so many bytes; else its error has the cause.
+abbrev pub told_by : Result ℕ IoError → Answer
+told_by (Ok n) = Bytes n
+told_by (Err e) = cause_of (error_kind e)
 
 -- A transfer goes on while a byte of its size is left.
 abbrev pub standing_at : ℕ → ℕ → ℕ → Progress
@@ -45,12 +49,26 @@ Bounded room (Bytes n) = n ≤ room
 Bounded room Interrupted = Unit {0}
 Bounded room Error = Unit {0}
 
+-- What the caller is told of a transfer.
+abbrev pub ended_by : Transfer → IoError → Result ℕ IoError
+ended_by (Whole n) reason = Ok n
+ended_by Failed reason = Err reason
+
+-- A transfer that is whole has at most, or exactly, the bytes of its buffer.
+abbrev pub Moves : ℕ → Transfer → Type 0
+Moves size (Whole n) = n ≤ size
+Moves size Failed = Unit {0}
+
+abbrev pub MovesAll : ℕ → Transfer → Type 0
+MovesAll size (Whole n) = n ≡ size
+MovesAll size Failed = Unit {0}
+
 -- What was read has at most the bytes of its buffer.
-abbrev pub Within : ℕ → Transfer → Type 0
-Within size (Whole n) = n ≤ size
-Within size Failed = Unit {0}
+abbrev pub Within : ℕ → Result ℕ IoError → Type 0
+Within size (Ok n) = n ≤ size
+Within size (Err e) = Unit {0}
 
 -- What was written has all the bytes of its buffer.
-abbrev pub Entire : ℕ → Transfer → Type 0
-Entire size (Whole n) = n ≡ size
-Entire size Failed = Unit {0}
+abbrev pub Entire : ℕ → Result ℕ IoError → Type 0
+Entire size (Ok n) = n ≡ size
+Entire size (Err e) = Unit {0}

@@ -3,7 +3,10 @@
 #![tactic(auto)]
 
 ghost use Rattle.std.specs.Prelude.{◌-◌, ◌≤◌, ◌≡◌, length};
-ghost use Rattle.streams.specs.Transfers.{told_by, standing_at, interrupted_at, after_call, after_read, after_write, Bounded, Within, Entire};
+ghost use Rattle.streams.specs.Transfers.{told_by, standing_at, interrupted_at, after_call, after_read, after_write, ended_by, Bounded, Within, Entire};
+
+use std::io;
+use std::io::{Error, ErrorKind, Read, Write};
 
 // How often one transfer is interrupted before that counts as a failure: never, but every function must end.
 const PATIENCE: u64 = 18446744073709551615;
@@ -16,7 +19,7 @@ enum Answer {
     Error,
 }
 
-// How a transfer ended: it is whole and has so many bytes, or a call failed, and errno has the reason.
+// How a transfer ended: it is whole and has so many bytes, or a call failed.
 #[derive(Clone, Copy)]
 pub enum Transfer {
     Whole(usize),
@@ -52,17 +55,17 @@ fn interrupted(done: usize, spare: u64) -> Progress
     }
 }
 
-// What a call says that answered `got` and left `error` in errno.
-fn told(got: isize, error: i32) -> Answer
-    ensures { result ≡ told_by got error }
+// What a call says by its answer.
+fn told(got: io::Result<usize>) -> Answer
+    ensures { result ≡ told_by got }
 {
-    if got >= 0 {
-        return Answer::Bytes(got as usize);
+    match got {
+        Ok(count) => Answer::Bytes(count),
+        Err(e) => match e.kind() {
+            ErrorKind::Interrupted => Answer::Interrupted,
+            _ => Answer::Error,
+        },
     }
-    if error == libc::EINTR {
-        return Answer::Interrupted;
-    }
-    Answer::Error
 }
 
 // Where a transfer stands after a call; `none` is how it ends if the call moved no byte.
@@ -99,37 +102,57 @@ fn after_write(size: usize, done: usize, spare: u64, answer: Answer) -> Progress
     after(size, done, spare, answer, Transfer::Failed)
 }
 
+// What the caller is told of a transfer: the number of its bytes, or the reason why a call failed.
+fn ended(transfer: Transfer, reason: Error) -> io::Result<usize>
+    ensures { result ≡ ended_by transfer reason }
+{
+    match transfer {
+        Transfer::Whole(count) => Ok(count),
+        Transfer::Failed => Err(reason),
+    }
+}
+
+// The reason that the last call gave, if it gave one.
+fn reason_of(got: io::Result<usize>, before: Error) -> Error {
+    match got {
+        Ok(_) => before,
+        Err(e) => e,
+    }
+}
+
 // Reads until `buf` is full or the input ends, and answers the number of bytes; or that a read failed.
-pub fn read_input(fd: i32, buf: &mut [u8]) -> Transfer
+pub fn read_input<R: Read>(input: &mut R, buf: &mut [u8]) -> io::Result<usize>
     ensures { Within (length buf.new) result }
 {
     let size = buf.len();
+    let mut reason = Error::from(ErrorKind::UnexpectedEof);
     let mut progress = standing(size, 0, PATIENCE);
     loop {
         match progress {
-            Progress::Ended(transfer) => return transfer,
+            Progress::Ended(transfer) => return ended(transfer, reason),
             Progress::Going(done, spare) => {
-                let got = libc::read(fd, &mut buf[done..]);
-                let answer = told(got, os::errno());
-                progress = after_read(size, done, spare, answer);
+                let got = input.read(&mut buf[done..]);
+                reason = reason_of(got, reason);
+                progress = after_read(size, done, spare, told(got));
             }
         }
     }
 }
 
 // Writes all of `buf`, and answers the number of bytes; or that a write failed, when some of them may have been written.
-pub fn write_output(fd: i32, buf: &[u8]) -> Transfer
+pub fn write_output<W: Write>(output: &mut W, buf: &[u8]) -> io::Result<usize>
     ensures { Entire (length buf.now) result }
 {
     let size = buf.len();
+    let mut reason = Error::from(ErrorKind::WriteZero);
     let mut progress = standing(size, 0, PATIENCE);
     loop {
         match progress {
-            Progress::Ended(transfer) => return transfer,
+            Progress::Ended(transfer) => return ended(transfer, reason),
             Progress::Going(done, spare) => {
-                let got = libc::write(fd, &buf[done..]);
-                let answer = told(got, os::errno());
-                progress = after_write(size, done, spare, answer);
+                let got = output.write(&buf[done..]);
+                reason = reason_of(got, reason);
+                progress = after_write(size, done, spare, told(got));
             }
         }
     }

@@ -2,9 +2,9 @@
 // comparison of a call's answer with what a document says.
 #![tactic(auto)]
 
-use libc::STDOUT_FILENO;
 use model::{Outcome, Policy};
 use refusals::number_of;
+use std::io;
 
 pub mod build;
 pub mod example;
@@ -50,8 +50,8 @@ pub fn counted(t: Tally, agree: bool) -> Tally {
     let policy = t.policy;
     Tally {
         policy,
-        cases: std::num::wrapping_add_u64(t.cases, 1),
-        agree: std::num::wrapping_add_u64(t.agree, one),
+        cases: t.cases.wrapping_add(1),
+        agree: t.agree.wrapping_add(one),
     }
 }
 
@@ -67,11 +67,6 @@ pub fn is_outcome(outcome: Outcome, number: usize, place: usize) -> bool {
 }
 
 // The line of a group of figures: how many of them agree.
-pub fn print(name: &[u8], t: Tally) {
-    io::write_all(STDOUT_FILENO, name);
-    io::write_all(STDOUT_FILENO, b": ");
-    io::print_decimal(STDOUT_FILENO, t.agree);
-    io::write_all(STDOUT_FILENO, b" of ");
-    io::print_decimal(STDOUT_FILENO, t.cases);
-    io::write_all(STDOUT_FILENO, b" agree\n");
+pub fn print(rt: &HostRuntime, name: &str, t: Tally) -> io::Result<()> {
+    println!(rt; "{name}: {} of {} agree", t.agree, t.cases)
 }

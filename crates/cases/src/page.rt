@@ -7,7 +7,7 @@ pub fn begins(page: &[u8], n: usize, text: &[u8]) -> bool {
     if page.len() < n {
         return false;
     }
-    check::same(&page[..n], text)
+    &page[..n] == text
 }
 
 // A file's report is the expected text.

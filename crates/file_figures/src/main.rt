@@ -5,21 +5,22 @@
 use cases::example::{BOX, swung};
 use cases::{Tally, file, machine};
 use model::{Description, Link};
+use std::io;
 
 mod calls;
 
 // A longest run is 1 to 10,000,000.
-fn runs() {
+fn runs(rt: &HostRuntime) -> io::Result<()> {
     let mut t = cases::none();
     t = file::reads(t, b"\x01\x00\x04\x00\x00\x00\x00", 6, 0);
     t = file::reads(t, b"\x01\x00\x04\x00\x00\x00\x01", 0, 0);
     t = file::reads(t, b"\x01\x00\x04\x00\x98\x96\x80", 0, 0);
     t = file::reads(t, b"\x01\x00\x04\x00\x98\x96\x81", 6, 0);
-    cases::print(b"runs", t);
+    cases::print(rt, "runs", t)
 }
 
 // A least spacing is 1 to 1,000,000,000.
-fn spacings() {
+fn spacings(rt: &HostRuntime) -> io::Result<()> {
     let mut t = cases::none();
     t = file::reads(
         t,
@@ -45,7 +46,7 @@ fn spacings() {
         6,
         7,
     );
-    cases::print(b"spacings", t);
+    cases::print(rt, "spacings", t)
 }
 
 // Eight tasks that each wake all above them: at runs of 7,812,500 the source's load at task 1 is 128 times that,
@@ -55,22 +56,22 @@ fn heaviest() -> [u8; 237] {
 }
 
 // A load is at most 1,000,000,000.
-fn weights() {
+fn weights(rt: &HostRuntime) -> io::Result<()> {
     let mut heavy = heaviest();
     let mut t = file::reads(cases::none(), &heavy, 0, 0);
     heavy[6] = 149;
     t = file::reads(t, &heavy, 10, 0);
-    cases::print(b"loads", t);
+    cases::print(rt, "loads", t)
 }
 
 // Pulses are 1 to 960.
-fn pulses() {
+fn pulses(rt: &HostRuntime) -> io::Result<()> {
     let mut t = cases::none();
     t = file::reads(t, b"\x01\x00\x04\x00\x00\x00\x01\x03\x00\x02\x00\x00", 6, 7);
     t = file::reads(t, b"\x01\x00\x04\x00\x00\x00\x01\x03\x00\x02\x00\x01", 0, 0);
     t = file::reads(t, b"\x01\x00\x04\x00\x00\x00\x01\x03\x00\x02\x03\xc0", 0, 0);
     t = file::reads(t, b"\x01\x00\x04\x00\x00\x00\x01\x03\x00\x02\x03\xc1", 6, 7);
-    cases::print(b"pulses", t);
+    cases::print(rt, "pulses", t)
 }
 
 // A file with these pulses and this swing is read, number 0, or refused with a number and a place.
@@ -79,7 +80,7 @@ fn swing(t: Tally, pulses: u16, swing: u8, number: usize, place: usize) -> Tally
 }
 
 // A swing is 51 to 75, also where the pulses are good, and straight time has no third byte.
-fn swings() {
+fn swings(rt: &HostRuntime) -> io::Result<()> {
     let mut t = cases::none();
     t = swing(t, 480, 0, 6, 7);
     t = swing(t, 480, 49, 6, 7);
@@ -92,11 +93,11 @@ fn swings() {
     t = swing(t, 1, 66, 0, 0);
     t = swing(t, 960, 66, 0, 0);
     t = swing(t, 961, 66, 6, 7);
-    cases::print(b"swings", t);
+    cases::print(rt, "swings", t)
 }
 
 // Of a paced source the lengths 2 and 3 are right, any other is 3, told before a body that passes the end.
-fn lengths() {
+fn lengths(rt: &HostRuntime) -> io::Result<()> {
     let mut t = cases::none();
     t = file::reads(t, b"\x01\x00\x04\x00\x00\x00\x01\x03\x00\x00", 3, 7);
     t = file::reads(t, b"\x01\x00\x04\x00\x00\x00\x01\x03\x00\x01\x18", 3, 7);
@@ -122,11 +123,11 @@ fn lengths() {
         3,
         7,
     );
-    cases::print(b"lengths of a paced source", t);
+    cases::print(rt, "lengths of a paced source", t)
 }
 
 // A critical number is 0 or 1.
-fn criticals() {
+fn criticals(rt: &HostRuntime) -> io::Result<()> {
     let mut t = cases::none();
     t = file::reads(
         t,
@@ -146,11 +147,11 @@ fn criticals() {
         6,
         14,
     );
-    cases::print(b"critical numbers", t);
+    cases::print(rt, "critical numbers", t)
 }
 
 // 1 to 32 tasks, 0 to 16 sources, 0 to 256 links; the longest file has 1,872 bytes.
-fn counts() {
+fn counts(rt: &HostRuntime) -> io::Result<()> {
     let mut t = cases::none();
     t = calls::crowd(t, 0, 0, 0, 8, 0);
     t = calls::crowd(t, 32, 0, 224, 0, 0);
@@ -161,7 +162,7 @@ fn counts() {
     t = calls::crowd(t, 32, 16, 336, 0, 0);
     t = calls::crowd(t, 32, 16, 1872, 0, 0);
     t = calls::crowd(t, 32, 16, 1878, 5, 1872);
-    cases::print(b"counts", t);
+    cases::print(rt, "counts", t)
 }
 
 // Box field by field: a task, a paced source, a link, and the end; then a strange tag.
@@ -175,12 +176,12 @@ fn box_fields(t: Tally) -> Tally {
 }
 
 // From a reading place Box field by field, then a wrong length and a cut body.
-fn taking() {
+fn taking(rt: &HostRuntime) -> io::Result<()> {
     let mut t = box_fields(cases::none());
     t = calls::takes_refusal(t, b"\x01\x00\x04\x00\x00\x00\x01\x02\x00\x02\x00\x01", 7, 3);
     t = calls::takes_refusal(t, b"\x01\x00\x04\x00\x00\x00\x01\x02\x00\x04\x00\x01", 7, 1);
     t = calls::takes_refusal(t, b"\x01\x00", 0, 1);
-    cases::print(b"fields from a reading place", t);
+    cases::print(rt, "fields from a reading place", t)
 }
 
 fn box_record() -> Description {
@@ -230,7 +231,7 @@ fn heavy(run: u32) -> Description {
 
 // A record is judged as its file would be: 8 for a blank one, 9 and 10 where its links or runs are changed, 5 at 0 for
 // a count above its limit, and 6, 7 and 4 at the changed field.
-fn judging() {
+fn judging(rt: &HostRuntime) -> io::Result<()> {
     let mut t = file::judges(cases::none(), box_record(), 0, 0);
     t = file::judges(t, file::described(b""), 8, 0);
     t = file::judges(t, first_link(2, 2), 9, 0);
@@ -240,7 +241,7 @@ fn judging() {
     t = file::judges(t, second_run(0), 6, 7);
     t = file::judges(t, first_link(2, 4), 7, 33);
     t = file::judges(t, second_link(2, 1), 4, 39);
-    cases::print(b"records judged", t);
+    cases::print(rt, "records judged", t)
 }
 
 // Box into a buffer that it just fills, and one that is a byte shorter, which for a blank record is refused for that.
@@ -253,36 +254,35 @@ fn files_written(t: Tally) -> Tally {
 }
 
 // The outcomes of two calls into a buffer.
-fn outcomes_written(t: Tally, outcomes: &mut [u8], number: usize) -> Tally {
-    machine::runs(
-        t,
+fn outcomes_written(rt: &HostRuntime, t: Tally, outcomes: &mut [u8], number: usize) -> io::Result<()> {
+    machine::runs(rt, t,
         box_record(),
         b"\x00\x00\x00\xc8\x00\x00\x00\x00\x00\xc8\x00\x00",
         outcomes,
-        number,
-    )
+        number,)?
+    Ok(())
 }
 
 // A file into a buffer that it just fills, and one that is a byte shorter; outcomes of two calls likewise.
-fn buffers() {
+fn buffers(rt: &HostRuntime) -> io::Result<()> {
     let mut two = [0u8; 2];
     let mut one = [0u8; 1];
     let mut t = files_written(cases::none());
-    t = outcomes_written(t, &mut two, 0);
-    t = outcomes_written(t, &mut one, 13);
-    cases::print(b"buffers just filled", t);
+    t = outcomes_written(rt, t, &mut two, 0)?;
+    t = outcomes_written(rt, t, &mut one, 13)?;
+    cases::print(rt, "buffers just filled", t)
 }
 
-fn main() {
-    runs();
-    spacings();
-    weights();
-    pulses();
-    swings();
-    lengths();
-    criticals();
-    counts();
-    taking();
-    judging();
-    buffers();
+fn main(rt: HostRuntime) -> io::Result<()> {
+    runs(&rt)?;
+    spacings(&rt)?;
+    weights(&rt)?;
+    pulses(&rt)?;
+    swings(&rt)?;
+    lengths(&rt)?;
+    criticals(&rt)?;
+    counts(&rt)?;
+    taking(&rt)?;
+    judging(&rt)?;
+    buffers(&rt)
 }

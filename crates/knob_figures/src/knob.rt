@@ -143,7 +143,7 @@ pub fn codes(t: Tally, file: &[u8], turn: Turn, at_turn: u8, at_last: u8) -> Tal
 // The count with call i, if that is at a place of its round and done.
 fn with_call(done: u64, place: usize, i: usize, code: u8) -> u64 {
     if i % 3 == place && code == 0 {
-        return std::num::wrapping_add_u64(done, 1);
+        return done.wrapping_add(1);
     }
     done
 }

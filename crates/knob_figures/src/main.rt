@@ -8,6 +8,7 @@ use cases::machine::{ages, arriving, idle};
 use cases::{Tally, counted, machine};
 use knob::{AfterRounds, Turn};
 use model::{Description, Machine, Policy};
+use std::io;
 
 mod knob;
 
@@ -56,7 +57,7 @@ fn high_call(t: Tally, k: usize, number: u8) -> Tally {
 
 // 11 of a tick, and of a call in a run, which alone is refused; ages equal the spacings at 20.0 at the start, and
 // beside a refusal they are 0.
-fn knobs() {
+fn knobs(rt: &HostRuntime) -> io::Result<()> {
     let mut t = machine::starts(cases::none(), box_record(), 0, 6250);
     t = machine::starts(t, blank(), 8, 0);
     t = machine::ages(t, idle(box_record()), 6250, 2000);
@@ -69,7 +70,7 @@ fn knobs() {
     t = low_call(t, 1, 0);
     t = high_call(t, 0, 0);
     t = high_call(t, 1, 11);
-    cases::print(b"knob", t);
+    cases::print(rt, "knob", t)
 }
 
 // The knob at 300.0 in one call, and the last call of the run.
@@ -123,7 +124,7 @@ fn kept_fastest(t: Tally) -> Tally {
     turns(t, up(103, 103), 0, 14)
 }
 
-fn turned_knob() {
+fn turned_knob(rt: &HostRuntime) -> io::Result<()> {
     let mut t = kept_fastest(cases::none());
     // before its first firing it is free, and in the next call it is too soon
     t = turns(t, level(0), 0, 0);
@@ -133,7 +134,7 @@ fn turned_knob() {
     t = turns(t, elsewhere(3001, false), 11, 14);
     t = turns(t, elsewhere(199, false), 11, 14);
     t = turns(t, up(1, 105), 0, 0);
-    cases::print(b"C-13, the knob", t);
+    cases::print(rt, "C-13, the knob", t)
 }
 
 // No critical link of Box is dropped, and no tempo above the quote is kept.
@@ -245,9 +246,9 @@ fn aged(t: Tally) -> Tally {
     ages(t, m, 1562, 3)
 }
 
-fn kept_tempos() {
+fn kept_tempos(rt: &HostRuntime) -> io::Result<()> {
     let t = aged(refused_tempo(kept_tempo(cases::none())));
-    cases::print(b"C-13, kept tempos", t);
+    cases::print(rt, "C-13, kept tempos", t)
 }
 
 // A tick at 20.0 of a record after a start whose first source has this age and this kept tempo.
@@ -283,7 +284,7 @@ fn absent_sources(t: Tally) -> Tally {
 
 // 16 by the rules of ages and kept tempos: an age up to the spacing at 20.0; a kept tempo 0, with that age, or 200 to
 // 3,000; both 0 for an absent source.
-fn kept_rules() {
+fn kept_rules(rt: &HostRuntime) -> io::Result<()> {
     let mut t = machine::ticks_still(cases::none(), swift(), idle(swift()), 0);
     t = first_source(t, 1561, 0, 16);
     t = first_source(t, 1561, 200, 0);
@@ -296,20 +297,18 @@ fn kept_rules() {
     t = first_source(t, 0, 3000, 0);
     t = first_source(t, 0, 0, 16);
     t = absent_sources(t);
-    cases::print(b"C-13, rules of the record", t);
+    cases::print(rt, "C-13, rules of the record", t)
 }
 
-fn main() {
-    knobs();
-    turned_knob();
-    cases::print(
-        b"C-13, Box with the knob moving",
+fn main(rt: HostRuntime) -> io::Result<()> {
+    knobs(&rt)?;
+    turned_knob(&rt)?;
+    cases::print(&rt, "C-13, Box with the knob moving",
         moving_knob(Policy::Preemptive, 1783),
-    );
-    kept_tempos();
-    kept_rules();
-    cases::print(
-        b"C-14, Box with the knob moving",
+    )?;
+    kept_tempos(&rt)?;
+    kept_rules(&rt)?;
+    cases::print(&rt, "C-14, Box with the knob moving",
         moving_knob(Policy::HoldOn, 1248),
-    );
+    )
 }

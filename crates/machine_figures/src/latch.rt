@@ -5,6 +5,7 @@ use cases::machine::{after, arriving, idle};
 use cases::verdict::held;
 use cases::{Tally, counted, machine};
 use model::{Description, Machine, Policy};
+use std::io;
 
 // Of a record whether the first task is awake, its used, and whether it is marked again.
 fn first_task(t: Tally, m: Machine, awake: bool, used: u32, again: bool) -> Tally {
@@ -58,9 +59,9 @@ fn reading(t: Tally) -> Tally {
     waits(t, m, false, false)
 }
 
-pub fn readings() {
+pub fn readings(rt: &HostRuntime) -> io::Result<()> {
     let t = cases::on(Policy::HoldOn, reading(cases::none()));
-    cases::print(b"C-15, inputs read when a run begins", reading(t));
+    cases::print(rt, "C-15, inputs read when a run begins", reading(t))
 }
 
 // The marks of a run of three ticks, of which source 34 comes at the second, and of the run that takes its event; and
@@ -94,9 +95,9 @@ fn late_event(t: Tally) -> Tally {
     lates(t, m, false, false)
 }
 
-pub fn late_events() {
+pub fn late_events(rt: &HostRuntime) -> io::Result<()> {
     let t = cases::on(Policy::HoldOn, late_event(cases::none()));
-    cases::print(b"C-15, a late event", late_event(t));
+    cases::print(rt, "C-15, a late event", late_event(t))
 }
 
 // A source that comes at the third tick of a run of four, while its event waits: that is a drop, and late.
@@ -115,9 +116,9 @@ fn late_drop(t: Tally) -> Tally {
     lates(t, m, false, false)
 }
 
-pub fn late_drops() {
+pub fn late_drops(rt: &HostRuntime) -> io::Result<()> {
     let t = cases::on(Policy::HoldOn, late_drop(cases::none()));
-    cases::print(b"C-15, a late drop", late_drop(t));
+    cases::print(rt, "C-15, a late drop", late_drop(t))
 }
 
 // An event from a task, for one that it interrupted.
@@ -148,10 +149,10 @@ fn uninterrupted(t: Tally, d: Description) -> Tally {
     lates(t, m, false, false)
 }
 
-pub fn nested() {
+pub fn nested(rt: &HostRuntime) -> io::Result<()> {
     let d = described(&NESTED);
     let t = uninterrupted(interrupted(cases::none(), d), d);
-    cases::print(b"C-15, an interrupted task", t);
+    cases::print(rt, "C-15, an interrupted task", t)
 }
 
 fn scan_record() -> Description {
@@ -213,7 +214,7 @@ fn latch_rules(t: Tally) -> Tally {
     waits(t, m, false, false)
 }
 
-pub fn latched() {
+pub fn latched(rt: &HostRuntime) -> io::Result<()> {
     let t = cases::on(Policy::HoldOn, latch_rules(cases::none()));
-    cases::print(b"C-15, rules of the record", latch_rules(t));
+    cases::print(rt, "C-15, rules of the record", latch_rules(t))
 }

@@ -7,12 +7,13 @@ use cases::file::described;
 use cases::machine::{after, arriving, idle};
 use cases::{Tally, machine};
 use model::{Description, Machine, Policy};
+use std::io;
 
 mod calls;
 mod latch;
 
 // P5: Twin with the spacing 7 and arrivals at ticks 0, 7, 14 and 21: 33>1 is dropped at tick 21 and not before.
-fn marked_drop() {
+fn marked_drop(rt: &HostRuntime) -> io::Result<()> {
     let mut t = cases::none();
     t = calls::drops(
         t,
@@ -28,7 +29,7 @@ fn marked_drop() {
         3,
         true,
     );
-    cases::print(b"P5", t);
+    cases::print(rt, "P5", t)
 }
 
 // A source with the spacing 5.
@@ -62,13 +63,13 @@ fn at_five(t: Tally, k: usize, number: u8) -> Tally {
 }
 
 // P9: spacing 5; arrivals at ticks 0 and 4 give 14, 0 and 5 pass.
-fn marked_ticks() {
+fn marked_ticks(rt: &HostRuntime) -> io::Result<()> {
     let mut t = cases::none();
     t = at_four(t, 0, 0);
     t = at_four(t, 4, 14);
     t = at_five(t, 0, 0);
     t = at_five(t, 5, 0);
-    cases::print(b"P9", t);
+    cases::print(rt, "P9", t)
 }
 
 // One task of run 3, a source of spacing 5, and the link between them.
@@ -94,7 +95,7 @@ fn single_tick(t: Tally, m: Machine, first: bool, second: bool, number: usize) -
 }
 
 // Three ticks of a run, one that ends early, and the refusals of an arrival, which leave the record as it was.
-fn ticking() {
+fn ticking(rt: &HostRuntime) -> io::Result<()> {
     let mut m = idle(single());
     let mut t = calls::shows(cases::none(), m, 0, 5, false);
     let first = single_later(m, true, false);
@@ -113,7 +114,7 @@ fn ticking() {
     m = first;
     m.used[0] = 3;
     t = single_tick(t, m, true, true, 16);
-    cases::print(b"ticks of a lent record", t);
+    cases::print(rt, "ticks of a lent record", t)
 }
 
 // A tick without arrivals of it.
@@ -160,14 +161,14 @@ fn absent_rules(t: Tally, idle: Machine) -> Tally {
 }
 
 // 16 by each rule of the record; a dropped mark and an awake task without an event break none.
-fn rules() {
+fn rules(rt: &HostRuntime) -> io::Result<()> {
     let mut m = idle(single());
     let mut t = present_rules(cases::none(), m);
     t = absent_rules(t, m);
     m.dropped[0] = true;
     m.awake[0] = true;
     t = single_still(t, m, 0);
-    cases::print(b"rules of the record", t);
+    cases::print(rt, "rules of the record", t)
 }
 
 // A source of 960 pulses with a swing of 75.
@@ -181,7 +182,7 @@ fn swung_tick(t: Tally, m: Machine, number: usize) -> Tally {
 }
 
 // A swung source on the machine: at 20.0 its spacing is 1,562.
-fn swung_ticks() {
+fn swung_ticks(rt: &HostRuntime) -> io::Result<()> {
     let mut m = idle(swung_record());
     let mut t = calls::shows(cases::none(), m, 0, 1562, false);
     t = swung_tick(t, m, 0);
@@ -190,7 +191,7 @@ fn swung_ticks() {
     t = swung_tick(t, m, 14);
     m.ages[0] = 1563;
     t = swung_tick(t, m, 16);
-    cases::print(b"C-11, ticks", t);
+    cases::print(rt, "C-11, ticks", t)
 }
 
 // A task of run 3 and a higher one of run 1, each with a fixed source of 10 of its own; both links are critical.
@@ -221,7 +222,7 @@ fn held_on(t: Tally, idle: Machine) -> Tally {
 
 // On the preemptive model the higher one runs at once. Where both come in the first tick, the higher one is chosen on
 // either model.
-fn holding() {
+fn holding(rt: &HostRuntime) -> io::Result<()> {
     let idle = idle(described(&PAIR));
     let mut t = held_on(cases::hold(), idle);
     let p = Policy::Preemptive;
@@ -231,7 +232,7 @@ fn holding() {
     t = calls::tasks(t, m, 1, true, false);
     m = pair_later(p, idle, true, true);
     t = calls::tasks(t, m, 0, true, false);
-    cases::print(b"C-14, the task that runs", t);
+    cases::print(rt, "C-14, the task that runs", t)
 }
 
 // Two tasks of run 3.
@@ -241,7 +242,7 @@ fn two_tasks() -> Description {
 
 // The rule that at most one task is part done is the hold-on model's alone: one of two tasks of run 3, then both, which
 // gives 16; on the preemptive model it passes.
-fn parts_done() {
+fn parts_done(rt: &HostRuntime) -> io::Result<()> {
     let mut m = idle(two_tasks());
     m.awake[0] = true;
     m.used[0] = 1;
@@ -252,20 +253,20 @@ fn parts_done() {
     t = machine::ticks_still(t, two_tasks(), m, 16);
     t = cases::on(Policy::Preemptive, t);
     t = machine::ticks_still(t, two_tasks(), m, 0);
-    cases::print(b"C-14, rules of the record", t);
+    cases::print(rt, "C-14, rules of the record", t)
 }
 
-fn main() {
-    marked_drop();
-    marked_ticks();
-    ticking();
-    rules();
-    swung_ticks();
-    holding();
-    parts_done();
-    latch::readings();
-    latch::late_events();
-    latch::late_drops();
-    latch::nested();
-    latch::latched();
+fn main(rt: HostRuntime) -> io::Result<()> {
+    marked_drop(&rt)?;
+    marked_ticks(&rt)?;
+    ticking(&rt)?;
+    rules(&rt)?;
+    swung_ticks(&rt)?;
+    holding(&rt)?;
+    parts_done(&rt)?;
+    latch::readings(&rt)?;
+    latch::late_events(&rt)?;
+    latch::late_drops(&rt)?;
+    latch::nested(&rt)?;
+    latch::latched(&rt)
 }

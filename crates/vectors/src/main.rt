@@ -1,41 +1,32 @@
 // Compares the answers of the calls with the shared vectors: the report of each file, and each run of the tick machine.
 #![tactic(auto)]
 
-use libc::STDOUT_FILENO;
 use model::Policy;
 use parts::Tally;
+use std::{fs, io};
+use streams::read_input;
 
 mod parts;
 mod records;
 mod reports;
 mod runs;
 
-ghost use Rattle.std.specs.Prelude.{◌≤◌, length};
+ghost use Rattle.std.specs.Prelude.{◌≤◌, length, IfOk};
 
 // The bytes of a data file at the front of a buffer.
-fn read_data(path: &[u8], buf: &mut [u8]) -> usize
-    ensures { result ≤ length buf.new }
+fn read_data(rt: &HostRuntime, path: &str, buf: &mut [u8]) -> io::Result<usize>
+    ensures { IfOk result (λ n. n ≤ length buf.new) }
 {
-    let fd = os::open_read(path);
-    if fd < 0 {
-        os::fail(path);
-        return 0;
-    }
-    let n = io::read_full(fd, buf);
-    libc::close(fd);
-    n
+    let mut file = fs::open(rt, path)?;
+    read_input(&mut file, buf)
 }
 
-fn print_tally(t: Tally, what: &[u8]) {
-    io::print_decimal(STDOUT_FILENO, t.agree);
-    io::write_all(STDOUT_FILENO, b" of ");
-    io::print_decimal(STDOUT_FILENO, t.cases);
-    io::write_all(STDOUT_FILENO, what);
+fn print_tally(rt: &HostRuntime, t: Tally, what: &str) -> io::Result<()> {
+    println!(rt; "{} of {} {what}", t.agree, t.cases)?;
     if t.first != 0 {
-        io::write_all(STDOUT_FILENO, b"the first that does not: ");
-        io::print_decimal(STDOUT_FILENO, t.first);
-        io::write_all(STDOUT_FILENO, b"\n");
+        println!(rt; "the first that does not: {}", t.first)?;
     }
+    Ok(())
 }
 
 // What the cases of a data file are, and the model that they are of.
@@ -53,45 +44,21 @@ fn compare_all(s: &[u8], cases: Cases) -> Tally {
 }
 
 // Compares the cases of a data file.
-fn compare_file(path: &[u8], cases: Cases, what: &[u8]) {
+fn compare_file(rt: &HostRuntime, path: &str, cases: Cases, what: &str) -> io::Result<()> {
     let mut data = [0u8; 294912];
-    let n = read_data(path, &mut data);
-    print_tally(compare_all(&data[..n], cases), what);
+    let n = read_data(rt, path, &mut data)?;
+    print_tally(rt, compare_all(&data[..n], cases), what)
 }
 
-fn main() {
+fn main(rt: HostRuntime) -> io::Result<()> {
     let plain = Policy::Preemptive;
     let hold = Policy::HoldOn;
-    compare_file(b"reports.bin", Cases::Reports(plain), b" reports agree\n");
-    compare_file(
-        b"swing.bin",
-        Cases::Reports(plain),
-        b" reports with swing agree\n",
-    );
-    compare_file(b"latched-runs.bin", Cases::Runs(plain), b" runs agree\n");
-    compare_file(
-        b"knob-runs.bin",
-        Cases::Runs(plain),
-        b" runs from before C-15 agree\n",
-    );
-    compare_file(
-        b"steady-runs.bin",
-        Cases::Runs(plain),
-        b" runs at one tempo agree\n",
-    );
-    compare_file(
-        b"hold-reports.bin",
-        Cases::Reports(hold),
-        b" reports of the hold-on model agree\n",
-    );
-    compare_file(
-        b"latched-hold-runs.bin",
-        Cases::Runs(hold),
-        b" runs of the hold-on model agree\n",
-    );
-    compare_file(
-        b"hold-runs.bin",
-        Cases::Runs(hold),
-        b" runs of the hold-on model from before C-15 agree\n",
-    );
+    compare_file(&rt, "reports.bin", Cases::Reports(plain), "reports agree")?;
+    compare_file(&rt, "swing.bin", Cases::Reports(plain), "reports with swing agree")?;
+    compare_file(&rt, "latched-runs.bin", Cases::Runs(plain), "runs agree")?;
+    compare_file(&rt, "knob-runs.bin", Cases::Runs(plain), "runs from before C-15 agree")?;
+    compare_file(&rt, "steady-runs.bin", Cases::Runs(plain), "runs at one tempo agree")?;
+    compare_file(&rt, "hold-reports.bin", Cases::Reports(hold), "reports of the hold-on model agree")?;
+    compare_file(&rt, "latched-hold-runs.bin", Cases::Runs(hold), "runs of the hold-on model agree")?;
+    compare_file(&rt, "hold-runs.bin", Cases::Runs(hold), "runs of the hold-on model from before C-15 agree")
 }

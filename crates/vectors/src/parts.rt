@@ -41,11 +41,11 @@ pub fn part_at(s: &[u8], at: usize) -> Part
 
 // The tally with one case more.
 pub fn counted(t: Tally, agree: bool) -> Tally {
-    let cases = std::num::wrapping_add_u64(t.cases, 1);
+    let cases = t.cases.wrapping_add(1);
     if agree {
         return Tally {
             cases,
-            agree: std::num::wrapping_add_u64(t.agree, 1),
+            agree: t.agree.wrapping_add(1),
             first: t.first,
         };
     }

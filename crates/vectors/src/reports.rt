@@ -7,7 +7,7 @@ use model::Policy;
 fn agrees(p: Policy, file: &[u8], expected: &[u8]) -> bool {
     let mut page = [0u8; report::LONGEST];
     let n = report::put_whole(p, file, &mut page);
-    check::same(&page[..n], expected)
+    &page[..n] == expected
 }
 
 // All cases of the vectors.

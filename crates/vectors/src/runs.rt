@@ -23,7 +23,7 @@ fn same_outcomes(outcomes: &[u8], recorded: &[u8]) -> bool {
     if outcomes.len() < n {
         return false;
     }
-    check::same(&outcomes[..n], recorded)
+    &outcomes[..n] == recorded
 }
 
 // Whether a record is the recorded one, or one from before C-15 without its marks. Of document 01's the ages are not compared: they were counted

@@ -7,6 +7,7 @@ use cases::page::reports;
 use cases::verdict::{held, load};
 use cases::{Tally, file, machine};
 use model::{Description, Source, SourceSlot};
+use std::io;
 
 mod calls;
 mod paper;
@@ -25,17 +26,17 @@ fn at_tempo(t: Tally, tempo: u32, number: usize) -> Tally {
 }
 
 // A tempo is 200 to 3,000.
-fn tempos() {
+fn tempos(rt: &HostRuntime) -> io::Result<()> {
     let mut t = cases::none();
     t = at_tempo(t, 199, 11);
     t = at_tempo(t, 200, 0);
     t = at_tempo(t, 3000, 0);
     t = at_tempo(t, 3001, 11);
-    cases::print(b"tempos", t);
+    cases::print(rt, "tempos", t)
 }
 
 // The report of Box; a buffer that it just fills, and one that is a byte shorter; the same of the longest report.
-fn pages() {
+fn pages(rt: &HostRuntime) -> io::Result<()> {
     let mut t = cases::none();
     t = reports(
         t,
@@ -46,7 +47,7 @@ fn pages() {
     t = calls::fills(t, &BOX, 106, 13);
     t = calls::longest(t, 11168, 0);
     t = calls::longest(t, 11167, 13);
-    cases::print(b"reports and buffers", t);
+    cases::print(rt, "reports and buffers", t)
 }
 
 // Box with a run of 0.
@@ -57,18 +58,18 @@ fn stopped() -> Description {
 }
 
 // The quote of a record: a tempo, 12, or what the record is refused for.
-fn quotes() {
-    let mut t = calls::quotes_file(cases::none(), &BOX, 0, 1783);
-    t = calls::quotes_file(t, b"\x01\x00\x04\x00\x00\x00\x01", 0, 3000);
-    t = twin_quote(t, 9, 0, 3000);
-    t = twin_quote(t, 8, 12, 0);
-    t = calls::quotes_file(t, b"", 8, 0);
-    t = calls::quotes(t, stopped(), 6, 7);
-    cases::print(b"quotes", t);
+fn quotes(rt: &HostRuntime) -> io::Result<()> {
+    let mut t = calls::quotes_file(rt, cases::none(), &BOX, 0, 1783)?;
+    t = calls::quotes_file(rt, t, b"\x01\x00\x04\x00\x00\x00\x01", 0, 3000)?;
+    t = twin_quote(rt, t, 9, 0, 3000)?;
+    t = twin_quote(rt, t, 8, 12, 0)?;
+    t = calls::quotes_file(rt, t, b"", 8, 0)?;
+    t = calls::quotes(rt, t, stopped(), 6, 7)?;
+    cases::print(rt, "quotes", t)
 }
 
 // P1, P2, P3.
-fn marked_box() {
+fn marked_box(rt: &HostRuntime) -> io::Result<()> {
     let mut t = cases::none();
     t = file::reads(t, b"", 8, 0);
     t = reports(t, b"\x01\x00\x04\x00\x00\x00\x01", b"tempo 300.0\n");
@@ -77,7 +78,7 @@ fn marked_box() {
     t = calls::writes_back(t, &BOX);
     t = held(t, &BOX, 1783, 3, 700, 701);
     t = calls::doubtful(t, &BOX, 1784, 3, 700);
-    cases::print(b"P1 to P3", t);
+    cases::print(rt, "P1 to P3", t)
 }
 
 // Twin's link 33>1 or 33>2 is held with a delay at a spacing; 33>1 is in doubt; its quote.
@@ -89,21 +90,22 @@ fn twin_doubt(t: Tally, spacing: u8) -> Tally {
     calls::doubtful(t, &twin(spacing), 200, 3, spacing as u32)
 }
 
-fn twin_quote(t: Tally, spacing: u8, number: usize, value: u32) -> Tally {
-    calls::quotes_file(t, &twin(spacing), number, value)
+fn twin_quote(rt: &HostRuntime, t: Tally, spacing: u8, number: usize, value: u32) -> io::Result<()> {
+    calls::quotes_file(rt, t, &twin(spacing), number, value)?
+    Ok(())
 }
 
 // P4: Twin with the spacings 9 and 8.
-fn marked_twin() {
+fn marked_twin(rt: &HostRuntime) -> io::Result<()> {
     let mut t = load(cases::none(), &twin(9), 33, 1, 8);
     t = twin_held(t, 9, 3, 8);
     t = twin_held(t, 9, 4, 6);
     t = twin_doubt(t, 8);
-    cases::print(b"P4", t);
+    cases::print(rt, "P4", t)
 }
 
 // P6 and P7.
-fn marked_orders() {
+fn marked_orders(rt: &HostRuntime) -> io::Result<()> {
     let mut t = cases::none();
     t = reports(
         t,
@@ -120,11 +122,11 @@ fn marked_orders() {
         b"\x01\x00\x04\x00\x00\x00\x01\x01\x00\x04\x00\x00\x00\x01\x01\x00\x04\x00\x00\x00\x01\x01\x00\x04\x00\x00\x00\x01\x04\x00\x03\x01\x03\x00\x04\x00\x03\x01\x04\x00\x04\x00\x03\x03\x04\x00\x04\x00\x03\x04\x02\x01",
         b"tempo none\nlink 1 1>3 free\nlink 2 1>4 free\nlink 3 3>4 free\nlink 4 4>2 doubt order\n",
     );
-    cases::print(b"P6, P7", t);
+    cases::print(rt, "P6, P7", t)
 }
 
 // P8 and P10.
-fn marked_others() {
+fn marked_others(rt: &HostRuntime) -> io::Result<()> {
     let mut t = cases::none();
     t = held(
         t,
@@ -148,7 +150,7 @@ fn marked_others() {
         4,
         20,
     );
-    cases::print(b"P8, P10", t);
+    cases::print(rt, "P8, P10", t)
 }
 
 // The link of a paced source with a swing is held with the delay 1 at a spacing.
@@ -157,13 +159,13 @@ fn swung_spacing(t: Tally, pulses: u16, swing: u8, tempo: u32, spacing: u32) -> 
 }
 
 // C-11: 480 pulses at 120.0 with the swings 66 and 75; the least and the widest spacing with a swing.
-fn swung_spacings() {
+fn swung_spacings(rt: &HostRuntime) -> io::Result<()> {
     let mut t = cases::none();
     t = swung_spacing(t, 480, 66, 1200, 708);
     t = swung_spacing(t, 480, 75, 1200, 520);
     t = swung_spacing(t, 960, 75, 3000, 104);
     t = swung_spacing(t, 1, 51, 200, 2940000);
-    cases::print(b"C-11, spacings", t);
+    cases::print(rt, "C-11, spacings", t)
 }
 
 // Box with a swing of 66, and with one of 50.
@@ -181,7 +183,7 @@ fn straight() -> Description {
 
 // Box with a swing of 66: its report, its file, its field from a reading place, its quote, and its first source's age
 // at a start.
-fn swung_box() {
+fn swung_box(rt: &HostRuntime) -> io::Result<()> {
     let mut t = reports(
         cases::none(),
         &SWUNG_BOX,
@@ -190,10 +192,10 @@ fn swung_box() {
     t = calls::writes_back(t, &SWUNG_BOX);
     t = file::takes_field(t, &SWUNG_BOX, 21, 27);
     t = calls::doubtful(t, &SWUNG_BOX, 1213, 3, 700);
-    t = calls::quotes(t, swung_record(), 0, 1212);
+    t = calls::quotes(rt, t, swung_record(), 0, 1212)?;
     t = machine::starts(t, swung_record(), 0, 4250);
     t = file::judges(t, straight(), 6, 21);
-    cases::print(b"C-11, Box", t);
+    cases::print(rt, "C-11, Box", t)
 }
 
 // A link of Box at 178.3, and of Box with a swing of 66 at 121.2.
@@ -204,7 +206,7 @@ fn paced_alike(t: Tally, place: usize, delay: u32, spacing: u32) -> Tally {
 
 // C-12: Box at 178.3, with a swing of 66 at 121.2 and with a fixed source at any tempo has the same spacings, and so
 // the same verdicts.
-fn alike() {
+fn alike(rt: &HostRuntime) -> io::Result<()> {
     let mut t = reports(
         cases::none(),
         &FIXED_BOX,
@@ -215,13 +217,13 @@ fn alike() {
     t = paced_alike(t, 3, 700, 701);
     t = held(t, &FIXED_BOX, 1200, 4, 400, 2000);
     t = paced_alike(t, 4, 400, 2000);
-    cases::print(b"C-12, Box with a pulse of each kind", t);
+    cases::print(rt, "C-12, Box with a pulse of each kind", t)
 }
 
 // C-14: Box on the hold-on model, where 33>2 waits for task 1 or for task 2 with what that wakes, then for source 34's
 // load, and runs for 300 itself. Its report into a buffer that it just fills, and one that is a byte shorter.
-fn hold_box() {
-    let mut t = calls::quotes_file(cases::hold(), &BOX, 0, 1248);
+fn hold_box(rt: &HostRuntime) -> io::Result<()> {
+    let mut t = calls::quotes_file(rt, cases::hold(), &BOX, 0, 1248)?;
     t = held(t, &BOX, 1248, 3, 1000, 1001);
     t = calls::doubtful(t, &BOX, 1249, 3, 1000);
     t = held(t, &BOX, 1248, 4, 600, 2000);
@@ -232,27 +234,27 @@ fn hold_box() {
     );
     t = calls::fills(t, &BOX, 114, 0);
     t = calls::fills(t, &BOX, 113, 13);
-    cases::print(b"C-14, Box", t);
+    cases::print(rt, "C-14, Box", t)
 }
 
 // Twin with the spacings 11 and 10.
-fn hold_twin() {
+fn hold_twin(rt: &HostRuntime) -> io::Result<()> {
     let mut t = twin_held(cases::hold(), 11, 3, 10);
     t = twin_held(t, 11, 4, 6);
     t = twin_doubt(t, 10);
-    t = twin_quote(t, 11, 0, 3000);
-    t = twin_quote(t, 10, 12, 0);
+    t = twin_quote(rt, t, 11, 0, 3000)?;
+    t = twin_quote(rt, t, 10, 12, 0)?;
     t = reports(
         t,
         &twin(10),
         b"hold\ntempo none\nlink 1 1>3 held order\nlink 2 2>3 held order\nlink 3 33>1 doubt of 10\nlink 4 33>2 held 6 of 10\n",
     );
-    cases::print(b"C-14, Twin", t);
+    cases::print(rt, "C-14, Twin", t)
 }
 
 // The line `hold` before a refusal, and before a tempo without links; the report of the longest file, and a buffer that
 // is a byte shorter.
-fn hold_pages() {
+fn hold_pages(rt: &HostRuntime) -> io::Result<()> {
     let mut t = reports(cases::hold(), b"", b"hold\nrefused 8 at 0\n");
     t = reports(
         t,
@@ -262,26 +264,26 @@ fn hold_pages() {
     t = reports(t, b"\x01\x00\x04\x00\x00\x00\x01", b"hold\ntempo 300.0\n");
     t = calls::longest(t, 11157, 0);
     t = calls::longest(t, 11156, 13);
-    cases::print(b"C-14, reports", t);
+    cases::print(rt, "C-14, reports", t)
 }
 
-fn main() {
-    tempos();
-    pages();
-    paper::paper_delays();
-    paper::paper_report();
-    paper::paper_added();
-    paper::paper_loads();
-    paper::published();
-    marked_box();
-    marked_twin();
-    marked_orders();
-    marked_others();
-    quotes();
-    swung_spacings();
-    swung_box();
-    alike();
-    hold_box();
-    hold_twin();
-    hold_pages();
+fn main(rt: HostRuntime) -> io::Result<()> {
+    tempos(&rt)?;
+    pages(&rt)?;
+    paper::paper_delays(&rt)?;
+    paper::paper_report(&rt)?;
+    paper::paper_added(&rt)?;
+    paper::paper_loads(&rt)?;
+    paper::published(&rt)?;
+    marked_box(&rt)?;
+    marked_twin(&rt)?;
+    marked_orders(&rt)?;
+    marked_others(&rt)?;
+    quotes(&rt)?;
+    swung_spacings(&rt)?;
+    swung_box(&rt)?;
+    alike(&rt)?;
+    hold_box(&rt)?;
+    hold_twin(&rt)?;
+    hold_pages(&rt)
 }

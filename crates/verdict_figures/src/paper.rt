@@ -3,6 +3,7 @@
 use cases::page::reports;
 use cases::verdict::{held, load, load_of};
 use cases::{Tally, counted};
+use std::io;
 
 // Document 000's Figure 1: runs 2, 1, 2, 1, 2; source 33 has the spacing 20; a reading of source 34 may be missed.
 fn paper(spacing: u8) -> [u8; 97] {
@@ -19,14 +20,14 @@ fn paper_delay(t: Tally, spacing: u8) -> Tally {
 
 // Document 000, section 4.2: the delay of (7, 1) is 19, whatever the spacing of its task 6 from 10 to 14.
 // Its tasks 7 and 6 are the sources 33 and 34 here.
-pub fn paper_delays() {
+pub fn paper_delays(rt: &HostRuntime) -> io::Result<()> {
     let mut t = cases::none();
     t = paper_delay(t, 10);
     t = paper_delay(t, 11);
     t = paper_delay(t, 12);
     t = paper_delay(t, 13);
     t = paper_delay(t, 14);
-    cases::print(b"document 000, delays", t);
+    cases::print(rt, "document 000, delays", t)
 }
 
 const PAPER_REPORT: [u8; 187] =
@@ -37,17 +38,17 @@ fn paper_page(t: Tally, spacing: u8) -> Tally {
 }
 
 // Figure 1 as a whole: every event that theorem 1 speaks of is held.
-pub fn paper_report() {
+pub fn paper_report(rt: &HostRuntime) -> io::Result<()> {
     let mut t = paper_page(cases::none(), 10);
     t = paper_page(t, 14);
-    cases::print(b"document 000, report", t);
+    cases::print(rt, "document 000, report", t)
 }
 
 // added(i, j) is what load(i, j) has above load(i, j + 1).
 fn added(t: Tally, file: &[u8], i: usize, j: usize, expected: u64) -> Tally {
     let here = load_of(file, i, j);
     let above = if j < 32 { load_of(file, i, j + 1) } else { 0 };
-    counted(t, here == std::num::wrapping_add_u64(above, expected))
+    counted(t, here == above.wrapping_add(expected))
 }
 
 fn adds(t: Tally, i: usize, j: usize, expected: u64) -> Tally {
@@ -55,7 +56,7 @@ fn adds(t: Tally, i: usize, j: usize, expected: u64) -> Tally {
 }
 
 // Document 000, section 4.3: every λ that it prints.
-pub fn paper_added() {
+pub fn paper_added(rt: &HostRuntime) -> io::Result<()> {
     let mut t = cases::none();
     t = adds(t, 4, 3, 2);
     t = adds(t, 2, 3, 2);
@@ -68,15 +69,15 @@ pub fn paper_added() {
     t = adds(t, 1, 5, 2);
     t = adds(t, 33, 1, 11);
     t = adds(t, 34, 2, 4);
-    cases::print(b"document 000, added loads", t);
+    cases::print(rt, "document 000, added loads", t)
 }
 
 // Document 000, section 4.2: δ(7, 1) and δ(6, 1).
-pub fn paper_loads() {
+pub fn paper_loads(rt: &HostRuntime) -> io::Result<()> {
     let mut t = cases::none();
     t = load(t, &paper(10), 33, 1, 11);
     t = load(t, &paper(10), 34, 1, 4);
-    cases::print(b"document 000, loads", t);
+    cases::print(rt, "document 000, loads", t)
 }
 
 // Burns and Wellings: runs 3, 3, 5 with spacings 7, 12 and, as published, 20, the highest priority first; each task has
@@ -94,7 +95,7 @@ const LEHOCZKY_SHA_DING: [u8; 60] =
 
 // Independent tasks: delays are the published response times, 3, 6, 20 (doubtful at 20, since not below it) and 40, 80,
 // 300.
-pub fn published() {
+pub fn published(rt: &HostRuntime) -> io::Result<()> {
     let mut t = cases::none();
     t = reports(
         t,
@@ -111,5 +112,5 @@ pub fn published() {
         &LEHOCZKY_SHA_DING,
         b"tempo 300.0\nlink 1 33>1 held 300 of 350\nlink 2 34>2 held 80 of 150\nlink 3 35>3 held 40 of 100\n",
     );
-    cases::print(b"published response times", t);
+    cases::print(rt, "published response times", t)
 }

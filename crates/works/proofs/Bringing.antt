@@ -45,12 +45,15 @@ module _ (succ : List ℕ) (runs : List ℕ) (n : ℕ) where
         reach_falls (graph succ runs n) (rank_of (graph succ runs n)) (ends_fall (graph succ runs n) (ends succ runs n) acyclic) (through_reaches v t)
 
     -- a node adds the work of a task that it brings in
-    pub added_in : (j : ℕ) {i : ℕ} → Through (link_by succ n) j i j → added (graph succ runs n) i j ≡ work (graph succ runs n) j
+    added_at : (j : ℕ) {i m : ℕ} → Through (link_by succ n) j i m → m ≡ j → added (graph succ runs n) i j ≡ work (graph succ runs n) j
     unfolding graph
-    added_in j {i} (one e) = (graph_loaded succ runs n acyclic).direct i j e
-    added_in j {i} (more {k = k} e p t) =
+    added_at j {i} (one e) q = (graph_loaded succ runs n acyclic).direct i j (rw q at e)
+    added_at j {i} (more {k = k} e p t) q =
         let L = graph_loaded succ runs n acyclic in
-        omega (arith, added_in j t, along (graph succ runs n) L i k j e p (link_inside succ n i k e).1.1, added_le (graph succ runs n) L i j)
+        omega (arith, added_at j t q, along (graph succ runs n) L i k j e p (link_inside succ n i k e).1.1, added_le (graph succ runs n) L i j)
+
+    pub added_in : (j : ℕ) {i : ℕ} → Through (link_by succ n) j i j → added (graph succ runs n) i j ≡ work (graph succ runs n) j
+    added_in j t = added_at j t refl
 
     -- and nothing of any other
     added_out_by : (r i j : ℕ) → rank_of (graph succ runs n) i < r → (Through (link_by succ n) j i j → ⊥) → added (graph succ runs n) i j ≡ 0

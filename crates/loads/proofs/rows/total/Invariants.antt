@@ -1,0 +1,11 @@
+-- A running sum from the highest task down.
+use Prim.Native.Nat.{suc, ◌≤◌}
+use mathlib.Core.Path.{◌≡◌}
+use Rattle.works.specs.Works.{load_by}
+use Rattle.loads.proofs.rows.total.Given as goal
+
+abbrev pub invariant-loop-j : goal.invariant-loop-j
+invariant-loop-j l = (l.j ≤ l.n) × (l.sum ≡ load_by l.row l.works l.n (suc l.j))
+
+abbrev pub decreases-loop-j : goal.decreases-loop-j
+decreases-loop-j l = l.j

@@ -1,3 +1,3 @@
--- The table's laws, and how a `match` is a table.
-pub mod Arms
+-- The table's laws.
+pub mod Table
 pub mod Tests

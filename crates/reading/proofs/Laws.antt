@@ -2,7 +2,7 @@
 use Prim.Native.Nat.{ℕ, zero, suc, ◌+◌, ◌<◌}
 use mathlib.Core.Path.{◌≡◌, refl, sym, ap, subst, ◌∙◌}
 use mathlib.Core.List.{List, [], ◌∷◌}
-use mathlib.Core.Logic.{◌⊎◌, ⊎_elim}
+use mathlib.Core.Logic.{inl, inr, ⊎_elim}
 use native.Mathlib.Omega.{arith}
 use types.Run.{OneOf}
 use denote.Enum.Declared.{tag_of as tag}
@@ -34,6 +34,12 @@ no2 e = omega arith
 
 no_read : (f : Field) → OneOf (1 ∷ 2 ∷ []) (tag F.the_type (Read f)) → ⊥
 no_read f k = ⊎_elim (λ e. no1 e) (λ e. no2 e) k
+
+-- what is found is no field
+pub no_field : (x : Found) → ((f : Field) → x ≡ Read f → ⊥) → OneOf (1 ∷ 2 ∷ []) (tag F.the_type x)
+no_field (Read f) h = absurd (h f refl)
+no_field (Unread r place) h = inl refl
+no_field Nothing h = inr refl
 
 -- a step that gives no field stays as it is under a check
 pub other_step : (p : Progress) (t : Taken) (at : ℕ) (x : Step) → x ≡ step_of t at → OneOf (1 ∷ 2 ∷ []) (tag F.the_type x.found) → x ≡ step_of (checked_taken p t) at

@@ -19,7 +19,7 @@ use Rattle.model.specs.Graph.{run_of}
 use Rattle.model.specs.Refusals.{of_outcome}
 use Rattle.model.specs.File.{judge}
 use Rattle.model.specs.Verdicts.{on_knob}
-use Rattle.model.specs.Machine.{idle, arrive, age_all, stepped, plain_tick, lawful}
+use Rattle.model.specs.Machine.{idle, age_all, stepped, plain_tick}
 use Rattle.model.specs.History.{Call, left}
 use Rattle.model.specs.Run.{marks_in, call_in, calls_in, page}
 use Rattle.theory.proofs.WellFormed.{WellFormed}

@@ -1,4 +1,3 @@
--- `advance` meets its contract: refused, or a tick. Assumes nothing.
 use Prim.Native.Nat.{max}
 use mathlib.Core.Path.{◌≡◌, sym, ap, subst, ◌∙◌}
 use native.Mathlib.Omega.{arith}
@@ -9,59 +8,46 @@ use Rattle.model.specs.Run.{marks_in}
 use Rattle.words.specs.Words.{Goes}
 use Rattle.machine.specs.Calls.{Tracks}
 use Rattle.machine.proofs.CallLaws.{tick_done, tracked, workable, same_length, arrive_still, lawful_rules}
-use borrow.Author.Rules.{rules}
-use Rattle.machine.proofs.call.advance.Statement.{statement}
-use Rattle.machine.proofs.call.advance.Tie as tie
+use Rattle.machine.proofs.call.advance.Goals as goal
 
-hear-requires : tie.Need-hear-requires
-hear-requires c κs =
-    let A = c.before.before.args in
-    record { policy = A.p; used = A.used.now; going = c.before.before.requires }
-
-enum_told : tie.Need-enum-told
-enum_told c = search rules
-
-enum-told-2 : tie.Need-enum-told-2
-enum-told-2 c = search rules
-
-returns : tie.Need-returns
-returns c =
-    let A = c.before.before.before.before.before.args in
-    let h = c.before.before.hear in
-    let told = c.enum-told2.given in
-    let since = h.new.1.1.1.1.0 in
-    let fastest = h.new.1.1.1.1.1.0 in
+pub returns-in_default : goal.returns-in_default
+returns-in_default c =
+    let A = c.args in
+    let h = c.hear-heard in
+    let told = c.in_default in
+    let since = h.new.since in
+    let fastest = h.new.fastest in
     record {
-      ends = λ d m T j l R. ap (λ (x : Ticked). x.outcome) (h.ensures.refuses told.0.0 told.0.1.0 told.1 A.p d A.used.now m T j l R).0;
+      ends = λ d m T j l R. ap (λ (x : Ticked). x.outcome) (h.ensures.refuses told.field-0 told.field-1 told.is A.p d A.used.now m T j l R).0;
       leaves = λ d m T j l R.
-          let e = h.ensures.refuses told.0.0 told.0.1.0 told.1 A.p d A.used.now m T j l R in
+          let e = h.ensures.refuses told.field-0 told.field-1 told.is A.p d A.used.now m T j l R in
           subst (λ (k : Machine). Tracks A.p d h.result.words A.used.now since fastest k) (ap (λ (x : Ticked). x.machine) e.0) e.1;
       soon = omega (arith, h.ensures.then);
     }
 
-run-on-requires : tie.Need-run-on-requires
-run-on-requires c κs =
-    let A = c.before.before.before.before.before.before.args in
-    let p = c.before.before.before.before.before.before.requires in
-    let h = c.before.before.before.hear in
+pub run_on-requires : goal.run_on-requires
+run_on-requires c =
+    let A = c.args in
+    let p = c.requires in
+    let h = c.hear-heard in
     let d = p.description in
     let g = p.tables.formed in
-    let H = h.ensures.hears c.before.enum_told.given.1 A.p d A.used.now p.machine p.tables p.judged p.keeps p.tracks in
+    let H = h.ensures.hears c.in-Done.is A.p d A.used.now p.machine p.tables p.judged p.keeps p.tracks in
     (workable A.p d A.w h.result.words A.used.now A.since.now _ p.machine (arrive d (marks_in A.call.mask) p.machine) g (lawful_rules A.p d p.machine p.keeps) p.tracks.goes h.ensures.runs (arrive_still d (marks_in A.call.mask) A.w A.used.now A.since.now p.machine g p.tracks.holds) p.tracks.holds H.arrived, omega (arith, p.early, h.ensures.then))
 
-returns-2 : tie.Need-returns-2
-returns-2 c =
-    let A = c.before.before.before.before.before.before.before.args in
+pub returns : goal.returns
+returns c =
+    let A = c.args in
     let t = A.call.tempo in
     let mask = A.call.mask in
     let finish = A.call.finish in
-    let h = c.before.before.before.before.hear in
+    let h = c.hear-heard in
     let w = h.result.words in
     let v = c.run_on in
-    let o = c.before.before.enum_told.given.1 in
-    let since = h.new.1.1.1.1.0 in
-    let fastest = h.new.1.1.1.1.1.0 in
-    let used = v.new.1.1.1.1.1.0 in
+    let o = c.in-Done.is in
+    let since = h.new.since in
+    let fastest = h.new.fastest in
+    let used = v.new.used in
     record {
       ends = λ d m T j l R.
           let H = h.ensures.hears o A.p d A.used.now m T j l R in
@@ -74,8 +60,3 @@ returns-2 c =
           (tracked A.p d t mask finish A.w w v.result.words A.used.now used A.since.now since A.fastest.now fastest m T.formed H.high.1 R H.keeps v.ensures.knob.0 peak (v.ensures.goes (same_length R.holds) goes) (v.ensures.ran d since (arrive d (marks_in mask) m) T.formed T.rowed T.same_runs goes H.arrived));
       soon = omega (arith, v.ensures.then, h.ensures.then);
     }
-
-pub advance-spec : {M : Type 1} → statement M
-advance-spec =
-    tie.close
-    (tie.spec hear-requires enum_told enum-told-2 returns run-on-requires returns-2)

@@ -303,12 +303,16 @@ fn kept_rules(rt: &HostRuntime) -> io::Result<()> {
 fn main(rt: HostRuntime) -> io::Result<()> {
     knobs(&rt)?;
     turned_knob(&rt)?;
-    cases::print(&rt, "C-13, Box with the knob moving",
+    cases::print(
+        &rt,
+        "C-13, Box with the knob moving",
         moving_knob(Policy::Preemptive, 1783),
     )?;
     kept_tempos(&rt)?;
     kept_rules(&rt)?;
-    cases::print(&rt, "C-14, Box with the knob moving",
+    cases::print(
+        &rt,
+        "C-14, Box with the knob moving",
         moving_knob(Policy::HoldOn, 1248),
     )
 }

@@ -54,11 +54,41 @@ fn main(rt: HostRuntime) -> io::Result<()> {
     let plain = Policy::Preemptive;
     let hold = Policy::HoldOn;
     compare_file(&rt, "reports.bin", Cases::Reports(plain), "reports agree")?;
-    compare_file(&rt, "swing.bin", Cases::Reports(plain), "reports with swing agree")?;
+    compare_file(
+        &rt,
+        "swing.bin",
+        Cases::Reports(plain),
+        "reports with swing agree",
+    )?;
     compare_file(&rt, "latched-runs.bin", Cases::Runs(plain), "runs agree")?;
-    compare_file(&rt, "knob-runs.bin", Cases::Runs(plain), "runs from before C-15 agree")?;
-    compare_file(&rt, "steady-runs.bin", Cases::Runs(plain), "runs at one tempo agree")?;
-    compare_file(&rt, "hold-reports.bin", Cases::Reports(hold), "reports of the hold-on model agree")?;
-    compare_file(&rt, "latched-hold-runs.bin", Cases::Runs(hold), "runs of the hold-on model agree")?;
-    compare_file(&rt, "hold-runs.bin", Cases::Runs(hold), "runs of the hold-on model from before C-15 agree")
+    compare_file(
+        &rt,
+        "knob-runs.bin",
+        Cases::Runs(plain),
+        "runs from before C-15 agree",
+    )?;
+    compare_file(
+        &rt,
+        "steady-runs.bin",
+        Cases::Runs(plain),
+        "runs at one tempo agree",
+    )?;
+    compare_file(
+        &rt,
+        "hold-reports.bin",
+        Cases::Reports(hold),
+        "reports of the hold-on model agree",
+    )?;
+    compare_file(
+        &rt,
+        "latched-hold-runs.bin",
+        Cases::Runs(hold),
+        "runs of the hold-on model agree",
+    )?;
+    compare_file(
+        &rt,
+        "hold-runs.bin",
+        Cases::Runs(hold),
+        "runs of the hold-on model from before C-15 agree",
+    )
 }

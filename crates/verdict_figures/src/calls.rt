@@ -6,7 +6,6 @@ use cases::verdict::verdict_of;
 use cases::{Tally, build, counted, is_outcome};
 use model::{Description, Filled, Policy, Quote, Verdict};
 use refusals::number_of;
-use std::io;
 
 // The number of the refusal of a report into a part of a page, or 0.
 fn refusal(p: Policy, file: &[u8], page: &mut [u8], size: usize) -> usize {
@@ -74,7 +73,7 @@ pub fn doubtful(t: Tally, file: &[u8], tempo: u32, place: usize, spacing: u32) -
 }
 
 // The quote of a record is a tempo, number 0, or refused with a number and a place.
-pub fn quotes(rt: &HostRuntime, t: Tally, d: Description, number: usize, value: u32) -> io::Result<()> {
+pub fn quotes(t: Tally, d: Description, number: usize, value: u32) -> Tally {
     let p = t.policy;
     let quote = quotes::quote(p, d);
     match quote {
@@ -84,11 +83,9 @@ pub fn quotes(rt: &HostRuntime, t: Tally, d: Description, number: usize, value: 
             counted(t, (n == number) & (place == value as usize))
         }
     }
-    Ok(())
 }
 
 // The quote of a file's record.
-pub fn quotes_file(rt: &HostRuntime, t: Tally, file: &[u8], number: usize, value: u32) -> io::Result<()> {
-    quotes(rt, t, described(file), number, value)?
-    Ok(())
+pub fn quotes_file(t: Tally, file: &[u8], number: usize, value: u32) -> Tally {
+    quotes(t, described(file), number, value)
 }

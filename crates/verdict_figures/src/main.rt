@@ -59,12 +59,12 @@ fn stopped() -> Description {
 
 // The quote of a record: a tempo, 12, or what the record is refused for.
 fn quotes(rt: &HostRuntime) -> io::Result<()> {
-    let mut t = calls::quotes_file(rt, cases::none(), &BOX, 0, 1783)?;
-    t = calls::quotes_file(rt, t, b"\x01\x00\x04\x00\x00\x00\x01", 0, 3000)?;
-    t = twin_quote(rt, t, 9, 0, 3000)?;
-    t = twin_quote(rt, t, 8, 12, 0)?;
-    t = calls::quotes_file(rt, t, b"", 8, 0)?;
-    t = calls::quotes(rt, t, stopped(), 6, 7)?;
+    let mut t = calls::quotes_file(cases::none(), &BOX, 0, 1783);
+    t = calls::quotes_file(t, b"\x01\x00\x04\x00\x00\x00\x01", 0, 3000);
+    t = twin_quote(t, 9, 0, 3000);
+    t = twin_quote(t, 8, 12, 0);
+    t = calls::quotes_file(t, b"", 8, 0);
+    t = calls::quotes(t, stopped(), 6, 7);
     cases::print(rt, "quotes", t)
 }
 
@@ -90,9 +90,8 @@ fn twin_doubt(t: Tally, spacing: u8) -> Tally {
     calls::doubtful(t, &twin(spacing), 200, 3, spacing as u32)
 }
 
-fn twin_quote(rt: &HostRuntime, t: Tally, spacing: u8, number: usize, value: u32) -> io::Result<()> {
-    calls::quotes_file(rt, t, &twin(spacing), number, value)?
-    Ok(())
+fn twin_quote(t: Tally, spacing: u8, number: usize, value: u32) -> Tally {
+    calls::quotes_file(t, &twin(spacing), number, value)
 }
 
 // P4: Twin with the spacings 9 and 8.
@@ -192,7 +191,7 @@ fn swung_box(rt: &HostRuntime) -> io::Result<()> {
     t = calls::writes_back(t, &SWUNG_BOX);
     t = file::takes_field(t, &SWUNG_BOX, 21, 27);
     t = calls::doubtful(t, &SWUNG_BOX, 1213, 3, 700);
-    t = calls::quotes(rt, t, swung_record(), 0, 1212)?;
+    t = calls::quotes(t, swung_record(), 0, 1212);
     t = machine::starts(t, swung_record(), 0, 4250);
     t = file::judges(t, straight(), 6, 21);
     cases::print(rt, "C-11, Box", t)
@@ -223,7 +222,7 @@ fn alike(rt: &HostRuntime) -> io::Result<()> {
 // C-14: Box on the hold-on model, where 33>2 waits for task 1 or for task 2 with what that wakes, then for source 34's
 // load, and runs for 300 itself. Its report into a buffer that it just fills, and one that is a byte shorter.
 fn hold_box(rt: &HostRuntime) -> io::Result<()> {
-    let mut t = calls::quotes_file(rt, cases::hold(), &BOX, 0, 1248)?;
+    let mut t = calls::quotes_file(cases::hold(), &BOX, 0, 1248);
     t = held(t, &BOX, 1248, 3, 1000, 1001);
     t = calls::doubtful(t, &BOX, 1249, 3, 1000);
     t = held(t, &BOX, 1248, 4, 600, 2000);
@@ -242,8 +241,8 @@ fn hold_twin(rt: &HostRuntime) -> io::Result<()> {
     let mut t = twin_held(cases::hold(), 11, 3, 10);
     t = twin_held(t, 11, 4, 6);
     t = twin_doubt(t, 10);
-    t = twin_quote(rt, t, 11, 0, 3000)?;
-    t = twin_quote(rt, t, 10, 12, 0)?;
+    t = twin_quote(t, 11, 0, 3000);
+    t = twin_quote(t, 10, 12, 0);
     t = reports(
         t,
         &twin(10),

@@ -1,3 +1,4 @@
+-- Refused, or the calls of an accepted description.
 use mathlib.Core.Path.{sym, ◌∙◌}
 use Rattle.model.specs.Run.{calls_in}
 use Rattle.runs.specs.Run.{RunOf}

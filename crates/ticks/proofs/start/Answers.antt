@@ -1,3 +1,4 @@
+-- Refused, or the idle record.
 use mathlib.Core.Path.{sym, ◌∙◌}
 use native.Mathlib.Omega.{arith}
 use Rattle.records.proofs.RecordLaws.{idle_aged}

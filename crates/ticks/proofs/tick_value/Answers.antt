@@ -1,3 +1,4 @@
+-- Refused, or the tick of an accepted description.
 use mathlib.Core.Path.{sym, ◌∙◌}
 use native.Mathlib.Omega.{arith}
 use Rattle.theory.proofs.Typed.{typed_widths}

@@ -1,3 +1,4 @@
+-- `bench_clock` meets its contract. Assumes nothing.
 use mathlib.Core.Path.{◌≡◌, sym, ap, ◌∙◌}
 use mathlib.Core.Bool.{Bool, true, cond}
 use mir.Syntax.{w64}
@@ -12,6 +13,7 @@ use Rattle.library.proofs.bench_clock.Goals as goal
 
 pub returns-then-on_knob : goal.returns-then-on_knob
 returns-then-on_knob c =
+    -- the tempo is on the knob
     let on : on_knob c.args.tempo ≡ true = sym c.on_knob.ensures ∙ c.if-on_knob.true in
     let t = c.args.tempo in
     let spacing : c.clock_spacing-spacing.result ≡ clock_spacing t = c.clock_spacing-spacing.ensures in

@@ -1,3 +1,5 @@
+-- `quote_file` meets its contract. Assumes nothing.
+use borrow.Author.Rules.{rules}
 use Rattle.library.proofs.Laws.{quoted_place, reply_done}
 use mathlib.Core.Path.{sym, ap, ◌∙◌}
 use mir.Syntax.{w64}
@@ -8,7 +10,7 @@ use Rattle.library.specs.Replies.{reply}
 use Rattle.library.proofs.quote_file.Goals as goal
 
 pub refusal_code-requires : goal.refusal_code-requires
-refusal_code-requires c = let w = c.quote-in-Unquoted-1.given in quoted_place c.args.p c.args.file.now c.quote_file-quote.result w.0.0 w.0.1.0 (λ i. (c.shared_slice_known-1.given i).fits) c.quote_file-quote.ensures w.1
+refusal_code-requires c = quoted_place c.args.p c.args.file.now c.quote_file-quote.result c.in-Unquoted.why c.in-Unquoted.place (λ i. search rules) c.quote_file-quote.ensures c.in-Unquoted.is
 
 pub returns-in-Tempo : goal.returns-in-Tempo
-returns-in-Tempo c = to_z-of_z w64 c.positive.result (record { sfits = c.positive.type_inv }) ∙ c.positive.ensures ∙ reply_done c.quote-1.given.0.0 ∙ ap (λ (q : Quote). reply (of_quote q)) (sym c.quote-1.given.1 ∙ c.quote_file-quote.ensures)
+returns-in-Tempo c = to_z-of_z w64 c.positive.result (record { sfits = c.positive.type_inv }) ∙ c.positive.ensures ∙ reply_done c.in-Tempo.t ∙ ap (λ (q : Quote). reply (of_quote q)) (sym c.in-Tempo.is ∙ c.quote_file-quote.ensures)

@@ -1,3 +1,4 @@
+-- `refusal_code` meets its contract: the number is at most 16 and the place at most 2,128. Assumes nothing.
 use Rattle.library.proofs.Laws.{reply_refused}
 use mathlib.Core.Path.{ap, ◌∙◌}
 use Prim.Native.Nat.{ℕ, ◌+◌, ◌*◌}

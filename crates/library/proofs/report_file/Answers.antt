@@ -1,3 +1,5 @@
+-- `report_file` meets its contract. Assumes nothing.
+use borrow.Author.Rules.{rules}
 use Rattle.library.proofs.Laws.{filled_most, filled_place, reply_done}
 use mathlib.Core.Path.{sym, ap, ◌∙◌}
 use mir.Syntax.{w64}
@@ -10,10 +12,10 @@ use Rattle.library.specs.Replies.{reply}
 use Rattle.library.proofs.report_file.Goals as goal
 
 pub overflow_cast-n : goal.overflow_cast-n
-overflow_cast-n c = let w = c.filled-1.given in omega (arith, filled_most c.args.p c.args.file.now c.args.out.now c.report-filled.result w.0.0 (report_length c.args.p c.args.file.now (λ i. (c.shared_slice_known-1.given i).fits)) c.report-filled.ensures.0 w.1)
+overflow_cast-n c = omega (arith, filled_most c.args.p c.args.file.now c.args.out.now c.report-filled.result c.in-Bytes.n (report_length c.args.p c.args.file.now (λ i. search rules)) c.report-filled.ensures.0 c.in-Bytes.is)
 
 pub refusal_code-requires : goal.refusal_code-requires
-refusal_code-requires c = let w = c.filled-in-Unfilled-1.given in filled_place c.args.p c.args.file.now c.args.out.now c.report-filled.result w.0.0 w.0.1.0 c.report-filled.ensures.0 w.1
+refusal_code-requires c = filled_place c.args.p c.args.file.now c.args.out.now c.report-filled.result c.in-Unfilled.why c.in-Unfilled.place c.report-filled.ensures.0 c.in-Unfilled.is
 
 pub returns-in-Bytes : goal.returns-in-Bytes
-returns-in-Bytes c = (to_z-of_z w64 c.positive.result (record { sfits = c.positive.type_inv }) ∙ c.positive.ensures ∙ reply_done c.filled-1.given.0.0 ∙ ap (λ (f : Filled). reply (of_filled f)) (sym c.filled-1.given.1 ∙ c.report-filled.ensures.0), c.report-filled.ensures.1)
+returns-in-Bytes c = (to_z-of_z w64 c.positive.result (record { sfits = c.positive.type_inv }) ∙ c.positive.ensures ∙ reply_done c.in-Bytes.n ∙ ap (λ (f : Filled). reply (of_filled f)) (sym c.in-Bytes.is ∙ c.report-filled.ensures.0), c.report-filled.ensures.1)

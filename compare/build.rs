@@ -21,13 +21,13 @@ fn main() {
     }
 }
 
-/// Where `rt staticlib library` writes, from the root of the repository.
+/// Where `rt lib` in `crates/library` writes.
 fn archive_folder() -> PathBuf {
     match env::var_os(OVERRIDE) {
         Some(folder) => PathBuf::from(folder),
         None => {
             let here = PathBuf::from(env::var_os("CARGO_MANIFEST_DIR").expect("set by cargo"));
-            here.join("../target/staticlib")
+            here.join("../crates/library/out")
         }
     }
 }

@@ -7,7 +7,7 @@
  * On both a task reads its inputs when its run begins: an event is taken by the run of its task that begins next, be it in the
  * event's own tick, and never by one in progress. It is served in the tick in which that run ends, and waits until then.
  *
- * `rt staticlib library` writes target/staticlib/liblibrary.a (x86-64), which needs memcpy and memset and nothing else.
+ * `rt lib` in crates/library writes out/liblibrary.a there (x86-64), which needs memcpy and memset and nothing else.
  *
  * Answers: 0 or more is work done; below 0 is a refusal, -(10000 * number + place), in every call alike. The number is one of
  * enum bench_refusal; the place is the offset of the refused field for 1 to 7, and 0 from 8 on.

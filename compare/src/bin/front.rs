@@ -15,8 +15,8 @@ use std::process::{Child, Command, ExitCode, ExitStatus, Stdio};
 use std::thread::{self, JoinHandle};
 use std::time::{Duration, Instant};
 
-/// Where `rt check` puts the programs, from this project's folder.
-const PROGRAMS: [&str; 3] = ["../target/bin/bench", "../target/bin/hold", "../target/bin/clock"];
+/// Where `rt run` in a program's folder puts it, from this project's folder.
+const PROGRAMS: [&str; 3] = ["../crates/bench/out/bench", "../crates/hold/out/hold", "../crates/clock/out/clock"];
 const BOX: &str = "../samples/box.bin";
 /// The program looks at so many bytes of its input.
 const INPUT: usize = 4_096;
@@ -35,7 +35,7 @@ fn main() -> ExitCode {
         paths = PROGRAMS.map(at_home).into();
     }
     if let Some(path) = paths.iter().find(|path| !path.exists()) {
-        eprintln!("{} is missing: `rt check`, in the root of the repository, makes it", path.display());
+        eprintln!("{} is missing: `rt run` in its crate's folder makes it", path.display());
         return ExitCode::FAILURE;
     }
     let mut tally = Tally::default();

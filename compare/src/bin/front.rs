@@ -25,9 +25,8 @@ const CUT: usize = 51;
 /// A program that has not ended by then is stopped, which is a difference.
 const PATIENCE: Duration = Duration::from_secs(20);
 const LATE: Duration = Duration::from_millis(300);
-/// Linux's flag for an open that never waits, and its signal for a pipe that nobody reads.
+/// Linux's flag for an open that never waits.
 const NONBLOCKING: i32 = 0o4000;
-const SIGPIPE: i32 = 13;
 
 fn main() -> ExitCode {
     let mut paths: Vec<PathBuf> = std::env::args_os().skip(1).map(PathBuf::from).collect();
@@ -144,7 +143,7 @@ fn outputs(program: &Program, tally: &mut Tally) -> io::Result<()> {
     let (reader, writer) = full_pipe()?;
     tally.one("non-blocking: a full pipe", program.writes(writer)?, program.unwritten());
     drop(reader);
-    tally.one("a pipe that nobody reads", program.writes(unread_pipe()?)?, Expected::Killed(SIGPIPE));
+    tally.one("a pipe that nobody reads", program.writes(unread_pipe()?)?, program.unwritten());
     let mut ignoring = program.in_shell("trap '' PIPE; exec \"$0\" </dev/null");
     ignoring.stdout(unread_pipe()?);
     tally.one("a pipe that nobody reads, the signal ignored", run(ignoring)?, program.unwritten());
@@ -204,8 +203,6 @@ enum Expected {
     Either(Vec<u8>, &'static str),
     /// Only the first bytes of this report, and the line.
     Cut(Vec<u8>, &'static str),
-    /// The end by this signal, and not a byte.
-    Killed(i32),
 }
 
 impl fmt::Display for Expected {
@@ -218,7 +215,6 @@ impl fmt::Display for Expected {
                 write!(f, "a line `{start}..` or the report\n{}", text(report))
             }
             Expected::Cut(report, start) => write!(f, "a line `{start}..` and a part of\n{}", text(report)),
-            Expected::Killed(signal) => write!(f, "signal {signal} and no report"),
         }
     }
 }
@@ -241,9 +237,6 @@ impl Ran {
             }
             Expected::Cut(report, start) => {
                 self.told(start) && self.out.len() < report.len() && report.starts_with(&self.out)
-            }
-            Expected::Killed(signal) => {
-                self.signal() == Some(*signal) && self.out.is_empty() && self.err.is_empty()
             }
         }
     }

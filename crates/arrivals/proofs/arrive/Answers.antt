@@ -16,6 +16,7 @@ use Rattle.arrivals.proofs.arrive.Goals as goal
 
 pub row-out-requires : goal.row-out-requires
 row-out-requires c =
+    -- the first source of the mask
     let own : c.first-one.result < 16 = omega (arith, least c.args.mask 0 c.args.mask c.first-one.result c.requires.1 (rest_all c.args.mask) c.first-one.ensures) in
     omega (arith, own)
 

@@ -1,3 +1,4 @@
+-- The links of its row are sent.
 use Prim.Native.Nat.{◌+◌, ◌*◌}
 use mathlib.Core.Path.{subst}
 use lib.ListN.{get_or}

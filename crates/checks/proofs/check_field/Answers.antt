@@ -1,3 +1,4 @@
+-- `checks::check_field` meets its contract. Assumes nothing.
 use mathlib.Core.Path.{sym, ◌∙◌}
 use Rattle.model.specs.Field.{check_field}
 use Rattle.checks.proofs.check_field.Goals as goal

@@ -1,3 +1,4 @@
+-- `clock_list::clock_line` meets its contract. Assumes nothing.
 use Prim.Native.Nat.{ℕ, ◌+◌, ◌≤◌}
 use mathlib.Core.Path.{◌≡◌, ap}
 use mathlib.Core.List.{◌++◌}
@@ -10,6 +11,7 @@ use Rattle.clock_list.proofs.clock_line.Goals as goal
 
 pub put_tempo-tempo-requires : goal.put_tempo-tempo-requires
 put_tempo-tempo-requires c =
+    -- the room that there is before each part
     let whole : c.args.at + length (tempo_text c.args.t ++ (spacing_text (clock_spacing c.args.t) ++ feed)) ≤ length c.args.page.now = rw (line_parts c.args.t) at c.requires.2 in
     room_first c.args.page.now c.args.at (tempo_text c.args.t) (spacing_text (clock_spacing c.args.t) ++ feed) whole
 

@@ -1,3 +1,4 @@
+-- `clock_list::put_list` meets its contract. The loop's invariant: the first k lines stand on the page. The measure is the number of lines left. Assumes nothing.
 use Prim.Native.Nat.{◌-◌, ◌≤◌}
 use Rattle.model.specs.Verdicts.{tempos}
 use Rattle.text.specs.Page.{Put}

@@ -1,3 +1,4 @@
+-- `put_marks` meets its contract: after k turns k bytes are put. Assumes nothing.
 use Prim.Native.Nat.{◌-◌, ◌≤◌}
 use mathlib.Core.Bool.{false}
 use lib.ListN.{length, get_or}

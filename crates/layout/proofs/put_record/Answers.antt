@@ -1,3 +1,4 @@
+-- `put_record` meets its contract: the parts are put one after the other. Assumes nothing.
 use mathlib.Core.Path.{◌≡◌}
 use lib.ListN.{length}
 use Rattle.layout.proofs.Laws.{record_put}
@@ -6,6 +7,7 @@ use Rattle.layout.proofs.put_record.Goals as goal
 
 pub returns : goal.returns
 returns c =
+    -- how long the parts are
     let awake-length : length c.args.m.awake ≡ 32 = search rules in
     let used-length : length c.args.m.used ≡ 32 = search rules in
     let waiting-length : length c.args.m.waiting ≡ 256 = search rules in

@@ -1,3 +1,4 @@
+-- `put_tempos` meets its contract: after k turns k bytes are put. Assumes nothing.
 use Prim.Native.Nat.{◌+◌, ◌*◌, ◌-◌, ◌/◌, ◌%◌, ◌≤◌}
 use lib.ListN.{length, get_or}
 use Rattle.layout.specs.Layout.{byte_in, Puts}

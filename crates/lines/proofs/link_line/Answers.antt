@@ -1,3 +1,4 @@
+-- `lines::link_line` meets its contract. Assumes nothing.
 use Prim.Native.Nat.{◌+◌, ◌≤◌}
 use mathlib.Core.List.{◌++◌}
 use lib.ListN.{length}
@@ -8,6 +9,7 @@ use Rattle.lines.proofs.link_line.Goals as goal
 
 pub put_numbered-place-requires : goal.put_numbered-place-requires
 put_numbered-place-requires c =
+    -- the room that there is before each part
     let whole : c.args.at + length (place_text c.args.l ++ (from_text c.args.e ++ (to_text c.args.e ++ (verdict_text c.args.v ++ feed)))) ≤ length c.args.page.now = rw (link_parts c.args.l c.args.e c.args.v) at c.requires.1 in
     room_first c.args.page.now c.args.at (place_text c.args.l) (from_text c.args.e ++ (to_text c.args.e ++ (verdict_text c.args.v ++ feed))) whole
 

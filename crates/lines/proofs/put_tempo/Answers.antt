@@ -1,3 +1,4 @@
+-- `lines::put_tempo` meets its contract. Assumes nothing.
 use Prim.Native.Nat.{◌+◌, ◌/◌, ◌≤◌}
 use mathlib.Core.List.{◌++◌}
 use lib.ListN.{length}

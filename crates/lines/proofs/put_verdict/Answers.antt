@@ -1,3 +1,4 @@
+-- `lines::put_verdict` meets its contract. Assumes nothing.
 use Prim.Native.Nat.{◌+◌, ◌≤◌}
 use mathlib.Core.List.{◌++◌}
 use lib.ListN.{length}
@@ -20,6 +21,7 @@ put_word-requires-in-DoubtOrder c = rw c.in-DoubtOrder.is at c.requires
 
 pub put_numbered-held-requires : goal.put_numbered-held-requires
 put_numbered-held-requires c =
+    -- the room that a held link's verdict has
     let whole : c.args.at + length (delay_text c.in-Held.delay ++ spacing_text c.in-Held.spacing) ≤ length c.args.page.now = rw (c.in-Held.is, held_parts c.in-Held.delay c.in-Held.spacing) at c.requires in
     room_first c.args.page.now c.args.at (delay_text c.in-Held.delay) (spacing_text c.in-Held.spacing) whole
 

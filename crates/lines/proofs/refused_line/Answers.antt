@@ -1,3 +1,4 @@
+-- `lines::refused_line` meets its contract. Assumes nothing.
 use Prim.Native.Nat.{◌+◌, ◌≤◌}
 use mathlib.Core.List.{◌++◌}
 use lib.ListN.{length}
@@ -7,6 +8,7 @@ use Rattle.lines.proofs.refused_line.Goals as goal
 
 pub put_numbered-given-requires : goal.put_numbered-given-requires
 put_numbered-given-requires c =
+    -- the room that there is before each part
     let whole : c.args.at + length (number_text c.number_of-number.result ++ (at_text c.args.place ++ feed)) ≤ length c.args.page.now = rw (refused_parts c.args.why c.number_of-number.result c.args.place c.number_of-number.ensures) at c.requires in
     room_first c.args.page.now c.args.at (number_text c.number_of-number.result) (at_text c.args.place ++ feed) whole
 

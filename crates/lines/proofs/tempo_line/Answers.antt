@@ -1,3 +1,4 @@
+-- `lines::tempo_line` meets its contract. Assumes nothing.
 use Prim.Native.Nat.{◌+◌, ◌≤◌}
 use mathlib.Core.List.{◌++◌}
 use lib.ListN.{length}
@@ -8,6 +9,7 @@ use Rattle.lines.proofs.tempo_line.Goals as goal
 
 pub put_numbered-whole-requires : goal.put_numbered-whole-requires
 put_numbered-whole-requires c =
+    -- the room that there is before each part
     let whole : c.args.at + length (whole_text c.in-Tempo.t ++ (tenth_text c.in-Tempo.t ++ feed)) ≤ length c.args.page.now = rw (c.in-Tempo.is, tempo_parts c.in-Tempo.t) at c.requires in
     room_first c.args.page.now c.args.at (whole_text c.in-Tempo.t) (tenth_text c.in-Tempo.t ++ feed) whole
 

@@ -2,6 +2,7 @@ use Prim.Native.Nat.{◌-◌}
 use Rattle.passing.specs.Passing.{RunsAlong}
 use Rattle.passing.proofs.along.Given as goal
 
+-- the calls up to the i-th are passed
 abbrev pub invariant-loop-k : goal.invariant-loop-k
 invariant-loop-k l = RunsAlong l.calls l.from l.to l.peak l.initial.outcomes l.k l.outcomes
 

@@ -1,3 +1,4 @@
+-- `quotes::quote` meets its contract: judged, then quoted from the tables. Assumes nothing.
 use mathlib.Core.Path.{sym, ◌∙◌}
 use Rattle.quotes.proofs.Laws.{quote_refused, quote_judged}
 use Rattle.quotes.proofs.quote.Goals as goal

@@ -1,4 +1,4 @@
--- The best tempo for the levels below j.
+-- `quotes::quote_by` meets its contract: the best tempo for the levels below j. Assumes nothing.
 use Prim.Native.Nat.{◌≤◌, ◌-◌}
 use Rattle.model.specs.declared.Description.{Description}
 use Rattle.model.specs.declared.Policy.{Policy}

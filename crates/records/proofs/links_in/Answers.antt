@@ -1,3 +1,4 @@
+-- Word by word.
 use Rattle.records.proofs.RecordLaws.{links_words}
 use Rattle.records.proofs.links_in.Goals as goal
 

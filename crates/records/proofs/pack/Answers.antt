@@ -1,3 +1,4 @@
+-- Part by part.
 use mathlib.Core.Path.{◌≡◌, refl, ap, ◌∙◌}
 use mathlib.Core.Bool.{◌||◌, ◌&&◌, not}
 use lib.ListN.{length}

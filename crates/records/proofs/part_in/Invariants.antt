@@ -6,6 +6,7 @@ use lib.Dec.{ltb}
 use Rattle.sets.specs.Sets.{member}
 use Rattle.records.proofs.part_in.Given as goal
 
+-- the word has the first k tasks that are part done
 abbrev pub invariant-loop-k : goal.invariant-loop-k
 invariant-loop-k l = (l.k ≤ 32) × (member l.set 0 ≡ false) × ((j : ℕ) → member l.set (suc j) ≡ (ltb j l.k && ltb 0 (get_or l.used j 0)))
 

@@ -1,3 +1,4 @@
+-- Nobody, or of the number of the last task that is part done all of its bits or none.
 use Rattle.records.proofs.RecordLaws.{going_none}
 use Rattle.records.proofs.running_in.Goals as goal
 

@@ -1,3 +1,4 @@
+-- Part by part.
 use Prim.Native.Nat.{◌+◌}
 use mathlib.Core.Path.{ap, ◌∙◌}
 use mathlib.Core.Bool.{◌||◌, ◌&&◌}

@@ -4,6 +4,7 @@ use mathlib.Core.Bool.{false}
 use lib.ListN.{get_or}
 use Rattle.rules.proofs.absent_lawful.Given as goal
 
+-- no mark is set from the link count up to place l
 abbrev pub invariant-loop-l : goal.invariant-loop-l
 invariant-loop-l l = (l.links ≤ l.l) × ((k : ℕ) → k < l.l → l.links ≤ k → get_or l.marks k false ≡ false)
 

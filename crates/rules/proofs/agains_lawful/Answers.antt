@@ -11,6 +11,7 @@ loop-k-init c = (omega arith, λ m a u. all_none _ 1)
 
 pub returns-then-not-again_lawful : goal.returns-then-not-again_lawful
 returns-then-not-again_lawful c =
+    -- the rule at the task that the turn looks at
     let kept : (m : Machine) → m.again ≡ c.args.again.now → m.used ≡ c.args.used.now → again_rule m (1 + c.loop-k.k) ≡ c.again_lawful.result = λ m a u. again_is m c.args.again.now c.args.used.now c.loop-k.k c.again_lawful.result a u c.again_lawful.ensures in
     λ m a u. all_fails (again_rule m) 1 32 c.loop-k.k c.loop-k-test.true (kept m a u ∙ c.if-not-again_lawful.true)
 

@@ -14,6 +14,7 @@ loop-l-init c = (omega arith, λ d m r a w. all_none _ 0)
 
 pub returns-then-not-link_lawful : goal.returns-then-not-link_lawful
 returns-then-not-link_lawful c =
+    -- the rule at the link that the turn looks at
     let kept : (d : Description) (m : Machine) → EntersOf d c.args.to.now c.args.links → m.awake ≡ c.args.awake.now → m.waiting ≡ c.args.waiting.now → link_rule d m (0 + c.loop-l.l) ≡ c.link_lawful.result = λ d m r a w. rw (zero-add c.loop-l.l) (link_is d m c.args.to.now c.args.awake.now c.args.waiting.now c.args.links c.loop-l.l c.link_lawful.result r a w c.loop-l-test.true c.link_lawful.ensures) in
     λ d m r a w. rw r.many (all_fails (link_rule d m) 0 c.args.links c.loop-l.l c.loop-l-test.true (kept d m r a w ∙ c.if-not-link_lawful.true))
 

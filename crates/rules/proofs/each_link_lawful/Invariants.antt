@@ -8,6 +8,7 @@ use Rattle.model.specs.Machine.{link_rule}
 use Rattle.rules.specs.Rules.{EntersOf}
 use Rattle.rules.proofs.each_link_lawful.Given as goal
 
+-- the first l links keep their rule
 abbrev pub invariant-loop-l : goal.invariant-loop-l
 invariant-loop-l l = (l.l ≤ l.links) × ((d : Description) (m : Machine) → EntersOf d l.to l.links → m.awake ≡ l.awake → m.waiting ≡ l.waiting → all_n (link_rule d m) 0 l.l ≡ true)
 

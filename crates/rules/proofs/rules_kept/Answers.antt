@@ -11,6 +11,7 @@ unfolding rules_kept
 returns-then-not-tasks_lawful c =
     λ d r g.
     let A = c.args in
+    -- what each test has told, of a description whose wiring it is
     let tasks : c.tasks_lawful.result ≡ all_n (task_rule d A.m) 1 32 = c.tasks_lawful.ensures d A.m r.same_runs r.as_many refl refl in
     broken _ tasks c.if-not-tasks_lawful.true
 

@@ -1,3 +1,4 @@
+-- A run of its wiring and its sources.
 use native.Mathlib.Omega.{arith}
 use Rattle.spacings.proofs.GapLaws.{gaps_of, scaled_of}
 use Rattle.runs.proofs.run_judged.Goals as goal

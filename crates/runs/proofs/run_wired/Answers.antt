@@ -69,6 +69,7 @@ loop-i-init c = (
 
 pub advance-done-requires : goal.advance-done-requires
 advance-done-requires c =
+    -- the tables of a description whose wiring and sources these are
     let tabled : (d : Description) → WiringOf d c.args.w → SourcesOf d c.args.s → TablesOf d c.args.w.rows c.plan_of-plan.result = λ d r s. tables_of d c.args.w c.args.s c.plan_of-plan.result r s c.plan_of-plan.ensures in
     let L = c.loop-i in
     let d = c.requires.description in
@@ -90,6 +91,7 @@ advance-done-requires c =
 pub skip-to-requires : goal.skip-to-requires
 skip-to-requires c =
     let tabled : (d : Description) → WiringOf d c.args.w → SourcesOf d c.args.s → TablesOf d c.args.w.rows c.plan_of-plan.result = λ d r s. tables_of d c.args.w c.args.s c.plan_of-plan.result r s c.plan_of-plan.ensures in
+    -- once a call is made, the words hold the record which the plain machine leaves, and its code is stored
     let turn : (d : Description) → WiringOf d c.args.w → TablesOf d c.args.w.rows c.plan_of-plan.result → GapsOf d 200 c.args.longest → judge d ≡ Done → Tracks c.args.p d c.advance-done.result.words c.advance-done.new.used c.advance-done.new.since c.advance-done.new.fastest (left c.args.p d (idle d) (take (c.loop-i.i + 1) (calls_in c.args.calls.now))) × (set c.loop-i.outcomes c.loop-i.i c.code.result ≡ take (c.loop-i.i + 1) (page c.args.p d (calls_in c.args.calls.now)) ++ drop (c.loop-i.i + 1) c.args.outcomes.now) = λ d r tables g j. let L = c.loop-i in
     let i = L.i in
     let bytes = c.args.calls.now in
@@ -112,6 +114,7 @@ skip-to-requires c =
     let R = (turn p.description p.wired (tabled p.description p.wired p.same_sources) p.spaced p.judged).0 in
     (omega (arith, c.loop-i-test.true), omega (arith, div-mul-le_self (length c.args.calls.now) 6), omega (arith, c.if-outcomes-n.false, L.invariant.1, length-set L.outcomes L.i c.code.result), R.keeps.least, R.keeps.high)
 
+-- no task is awake
 pub loop-i-preserved-then-awake-eq0 : goal.loop-i-preserved-then-awake-eq0
 loop-i-preserved-then-awake-eq0 c =
     let turn : (d : Description) → WiringOf d c.args.w → TablesOf d c.args.w.rows c.plan_of-plan.result → GapsOf d 200 c.args.longest → judge d ≡ Done → Tracks c.args.p d c.advance-done.result.words c.advance-done.new.used c.advance-done.new.since c.advance-done.new.fastest (left c.args.p d (idle d) (take (c.loop-i.i + 1) (calls_in c.args.calls.now))) × (set c.loop-i.outcomes c.loop-i.i c.code.result ≡ take (c.loop-i.i + 1) (page c.args.p d (calls_in c.args.calls.now)) ++ drop (c.loop-i.i + 1) c.args.outcomes.now) = λ d r tables g j. let L = c.loop-i in
@@ -151,6 +154,7 @@ loop-i-preserved-then-awake-eq0 c =
           (subst (λ (x : Words). Tracks c.args.p d x used since fastest (left c.args.p d (idle d) (take to cs))) (sym c.later-words.ensures) n.0, k.stored (page c.args.p d cs) c.args.outcomes.now (omega (arith, k.most, codes_length c.args.p d cs (idle d), calls_length bytes)) (omega (arith, k.most, c.if-outcomes-n.false)) n.1 made.1),
     )
 
+-- none is part done
 pub loop-i-preserved-then-next-eq0 : goal.loop-i-preserved-then-next-eq0
 loop-i-preserved-then-next-eq0 c =
     let turn : (d : Description) → WiringOf d c.args.w → TablesOf d c.args.w.rows c.plan_of-plan.result → GapsOf d 200 c.args.longest → judge d ≡ Done → Tracks c.args.p d c.advance-done.result.words c.advance-done.new.used c.advance-done.new.since c.advance-done.new.fastest (left c.args.p d (idle d) (take (c.loop-i.i + 1) (calls_in c.args.calls.now))) × (set c.loop-i.outcomes c.loop-i.i c.code.result ≡ take (c.loop-i.i + 1) (page c.args.p d (calls_in c.args.calls.now)) ++ drop (c.loop-i.i + 1) c.args.outcomes.now) = λ d r tables g j. let L = c.loop-i in
@@ -198,6 +202,7 @@ overflow_sub-spent c =
     let m = left c.args.p d (idle d) (take i cs) in
     let l = kept c.args.p d (take i cs) m r.formed refl in
     (subst (λ (x : Machine). Tracks c.args.p d v.result.words v.new.used v.new.since v.new.fastest x) (run_left c.args.p d cs (idle d) i call T q) (v.ensures.leaves d m tables j l I.0), store_turn c.args.outcomes.now L.outcomes (page c.args.p d cs) i c.code.result (omega (arith, c.if-outcomes-n.false, J)) (omega (arith, codes_length c.args.p d cs (idle d))) I.1 (c.code.ensures ∙ ap (λ (o : Outcome). (of_outcome o).number) (v.ensures.ends d m tables j l I.0) ∙ run_code c.args.p d cs (idle d) i call T q)) in
+    -- the task that runs next is awake, and has not used its run
     let runs : (d : Description) → WiringOf d c.args.w → TablesOf d c.args.w.rows c.plan_of-plan.result → GapsOf d 200 c.args.longest → judge d ≡ Done → (1 ≤ c.chosen-h.result) × (c.chosen-h.result ≤ 32) × (get_or c.advance-done.new.used (c.chosen-h.result - 1) 0 < run_of d c.chosen-h.result) × (get_or c.args.w.runs (c.chosen-h.result - 1) 0 ≡ run_of d c.chosen-h.result) × (c.chosen-h.result ≤ d.task_count) = λ d r s g j. let cs = calls_in c.args.calls.now in
     let w = c.advance-done.result.words in
     let h = c.chosen-h.result in
@@ -409,6 +414,7 @@ room-left-requires c =
     let own : (1 ≤ c.chosen-h.result) × (c.chosen-h.result ≤ 32) × (get_or c.advance-done.new.used (c.chosen-h.result - 1) 0 < run_of c.requires.description c.chosen-h.result) × (get_or c.args.w.runs (c.chosen-h.result - 1) 0 ≡ run_of c.requires.description c.chosen-h.result) × (c.chosen-h.result ≤ c.requires.description.task_count) = runs c.requires.description c.requires.wired (tabled c.requires.description c.requires.wired c.requires.same_sources) c.requires.spaced c.requires.judged in
     omega (arith, own)
 
+-- its run begins next, or is at its last tick
 pub loop-i-preserved-then-left-eq0 : goal.loop-i-preserved-then-left-eq0
 loop-i-preserved-then-left-eq0 c =
     let turn : (d : Description) → WiringOf d c.args.w → TablesOf d c.args.w.rows c.plan_of-plan.result → GapsOf d 200 c.args.longest → judge d ≡ Done → Tracks c.args.p d c.advance-done.result.words c.advance-done.new.used c.advance-done.new.since c.advance-done.new.fastest (left c.args.p d (idle d) (take (c.loop-i.i + 1) (calls_in c.args.calls.now))) × (set c.loop-i.outcomes c.loop-i.i c.code.result ≡ take (c.loop-i.i + 1) (page c.args.p d (calls_in c.args.calls.now)) ++ drop (c.loop-i.i + 1) c.args.outcomes.now) = λ d r tables g j. let L = c.loop-i in
@@ -494,6 +500,7 @@ overflow_sub-used-in-loop-i-2 c =
     let own : (1 ≤ c.chosen-h.result) × (c.chosen-h.result ≤ 32) × (get_or c.advance-done.new.used (c.chosen-h.result - 1) 0 < run_of c.requires.description c.chosen-h.result) × (get_or c.args.w.runs (c.chosen-h.result - 1) 0 ≡ run_of c.requires.description c.chosen-h.result) × (c.chosen-h.result ≤ c.requires.description.task_count) = runs c.requires.description c.requires.wired (tabled c.requires.description c.requires.wired c.requires.same_sources) c.requires.spaced c.requires.judged in
     omega (arith, own)
 
+-- it goes on
 pub loop-i-preserved : goal.loop-i-preserved
 loop-i-preserved c =
     let turn : (d : Description) → WiringOf d c.args.w → TablesOf d c.args.w.rows c.plan_of-plan.result → GapsOf d 200 c.args.longest → judge d ≡ Done → Tracks c.args.p d c.advance-done.result.words c.advance-done.new.used c.advance-done.new.since c.advance-done.new.fastest (left c.args.p d (idle d) (take (c.loop-i.i + 1) (calls_in c.args.calls.now))) × (set c.loop-i.outcomes c.loop-i.i c.code.result ≡ take (c.loop-i.i + 1) (page c.args.p d (calls_in c.args.calls.now)) ++ drop (c.loop-i.i + 1) c.args.outcomes.now) = λ d r tables g j. let L = c.loop-i in
@@ -525,6 +532,7 @@ loop-i-preserved c =
     (p, omega (arith, r.formed.fields.few_tasks), subst (λ (us : List ℕ). get_or us (h - 1) 0 < run_of d h) (sym R.holds.same_used) (R.holds.below h p t), ap (λ (l : List ℕ). get_or l (h - 1) 0) r.same_runs, t) in
     let tabled : (d : Description) → WiringOf d c.args.w → SourcesOf d c.args.s → TablesOf d c.args.w.rows c.plan_of-plan.result = λ d r s. tables_of d c.args.w c.args.s c.plan_of-plan.result r s c.plan_of-plan.ensures in
     let own : (1 ≤ c.chosen-h.result) × (c.chosen-h.result ≤ 32) × (get_or c.advance-done.new.used (c.chosen-h.result - 1) 0 < run_of c.requires.description c.chosen-h.result) × (get_or c.args.w.runs (c.chosen-h.result - 1) 0 ≡ run_of c.requires.description c.chosen-h.result) × (c.chosen-h.result ≤ c.requires.description.task_count) = runs c.requires.description c.requires.wired (tabled c.requires.description c.requires.wired c.requires.same_sources) c.requires.spaced c.requires.judged in
+    -- its run has begun, and so many ticks of it are left before the last
     let begun-left : (c.room-left.result ≡ 0 → ⊥) → (0 < get_or c.advance-done.new.used (c.chosen-h.result - 1) 0) × (get_or c.advance-done.new.used (c.chosen-h.result - 1) 0 + c.room-left.result + 1 ≡ get_or c.args.w.runs (c.chosen-h.result - 1) 0) = λ some. roomy _ _ c.room-left.result c.room-left.ensures some (omega (arith, own)) in
     let L = c.loop-i in
     let i = L.i in

@@ -1,3 +1,4 @@
+-- `sets::below` meets its contract. Assumes nothing.
 use Rattle.sets.proofs.SetLaws.{member_below}
 use Rattle.sets.proofs.below.Goals as goal
 

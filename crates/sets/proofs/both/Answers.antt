@@ -1,3 +1,4 @@
+-- `sets::both` meets its contract. Assumes nothing.
 use Rattle.sets.proofs.SetLaws.{member_and}
 use Rattle.sets.proofs.both.Goals as goal
 

@@ -1,3 +1,4 @@
+-- `sets::first` meets its contract: as many zeros stand below the lowest bit. Assumes nothing.
 use borrow.Author.Rules.{rules}
 use Rattle.sets.proofs.SetLaws.{first_none, first_some}
 use Rattle.sets.proofs.first.Goals as goal

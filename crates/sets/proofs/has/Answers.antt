@@ -1,3 +1,4 @@
+-- `sets::has` meets its contract. Assumes nothing.
 use mathlib.Core.Path.{refl}
 use Rattle.sets.specs.Sets.{member}
 use Rattle.sets.proofs.has.Goals as goal

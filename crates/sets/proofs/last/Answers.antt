@@ -1,3 +1,4 @@
+-- `sets::last` meets its contract: as many zeros stand above the highest bit. Assumes nothing.
 use native.Mathlib.Omega.{arith}
 use borrow.Author.Rules.{rules}
 use Rattle.sets.proofs.SetLaws.{last_some}

@@ -1,3 +1,4 @@
+-- `sets::one` meets its contract. Assumes nothing.
 use Rattle.sets.proofs.SetLaws.{member_alone}
 use Rattle.sets.proofs.one.Goals as goal
 

@@ -1,3 +1,4 @@
+-- `sets::union` meets its contract. Assumes nothing.
 use Rattle.sets.proofs.SetLaws.{member_or}
 use Rattle.sets.proofs.union.Goals as goal
 

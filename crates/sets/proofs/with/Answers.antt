@@ -1,3 +1,4 @@
+-- `sets::with` meets its contract. Assumes nothing.
 use Rattle.sets.proofs.SetLaws.{member_with}
 use Rattle.sets.proofs.with.Goals as goal
 

@@ -1,3 +1,4 @@
+-- `sets::without` meets its contract. Assumes nothing.
 use Rattle.sets.proofs.SetLaws.{member_less}
 use Rattle.sets.proofs.without.Goals as goal
 

@@ -1,3 +1,4 @@
+-- Bit by bit.
 use mathlib.Core.Path.{◌≡◌, refl, ap, ◌∙◌}
 use mathlib.Core.Bool.{◌||◌, cond}
 use lib.Bits.{bit_and}

@@ -1,3 +1,4 @@
+-- Its run began in this tick, or before it.
 use mathlib.Core.Path.{◌≡◌, ◌∙◌}
 use lib.Dec.{eqb}
 use borrow.Author.Tests.{eq-eqb}

@@ -1,3 +1,4 @@
+-- Bit by bit.
 use mathlib.Core.Path.{refl}
 use Rattle.steps.proofs.MarkLaws.{marks_slept}
 use Rattle.steps.proofs.sleep.Goals as goal

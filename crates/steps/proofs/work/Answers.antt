@@ -1,3 +1,4 @@
+-- None is awake, a run of one tick, one that ends, or one that goes on.
 use Prim.Native.Nat.{ℕ, ◌-◌, ◌+◌, ◌≤◌}
 use mathlib.Core.Path.{◌≡◌, refl, sym, ap, subst, ◌∙◌}
 use mathlib.Core.Bool.{false}
@@ -23,6 +24,7 @@ returns-then-awake-eq0 c =
 
 pub returns-then-plan-h-eq1 : goal.returns-then-plan-h-eq1
 returns-then-plan-h-eq1 c =
+    -- the task that runs is awake
     let low : (1 ≤ c.chosen-h.result) × (c.chosen-h.result ≤ 32) = let A = c.args in
     c.requires.low c.chosen-h.result (sym (c.union-awake.ensures c.chosen-h.result) ∙ chosen_awake A.w.running c.union-awake.result c.chosen-h.result (λ o. c.union-awake.ensures A.w.running ∙ c.requires.going o) c.chosen-h.ensures) in
     let A = c.args in

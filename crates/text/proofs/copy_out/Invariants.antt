@@ -1,3 +1,5 @@
+-- `text::copy_out` meets its contract. The loop's invariant: the first i bytes of the page, then the buffer as it was. The measure is the number of
+-- bytes left. Assumes nothing.
 use Prim.Native.Nat.{◌≤◌, ◌-◌}
 use mathlib.Core.Path.{◌≡◌}
 use mathlib.Core.List.{◌++◌}

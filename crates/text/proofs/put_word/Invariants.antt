@@ -1,3 +1,5 @@
+-- `text::put_word` meets its contract. The loop's invariant: the bytes before the word and the first i of it stand on the page. The measure is the
+-- number of bytes left. Assumes nothing.
 use Prim.Native.Nat.{◌≤◌, ◌-◌, ◌+◌}
 use mathlib.Core.Path.{◌≡◌}
 use mathlib.Core.List.{◌++◌}

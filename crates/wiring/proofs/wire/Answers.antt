@@ -1,3 +1,4 @@
+-- The link's three marks.
 use Rattle.wiring.proofs.RowLaws.{wired_more}
 use Rattle.wiring.proofs.wire.Goals as goal
 

@@ -1,3 +1,4 @@
+-- Refused, or a tick.
 use Prim.Native.Nat.{max}
 use mathlib.Core.Path.{◌≡◌, sym, ap, subst, ◌∙◌}
 use native.Mathlib.Omega.{arith}

@@ -1,3 +1,4 @@
+-- Nothing comes, or some sources do; refused, or they have fired.
 use Prim.Native.Nat.{max}
 use mathlib.Core.Path.{◌≡◌, sym, ap, subst, ◌∙◌}
 use mathlib.Core.Bool.{true, false}

@@ -1,3 +1,4 @@
+-- The steps one after the other.
 use Prim.Native.Nat.{◌+◌}
 use mathlib.Core.Path.{refl, sym, ap, subst, ◌∙◌}
 use Rattle.words.specs.Words.{Goes}

@@ -15,6 +15,7 @@ loop-rest-init c = (0, rest_all c.args.mask, λ u h e. absurd (omega arith))
 
 pub returns-then-soon_at : goal.returns-then-soon_at
 returns-then-soon_at c =
+    -- source u of the mask
     let comes : heard c.args.mask c.first-u.result ≡ true = here c.args.mask c.loop-rest.invariant.0 c.loop-rest.rest c.first-u.result c.loop-rest.invariant.1 c.first-u.ensures in
     let A = c.args in
     λ d t w m g s k l a K q low. soon_one d t A.mask A.peak A.tick A.plan.now A.since.now A.fastest.now w m g s k l a K q low c.first-u.result comes (ltb-true _ _ (sym c.soon_at.ensures ∙ c.if-soon_at.true))

@@ -1,3 +1,4 @@
+-- A foreign record, or one call on its words.
 use mathlib.Core.Path.{sym, ap, ◌∙◌}
 use native.Mathlib.Omega.{arith}
 use Rattle.model.specs.Machine.{plain_tick}

@@ -1,3 +1,4 @@
+-- `wide::both` meets its contract, word by word. Assumes nothing.
 use Rattle.sets.proofs.WideLaws.{both_words}
 use Rattle.sets.proofs.wide.both.Goals as goal
 

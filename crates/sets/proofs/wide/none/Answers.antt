@@ -1,3 +1,4 @@
+-- `wide::none` meets its contract. Assumes nothing.
 use Prim.Native.Nat.{◌/◌, ◌%◌}
 use Rattle.sets.specs.Wide.{inside}
 use Rattle.sets.proofs.WideLaws.{empty}

@@ -1,3 +1,4 @@
+-- `wide::union` meets its contract, word by word. Assumes nothing.
 use Rattle.sets.proofs.WideLaws.{union_words}
 use Rattle.sets.proofs.wide.union.Goals as goal
 

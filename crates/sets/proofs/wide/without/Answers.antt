@@ -1,3 +1,4 @@
+-- `wide::without` meets its contract, word by word. Assumes nothing.
 use Rattle.sets.proofs.WideLaws.{without_words}
 use Rattle.sets.proofs.wide.without.Goals as goal
 

@@ -28,7 +28,7 @@ loop-j-preserved-then-set-eq0 c =
 
 pub level_held-requires : goal.level_held-requires
 level_held-requires c =
-    -- the level at hand, whether it is held at the best tempo so far, and the best one after it was in doubt
+    -- the level at hand, of a model and a description that the tables are of
     let own : (pol : Policy) (d : Description) → LevelTables pol d c.args.levels.now c.args.starts.now c.args.tails.now c.args.critical.now c.args.sources c.args.tasks → LevelFrom pol d (suc c.loop-j.j) (level_in c.level_loads-loads.result c.level_terms-terms.result) c.args.sources = λ pol d k. let a = c.args in level_from pol d a.levels.now a.starts.now a.tails.now a.critical.now a.sources a.tasks c.loop-j.j c.level_loads-loads.result c.level_terms-terms.result k c.loop-j-test.true c.level_loads-loads.ensures c.level_terms-terms.ensures in
     let w = c.requires in
     let L = c.loop-j in
@@ -36,15 +36,14 @@ level_held-requires c =
 
 pub loop-j-preserved-then-level_held : goal.loop-j-preserved-then-level_held
 loop-j-preserved-then-level_held c =
-    -- the level at hand, whether it is held at the best tempo so far, and the best one after it was in doubt
     let own : (pol : Policy) (d : Description) → LevelTables pol d c.args.levels.now c.args.starts.now c.args.tails.now c.args.critical.now c.args.sources c.args.tasks → LevelFrom pol d (suc c.loop-j.j) (level_in c.level_loads-loads.result c.level_terms-terms.result) c.args.sources = λ pol d k. let a = c.args in level_from pol d a.levels.now a.starts.now a.tails.now a.critical.now a.sources a.tasks c.loop-j.j c.level_loads-loads.result c.level_terms-terms.result k c.loop-j-test.true c.level_loads-loads.ensures c.level_terms-terms.ensures in
+    -- whether it is held at the best tempo so far
     let held : (pol : Policy) (d : Description) → LevelTables pol d c.args.levels.now c.args.starts.now c.args.tails.now c.args.critical.now c.args.sources c.args.tasks → c.level_held.result ≡ level_held pol d (spacing_of d c.loop-j.best) (suc c.loop-j.j) = λ pol d k. let L = c.loop-j in held_from pol d (suc L.j) (level_in c.level_loads-loads.result c.level_terms-terms.result) c.args.sources L.best L.gaps c.level_held.result (own pol d k) L.invariant.3 c.level_held.ensures in
     let L = c.loop-j in
     (omega (arith, c.loop-j-test.true), L.invariant.1, L.invariant.2, L.invariant.3, λ pol d k. best_held pol d L.j L.best (sym (held pol d k) ∙ c.if-level_held.true) (L.invariant.4 pol d k))
 
 pub returns-then-best-eq0 : goal.returns-then-best-eq0
 returns-then-best-eq0 c =
-    -- the level at hand, whether it is held at the best tempo so far, and the best one after it was in doubt
     let own : (pol : Policy) (d : Description) → LevelTables pol d c.args.levels.now c.args.starts.now c.args.tails.now c.args.critical.now c.args.sources c.args.tasks → LevelFrom pol d (suc c.loop-j.j) (level_in c.level_loads-loads.result c.level_terms-terms.result) c.args.sources = λ pol d k. let a = c.args in level_from pol d a.levels.now a.starts.now a.tails.now a.critical.now a.sources a.tasks c.loop-j.j c.level_loads-loads.result c.level_terms-terms.result k c.loop-j-test.true c.level_loads-loads.ensures c.level_terms-terms.ensures in
     let held : (pol : Policy) (d : Description) → LevelTables pol d c.args.levels.now c.args.starts.now c.args.tails.now c.args.critical.now c.args.sources c.args.tasks → c.level_held.result ≡ level_held pol d (spacing_of d c.loop-j.best) (suc c.loop-j.j) = λ pol d k. let L = c.loop-j in held_from pol d (suc L.j) (level_in c.level_loads-loads.result c.level_terms-terms.result) c.args.sources L.best L.gaps c.level_held.result (own pol d k) L.invariant.3 c.level_held.ensures in
     let L = c.loop-j in
@@ -52,9 +51,9 @@ returns-then-best-eq0 c =
 
 pub gaps_by-gaps-requires-else-level_held : goal.gaps_by-gaps-requires-else-level_held
 gaps_by-gaps-requires-else-level_held c =
-    -- the level at hand, whether it is held at the best tempo so far, and the best one after it was in doubt
     let own : (pol : Policy) (d : Description) → LevelTables pol d c.args.levels.now c.args.starts.now c.args.tails.now c.args.critical.now c.args.sources c.args.tasks → LevelFrom pol d (suc c.loop-j.j) (level_in c.level_loads-loads.result c.level_terms-terms.result) c.args.sources = λ pol d k. let a = c.args in level_from pol d a.levels.now a.starts.now a.tails.now a.critical.now a.sources a.tasks c.loop-j.j c.level_loads-loads.result c.level_terms-terms.result k c.loop-j-test.true c.level_loads-loads.ensures c.level_terms-terms.ensures in
     let held : (pol : Policy) (d : Description) → LevelTables pol d c.args.levels.now c.args.starts.now c.args.tails.now c.args.critical.now c.args.sources c.args.tasks → c.level_held.result ≡ level_held pol d (spacing_of d c.loop-j.best) (suc c.loop-j.j) = λ pol d k. let L = c.loop-j in held_from pol d (suc L.j) (level_in c.level_loads-loads.result c.level_terms-terms.result) c.args.sources L.best L.gaps c.level_held.result (own pol d k) L.invariant.3 c.level_held.ensures in
+    -- the best tempo after it was in doubt
     let slowed : (pol : Policy) (d : Description) → LevelTables pol d c.args.levels.now c.args.starts.now c.args.tails.now c.args.critical.now c.args.sources c.args.tasks → Best pol d (c.loop-j.j + 1) c.slower-best.result = λ pol d k. let L = c.loop-j in best_slower pol d k.good L.j L.best c.slower-best.result c.if-best-eq0.false (c.slower-best.ensures pol d (suc L.j) (own pol d k) (sym (held pol d k) ∙ c.if-level_held.false)) (L.invariant.4 pol d k) in
     let w = c.requires in
     let z = slowed w.model w.of w.tables in
@@ -62,7 +61,6 @@ gaps_by-gaps-requires-else-level_held c =
 
 pub loop-j-preserved : goal.loop-j-preserved
 loop-j-preserved c =
-    -- the level at hand, whether it is held at the best tempo so far, and the best one after it was in doubt
     let own : (pol : Policy) (d : Description) → LevelTables pol d c.args.levels.now c.args.starts.now c.args.tails.now c.args.critical.now c.args.sources c.args.tasks → LevelFrom pol d (suc c.loop-j.j) (level_in c.level_loads-loads.result c.level_terms-terms.result) c.args.sources = λ pol d k. let a = c.args in level_from pol d a.levels.now a.starts.now a.tails.now a.critical.now a.sources a.tasks c.loop-j.j c.level_loads-loads.result c.level_terms-terms.result k c.loop-j-test.true c.level_loads-loads.ensures c.level_terms-terms.ensures in
     let held : (pol : Policy) (d : Description) → LevelTables pol d c.args.levels.now c.args.starts.now c.args.tails.now c.args.critical.now c.args.sources c.args.tasks → c.level_held.result ≡ level_held pol d (spacing_of d c.loop-j.best) (suc c.loop-j.j) = λ pol d k. let L = c.loop-j in held_from pol d (suc L.j) (level_in c.level_loads-loads.result c.level_terms-terms.result) c.args.sources L.best L.gaps c.level_held.result (own pol d k) L.invariant.3 c.level_held.ensures in
     let slowed : (pol : Policy) (d : Description) → LevelTables pol d c.args.levels.now c.args.starts.now c.args.tails.now c.args.critical.now c.args.sources c.args.tasks → Best pol d (c.loop-j.j + 1) c.slower-best.result = λ pol d k. let L = c.loop-j in best_slower pol d k.good L.j L.best c.slower-best.result c.if-best-eq0.false (c.slower-best.ensures pol d (suc L.j) (own pol d k) (sym (held pol d k) ∙ c.if-level_held.false)) (L.invariant.4 pol d k) in

@@ -27,7 +27,9 @@ loop-k-init c =
 pub returns-in_default : goal.returns-in_default
 unfolding overfull record_checks
 returns-in_default c =
+    -- the counts are within their limits
     let not-over : overfull c.args.d ≡ false = sym c.over_full.ensures ∙ c.if-over_full.false in
+    -- the check was made of field k of the file, at what is known before it
     let checked : check_field (progress_at c.args.d c.loop-k.k) (field_of c.args.d c.loop-k.k) ≡ c.check_field-c.result = rw (← c.loop-k.invariant.1, ← c.field_of-f.ensures) (sym c.check_field-c.ensures) in
     let d = c.args.d in
     let L = c.loop-k in

@@ -28,7 +28,9 @@ returns-in-Refused c =
 
 pub gaps_by-gaps-requires : goal.gaps_by-gaps-requires
 gaps_by-gaps-requires c =
+    -- what is known of an accepted description
     let good : WellFormed c.examine-judged.result.description = stage_good c.args.p c.args.file.now c.examine-judged.result c.examine-judged.ensures c.in_default.is in
+    -- its tables and its quote
     let quoted : c.quote_by-quote.result ≡ largest_below (all_held c.args.p c.examine-judged.result.description) tempos = let t = c.tables_of-t.ensures in c.quote_by-quote.ensures c.args.p c.examine-judged.result.description t.by_levels t.all_ordered in
     let on = shown_on c.args.p c.examine-judged.result.description c.quote_by-quote.result quoted in
     (scaled_of c.examine-judged.result.description c.tables_of-t.result.sources good c.tables_of-t.ensures.by_levels.by_source, omega (arith, on.0, c.shown_tempo-shown.ensures), omega (arith, on.1, c.shown_tempo-shown.ensures))
@@ -36,9 +38,12 @@ gaps_by-gaps-requires c =
 pub tempo_line-behind-requires : goal.tempo_line-behind-requires
 tempo_line-behind-requires c =
     let quoted : c.quote_by-quote.result ≡ largest_below (all_held c.args.p c.examine-judged.result.description) tempos = let t = c.tables_of-t.ensures in c.quote_by-quote.ensures c.args.p c.examine-judged.result.description t.by_levels t.all_ordered in
+    -- the spacings at the tempo shown
     let spaced : GapsOf c.examine-judged.result.description (shown_tempo c.quote_by-quote.result) c.gaps_by-gaps.result = let z = gaps_of c.examine-judged.result.description c.tables_of-t.result.sources c.shown_tempo-shown.result c.gaps_by-gaps.result c.tables_of-t.ensures.by_levels.by_source c.gaps_by-gaps.ensures in
     rw c.shown_tempo-shown.ensures at z in
+    -- the parts of the report, once the verdicts are there
     let parts : tempo_line c.quote_by-quote.result ++ listing c.examine-judged.result.description c.slots_at-slots.result c.examine-judged.result.description.link_count ≡ plain_report c.args.p c.args.file.now = stage_parts c.args.p c.args.file.now c.examine-judged.result c.examine-judged.ensures c.in_default.is c.quote_by-quote.result c.slots_at-slots.result quoted (c.slots_at-slots.ensures c.args.p (slot_tables c.args.p c.examine-judged.result.description c.tables_of-t.result c.tables_of-t.ensures) (spacing_of c.examine-judged.result.description (shown_tempo c.quote_by-quote.result)) spaced ∙ slots_at_tempo c.args.p c.examine-judged.result.description (shown_tempo c.quote_by-quote.result)) in
+    -- and that they fit
     let room : length (tempo_line c.quote_by-quote.result) + length (listing c.examine-judged.result.description c.slots_at-slots.result c.examine-judged.result.description.link_count) ≤ longest_plain = let d = c.examine-judged.result.description in
     omega (arith, plain_length c.args.p c.args.file.now (λ i. (c.type_inv.file i).fits), sym (ap length parts) ∙ length-append (tempo_line c.quote_by-quote.result) (listing d c.slots_at-slots.result d.link_count)) in
     omega (arith, c.requires, room)

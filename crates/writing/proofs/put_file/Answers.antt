@@ -22,6 +22,7 @@ loop-k-init c = (omega arith, sym (offset_none c.args.d), page_none c.args.d c.a
 pub put_field-requires : goal.put_field-requires
 unfolding file_of
 put_field-requires c =
+    -- the page has its length, and room for the next field
     let long : length c.loop-k.out ≡ length c.args.out.now = page_long c.args.d c.args.out.now c.loop-k.k c.loop-k.out c.loop-k.invariant.2 in
     let room : c.loop-k.at + length (field_bytes (field_of c.args.d c.loop-k.k)) ≤ length c.loop-k.out = let d = c.args.d in
     let k = c.loop-k.k in

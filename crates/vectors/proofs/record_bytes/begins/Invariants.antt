@@ -1,4 +1,4 @@
--- `records::begins` is safe and ends. The measure is the number of bytes left. Assumes nothing.
+-- `record_bytes::begins` is safe and ends. The measure is the number of bytes left. Assumes nothing.
 use Rattle.std.proofs.Common.{◌-◌, ◌≤◌}
 use Rattle.vectors.proofs.record_bytes.begins.Given as goal
 

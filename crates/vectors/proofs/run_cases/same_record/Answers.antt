@@ -1,4 +1,4 @@
--- `runs::same_record` is safe and ends. Assumes nothing.
+-- `run_cases::same_record` is safe and ends. Assumes nothing.
 use Rattle.std.proofs.Common.{sym, arith, length-take-le}
 use Rattle.vectors.proofs.run_cases.same_record.Goals as goal
 

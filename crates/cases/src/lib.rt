@@ -9,8 +9,8 @@ use std::io;
 pub mod build;
 pub mod example;
 pub mod file;
-pub mod machine;
 pub mod page;
+pub mod tick;
 pub mod verdict;
 
 // How many figures were run, how many agree, and the model that the next one is run on.

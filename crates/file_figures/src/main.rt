@@ -3,7 +3,7 @@
 #![tactic(auto)]
 
 use cases::example::{BOX, swung};
-use cases::{Tally, file, machine};
+use cases::{Tally, file, tick};
 use model::{Description, Link};
 use std::io;
 
@@ -255,7 +255,7 @@ fn files_written(t: Tally) -> Tally {
 
 // The outcomes of two calls into a buffer.
 fn outcomes_written(t: Tally, outcomes: &mut [u8], number: usize) -> Tally {
-    machine::runs(
+    tick::runs(
         t,
         box_record(),
         b"\x00\x00\x00\xc8\x00\x00\x00\x00\x00\xc8\x00\x00",

@@ -4,8 +4,8 @@
 
 use cases::example::{BOX, swung};
 use cases::file::described;
-use cases::machine::{ages, arriving, idle};
-use cases::{Tally, counted, machine};
+use cases::tick::{ages, arriving, idle};
+use cases::{Tally, counted, tick};
 use knob::{AfterRounds, Turn};
 use model::{Description, Machine, Policy};
 use std::io;
@@ -23,20 +23,20 @@ fn blank() -> Description {
 // The first tick of Box at a tempo.
 fn box_tick(t: Tally, tempo: u32, number: usize) -> Tally {
     let d = box_record();
-    machine::ticks_once(t, d, tempo, idle(d), arriving(false, false), number)
+    tick::ticks_once(t, d, tempo, idle(d), arriving(false, false), number)
 }
 
 // A run of Box or of a blank record that has no call, and one of Box whose call alone is refused.
 fn short_runs(t: Tally) -> Tally {
     let mut none = [0u8; 1];
-    let mut t = machine::runs(t, box_record(), b"", &mut none, 0);
-    t = machine::runs(t, blank(), b"", &mut none, 8);
-    machine::runs(t, box_record(), b"\x00\x00\x00\xc7\x00\x00", &mut none, 0)
+    let mut t = tick::runs(t, box_record(), b"", &mut none, 0);
+    t = tick::runs(t, blank(), b"", &mut none, 8);
+    tick::runs(t, box_record(), b"\x00\x00\x00\xc7\x00\x00", &mut none, 0)
 }
 
 // A call of a run of Box at 19.9 and 20.0, or at 300.0 and 300.1.
 fn low_call(t: Tally, k: usize, number: u8) -> Tally {
-    machine::call_is(
+    tick::call_is(
         t,
         &BOX,
         b"\x00\x00\x00\xc7\x00\x00\x00\x00\x00\xc8\x00\x00",
@@ -46,7 +46,7 @@ fn low_call(t: Tally, k: usize, number: u8) -> Tally {
 }
 
 fn high_call(t: Tally, k: usize, number: u8) -> Tally {
-    machine::call_is(
+    tick::call_is(
         t,
         &BOX,
         b"\x00\x00\x0b\xb8\x00\x00\x00\x00\x0b\xb9\x00\x00",
@@ -58,9 +58,9 @@ fn high_call(t: Tally, k: usize, number: u8) -> Tally {
 // 11 of a tick, and of a call in a run, which alone is refused; ages equal the spacings at 20.0 at the start, and
 // beside a refusal they are 0.
 fn knobs(rt: &HostRuntime) -> io::Result<()> {
-    let mut t = machine::starts(cases::none(), box_record(), 0, 6250);
-    t = machine::starts(t, blank(), 8, 0);
-    t = machine::ages(t, idle(box_record()), 6250, 2000);
+    let mut t = tick::starts(cases::none(), box_record(), 0, 6250);
+    t = tick::starts(t, blank(), 8, 0);
+    t = tick::ages(t, idle(box_record()), 6250, 2000);
     t = box_tick(t, 199, 11);
     t = box_tick(t, 200, 0);
     t = box_tick(t, 3000, 0);
@@ -181,7 +181,7 @@ fn swift() -> Description {
 
 // Its record after a tick at a tempo in which sources come.
 fn later_at(tempo: u32, m: Machine, first: bool, second: bool) -> Machine {
-    machine::later_on(
+    tick::later_on(
         Policy::Preemptive,
         swift(),
         tempo,
@@ -256,7 +256,7 @@ fn first_source(t: Tally, age: u32, kept: u32, number: usize) -> Tally {
     let mut m = idle(swift());
     m.ages[0] = age;
     m.fastest[0] = kept;
-    machine::ticks_still(t, swift(), m, number)
+    tick::ticks_still(t, swift(), m, number)
 }
 
 // The same at 300.0, of a record that passes.
@@ -264,7 +264,7 @@ fn fast_tick(t: Tally) -> Tally {
     let mut m = idle(swift());
     m.ages[0] = 1561;
     m.fastest[0] = 200;
-    machine::ticks_once(t, swift(), 3000, m, arriving(false, false), 0)
+    tick::ticks_once(t, swift(), 3000, m, arriving(false, false), 0)
 }
 
 // What an absent source has is 0; a tempo off the knob is told before that, an arrival too soon or of an absent source
@@ -272,20 +272,20 @@ fn fast_tick(t: Tally) -> Tally {
 fn absent_sources(t: Tally) -> Tally {
     let mut m = idle(swift());
     m.fastest[2] = 200;
-    let mut t = machine::ticks_still(t, swift(), m, 16);
-    t = machine::ticks_once(t, swift(), 199, m, arriving(false, false), 11);
+    let mut t = tick::ticks_still(t, swift(), m, 16);
+    t = tick::ticks_once(t, swift(), 199, m, arriving(false, false), 11);
     m = idle(swift());
     m.ages[2] = 1;
-    t = machine::ticks_still(t, swift(), m, 16);
+    t = tick::ticks_still(t, swift(), m, 16);
     m = idle(swift());
     m.fastest[15] = 200;
-    machine::ticks_once(t, swift(), 200, m, arriving(true, true), 16)
+    tick::ticks_once(t, swift(), 200, m, arriving(true, true), 16)
 }
 
 // 16 by the rules of ages and kept tempos: an age up to the spacing at 20.0; a kept tempo 0, with that age, or 200 to
 // 3,000; both 0 for an absent source.
 fn kept_rules(rt: &HostRuntime) -> io::Result<()> {
-    let mut t = machine::ticks_still(cases::none(), swift(), idle(swift()), 0);
+    let mut t = tick::ticks_still(cases::none(), swift(), idle(swift()), 0);
     t = first_source(t, 1561, 0, 16);
     t = first_source(t, 1561, 200, 0);
     t = fast_tick(t);

@@ -1,9 +1,9 @@
 // Latched inputs (C-15), on both models: what a run reads when it begins, and the marks "again" and "late".
 
 use cases::file::described;
-use cases::machine::{after, arriving, idle};
+use cases::tick::{after, arriving, idle};
 use cases::verdict::held;
-use cases::{Tally, counted, machine};
+use cases::{Tally, counted, tick};
 use model::{Description, Machine, Policy};
 use std::io;
 
@@ -89,7 +89,7 @@ fn late_event(t: Tally) -> Tally {
     m = after(p, d, m, false, false);
     t = first_task(t, m, false, 0, false);
     t = waits(t, m, false, false);
-    m = machine::later_on(p, d, 200, begun, arriving(false, true), true);
+    m = tick::later_on(p, d, 200, begun, arriving(false, true), true);
     t = first_task(t, m, true, 0, false);
     t = waits(t, m, false, true);
     lates(t, m, false, false)
@@ -161,7 +161,7 @@ fn scan_record() -> Description {
 
 // A tick of it without arrivals.
 fn scan_still(t: Tally, m: Machine, number: usize) -> Tally {
-    machine::ticks_still(t, scan_record(), m, number)
+    tick::ticks_still(t, scan_record(), m, number)
 }
 
 // 16 by the rule of late marks: only on a waiting link into a task marked "again".

@@ -4,8 +4,8 @@
 
 use cases::example::{swung, twin};
 use cases::file::described;
-use cases::machine::{after, arriving, idle};
-use cases::{Tally, machine};
+use cases::tick::{after, arriving, idle};
+use cases::{Tally, tick};
 use model::{Description, Machine, Policy};
 use std::io;
 
@@ -34,7 +34,7 @@ fn marked_drop(rt: &HostRuntime) -> io::Result<()> {
 
 // A source with the spacing 5.
 fn spaced(t: Tally, calls: &[u8], k: usize, number: u8) -> Tally {
-    machine::call_is(
+    tick::call_is(
         t,
         b"\x01\x00\x04\x00\x00\x00\x01\x02\x00\x04\x00\x00\x00\x05",
         calls,
@@ -79,7 +79,7 @@ fn single() -> Description {
 
 // Its record after a tick in which its source comes or not, and in which the task may end.
 fn single_later(m: Machine, comes: bool, finish: bool) -> Machine {
-    machine::later_on(
+    tick::later_on(
         Policy::Preemptive,
         single(),
         200,
@@ -91,7 +91,7 @@ fn single_later(m: Machine, comes: bool, finish: bool) -> Machine {
 
 // A tick of it in which sources come is done, number 0, or refused with a number.
 fn single_tick(t: Tally, m: Machine, first: bool, second: bool, number: usize) -> Tally {
-    machine::ticks_once(t, single(), 200, m, arriving(first, second), number)
+    tick::ticks_once(t, single(), 200, m, arriving(first, second), number)
 }
 
 // Three ticks of a run, one that ends early, and the refusals of an arrival, which leave the record as it was.
@@ -119,7 +119,7 @@ fn ticking(rt: &HostRuntime) -> io::Result<()> {
 
 // A tick without arrivals of it.
 fn single_still(t: Tally, m: Machine, number: usize) -> Tally {
-    machine::ticks_still(t, single(), m, number)
+    tick::ticks_still(t, single(), m, number)
 }
 
 // 16 by the rules of what is there: used time, waiting links and ages.
@@ -178,7 +178,7 @@ fn swung_record() -> Description {
 
 // A tick in which it comes.
 fn swung_tick(t: Tally, m: Machine, number: usize) -> Tally {
-    machine::ticks_once(t, swung_record(), 200, m, arriving(true, false), number)
+    tick::ticks_once(t, swung_record(), 200, m, arriving(true, false), number)
 }
 
 // A swung source on the machine: at 20.0 its spacing is 1,562.
@@ -246,13 +246,13 @@ fn parts_done(rt: &HostRuntime) -> io::Result<()> {
     let mut m = idle(two_tasks());
     m.awake[0] = true;
     m.used[0] = 1;
-    let mut t = machine::ticks_still(cases::hold(), two_tasks(), m, 0);
+    let mut t = tick::ticks_still(cases::hold(), two_tasks(), m, 0);
     m.awake[1] = true;
-    t = machine::ticks_still(t, two_tasks(), m, 0);
+    t = tick::ticks_still(t, two_tasks(), m, 0);
     m.used[1] = 1;
-    t = machine::ticks_still(t, two_tasks(), m, 16);
+    t = tick::ticks_still(t, two_tasks(), m, 16);
     t = cases::on(Policy::Preemptive, t);
-    t = machine::ticks_still(t, two_tasks(), m, 0);
+    t = tick::ticks_still(t, two_tasks(), m, 0);
     cases::print(rt, "C-14, rules of the record", t)
 }
 

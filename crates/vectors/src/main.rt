@@ -7,9 +7,9 @@ use std::{fs, io};
 use streams::read_input;
 
 mod parts;
-mod records;
+mod record_bytes;
 mod reports;
-mod runs;
+mod run_cases;
 
 ghost use Rattle.std.specs.Prelude.{◌≤◌, length, IfOk};
 
@@ -39,7 +39,7 @@ enum Cases {
 fn compare_all(s: &[u8], cases: Cases) -> Tally {
     match cases {
         Cases::Reports(p) => reports::compare_all(p, s),
-        Cases::Runs(p) => runs::compare_all(p, s),
+        Cases::Runs(p) => run_cases::compare_all(p, s),
     }
 }
 

@@ -5,7 +5,7 @@
 use cases::example::{BOX, swung, twin};
 use cases::page::reports;
 use cases::verdict::{held, load};
-use cases::{Tally, file, machine};
+use cases::{Tally, file, tick};
 use model::{Description, Source, SourceSlot};
 use std::io;
 
@@ -192,7 +192,7 @@ fn swung_box(rt: &HostRuntime) -> io::Result<()> {
     t = file::takes_field(t, &SWUNG_BOX, 21, 27);
     t = calls::doubtful(t, &SWUNG_BOX, 1213, 3, 700);
     t = calls::quotes(t, swung_record(), 0, 1212);
-    t = machine::starts(t, swung_record(), 0, 4250);
+    t = tick::starts(t, swung_record(), 0, 4250);
     t = file::judges(t, straight(), 6, 21);
     cases::print(rt, "C-11, Box", t)
 }

@@ -1,6 +1,6 @@
--- `records::begins` is safe and ends. The measure is the number of bytes left. Assumes nothing.
+-- `record_bytes::begins` is safe and ends. The measure is the number of bytes left. Assumes nothing.
 use Rattle.std.proofs.Common.{◌-◌, ◌≤◌}
-use Rattle.vectors.proofs.records.begins.Given as goal
+use Rattle.vectors.proofs.record_bytes.begins.Given as goal
 
 abbrev pub invariant-loop-k : goal.invariant-loop-k
 invariant-loop-k l = l.k ≤ l.n

@@ -7,7 +7,7 @@
 ghost use Rattle.std.specs.Prelude.{◌<◌, ◌≤◌, length};
 
 use crate::parts::{Tally, counted, part_at};
-use crate::records::{begins, unlatched};
+use crate::record_bytes::{begins, unlatched};
 use model::{Machine, Outcome, Policy};
 
 // Whether a run agrees, and where the next one begins.

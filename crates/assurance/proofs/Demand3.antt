@@ -1,4 +1,5 @@
 -- The promise, however the knob moves up to the quote, and demand 3, its case of one tempo. Assumes nothing.
+use Rattle.std.specs.Prelude.{Ok}
 use Prim.Native.Nat.{ℕ, zero, suc, ◌≤◌}
 use mathlib.Core.Path.{◌≡◌, refl, subst}
 use mathlib.Core.Bool.{Bool, true, false, ◌&&◌}
@@ -10,8 +11,7 @@ use Rattle.model.specs.declared.Description.{Description}
 use Rattle.model.specs.declared.Policy.{Policy}
 use Rattle.model.specs.declared.Machine.{Machine}
 use Rattle.model.specs.declared.Ticked.{Ticked}
-use Rattle.model.specs.declared.Outcome.TheVariants.{Done}
-use Rattle.model.specs.declared.Quote.TheVariants.{Tempo}
+use Rattle.model.specs.Refusals.{Done}
 use Rattle.model.specs.Basics.{tab}
 use Rattle.model.specs.Graph.{system}
 use Rattle.model.specs.Delays.{spacing_of}
@@ -32,7 +32,7 @@ use Rattle.theory.proofs.Quotes.{Quoted, quoted}
 use Rattle.assurance.proofs.Assurance.{Facts, assured_by}
 
 -- what the laws of files, loads, delays, walks and quotes give
-facts : (pol : Policy) (d : Description) (q : ℕ) → Widths d → quote_of pol d ≡ Tempo q → Facts pol d q
+facts : (pol : Policy) (d : Description) (q : ℕ) → Widths d → quote_of pol d ≡ Ok q → Facts pol d q
 unfolding system
 facts pol d q w e =
     let k : Quoted pol d q = quoted pol d q e in
@@ -53,11 +53,11 @@ facts pol d q w e =
     }
 
 -- a list of calls from the idle record
-pub calls_assured : (pol : Policy) (d : Description) (q : ℕ) (cs : List Call) (rs : List Ticked) (m : Machine) → Widths d → quote_of pol d ≡ Tempo q → UpTo q (ticks pol d (idle d) cs) → Calls pol d (idle d) cs rs m → Assured pol d q cs rs m
+pub calls_assured : (pol : Policy) (d : Description) (q : ℕ) (cs : List Call) (rs : List Ticked) (m : Machine) → Widths d → quote_of pol d ≡ Ok q → UpTo q (ticks pol d (idle d) cs) → Calls pol d (idle d) cs rs m → Assured pol d q cs rs m
 calls_assured pol d q cs rs m w e up k = assured_by pol d q (facts pol d q w e) cs up rs m k
 
 -- with a quote the start is not refused: its record is the idle one
-pub start_idle : (pol : Policy) (d : Description) (q : ℕ) (s : Ticked) → quote_of pol d ≡ Tempo q → StartMeets d s → s ≡ record { outcome = Done; machine = idle d }
+pub start_idle : (pol : Policy) (d : Description) (q : ℕ) (s : Ticked) → quote_of pol d ≡ Ok q → StartMeets d s → s ≡ record { outcome = Done; machine = idle d }
 unfolding started
 start_idle pol d q s e a = rw (quoted pol d q e).judged at a
 

@@ -1,5 +1,6 @@
 -- The promise at two files of document 01, on both models, and at a swung one, and verdicts by spacings at Box with a pulse of each kind and with a source more: hypotheses met by computation, so that the
 -- theorems are known to speak of something. Assumes nothing.
+use Rattle.std.specs.Prelude.{Ok}
 use Prim.Native.Nat.{ℕ, suc, ◌+◌, ◌%◌, ◌^◌, ◌≤◌, ◌<◌}
 use mathlib.Core.Path.{◌≡◌, refl, sym, ◌∙◌}
 use mathlib.Core.Bool.{Bool, true, false}
@@ -15,11 +16,9 @@ use Rattle.model.specs.declared.Policy.{Policy}
 use Rattle.model.specs.declared.Policy.TheVariants.{Preemptive, HoldOn}
 use Rattle.model.specs.declared.Description.{Description}
 use Rattle.model.specs.declared.Arrivals.{Arrivals}
-use Rattle.model.specs.declared.Outcome.TheVariants.{Done}
-use Rattle.model.specs.declared.Quote.TheVariants.{Tempo}
+use Rattle.model.specs.Refusals.{Done, no_source}
 use Rattle.model.specs.declared.Verdict.TheVariants.{Doubt}
 use Rattle.model.specs.Basics.{sum_n, top_n, any_n, all_n, tab, joined}
-use Rattle.model.specs.Refusals.{no_source}
 use Rattle.model.specs.Header.{bytes_of, number_in, header_at}
 use Rattle.model.specs.Field.{body_of, field_bytes, field_in, take_field, check_field, field_of}
 use Rattle.model.specs.Graph.{source_at, linked, system, walks, cyclic}
@@ -79,7 +78,7 @@ widths_by d e f = record {
 }
 
 -- a quote from its judging and two verdicts
-quote_by : (pol : Policy) (d : Description) (q : ℕ) → Widths d → judge d ≡ Done → 200 ≤ q → q ≤ 3000 → all_held pol d q ≡ true → (q < 3000 → all_held pol d (suc q) ≡ false) → quote_of pol d ≡ Tempo q
+quote_by : (pol : Policy) (d : Description) (q : ℕ) → Widths d → judge d ≡ Done → 200 ≤ q → q ≤ 3000 → all_held pol d q ≡ true → (q < 3000 → all_held pol d (suc q) ≡ false) → quote_of pol d ≡ Ok q
 unfolding quote_of
 quote_by pol d q w e low high h n = rw e (quote_at pol d (judge_well_formed d w e) q low high h n)
 
@@ -103,7 +102,7 @@ box_doubtful : all_held Preemptive box 1784 ≡ false
 unfolding computing
 box_doubtful = refl
 
-pub box_quote : quote_of Preemptive box ≡ Tempo 1783
+pub box_quote : quote_of Preemptive box ≡ Ok 1783
 box_quote = quote_by Preemptive box 1783 box_widths box_judged (omega arith) (omega arith) box_held (λ h. box_doubtful)
 
 -- of every list of calls, however the knob moves up to it
@@ -125,7 +124,7 @@ box_swept arrivals finish n =
 pub box_page_lem : report_of Preemptive box_file ≡ box_page
 unfolding report_of plain_report quote_of
 box_page_lem =
-    let q : largest_below (all_held Preemptive box) tempos ≡ Tempo 1783 = rw box_judged at box_quote in
+    let q : largest_below (all_held Preemptive box) tempos ≡ Ok 1783 = rw box_judged at box_quote in
     rw (figures.p2_read, q) figures.page_box
 
 box_bytes : (i : ℕ) → get_or box_file i 0 < 256
@@ -155,7 +154,7 @@ swung_doubtful : all_held Preemptive swung_box 1213 ≡ false
 unfolding computing
 swung_doubtful = refl
 
-pub swung_quote : quote_of Preemptive swung_box ≡ Tempo 1212
+pub swung_quote : quote_of Preemptive swung_box ≡ Ok 1212
 swung_quote = quote_by Preemptive swung_box 1212 swung_widths swung_judged (omega arith) (omega arith) swung_held (λ h. swung_doubtful)
 
 pub swung_assured : (cs : List Call) → UpTo 1212 (ticks Preemptive swung_box (idle swung_box) cs) → AssuredOf Preemptive swung_box 1212 cs
@@ -224,7 +223,7 @@ twin_held : all_held Preemptive (twin 9) 3000 ≡ true
 unfolding computing
 twin_held = refl
 
-pub twin_quote : quote_of Preemptive (twin 9) ≡ Tempo 3000
+pub twin_quote : quote_of Preemptive (twin 9) ≡ Ok 3000
 twin_quote = quote_by Preemptive (twin 9) 3000 twin_widths twin_judged (omega arith) (omega arith) twin_held (λ h. absurd (omega arith))
 
 pub twin_assured : (cs : List Call) → UpTo 3000 (ticks Preemptive (twin 9) (idle (twin 9)) cs) → AssuredOf Preemptive (twin 9) 3000 cs
@@ -244,7 +243,7 @@ box_hold_doubtful : all_held HoldOn box 1249 ≡ false
 unfolding computing
 box_hold_doubtful = refl
 
-pub box_hold_quote : quote_of HoldOn box ≡ Tempo 1248
+pub box_hold_quote : quote_of HoldOn box ≡ Ok 1248
 box_hold_quote = quote_by HoldOn box 1248 box_widths box_judged (omega arith) (omega arith) box_holds (λ h. box_hold_doubtful)
 
 pub box_hold_assured : (cs : List Call) → UpTo 1248 (ticks HoldOn box (idle box) cs) → AssuredOf HoldOn box 1248 cs
@@ -254,7 +253,7 @@ box_hold_assured = plain_assured HoldOn box 1248 box_widths box_hold_quote
 pub box_hold_page_lem : report_of HoldOn box_file ≡ box_hold_page
 unfolding report_of plain_report quote_of
 box_hold_page_lem =
-    let q : largest_below (all_held HoldOn box) tempos ≡ Tempo 1248 = rw box_judged at box_hold_quote in
+    let q : largest_below (all_held HoldOn box) tempos ≡ Ok 1248 = rw box_judged at box_hold_quote in
     rw (figures.p2_read, q) hold_figures.page_box
 
 pub box_hold_paper : FromPage HoldOn box_file box_hold_page 1248
@@ -275,7 +274,7 @@ twin_11_holds : all_held HoldOn (twin 11) 3000 ≡ true
 unfolding computing
 twin_11_holds = refl
 
-pub twin_hold_quote : quote_of HoldOn (twin 11) ≡ Tempo 3000
+pub twin_hold_quote : quote_of HoldOn (twin 11) ≡ Ok 3000
 twin_hold_quote = quote_by HoldOn (twin 11) 3000 twin_11_widths twin_11_judged (omega arith) (omega arith) twin_11_holds (λ h. absurd (omega arith))
 
 pub twin_hold_assured : (cs : List Call) → UpTo 3000 (ticks HoldOn (twin 11) (idle (twin 11)) cs) → AssuredOf HoldOn (twin 11) 3000 cs

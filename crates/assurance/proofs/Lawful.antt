@@ -13,7 +13,7 @@ use Rattle.model.specs.declared.Description.{Description}
 use Rattle.model.specs.declared.Policy.{Policy}
 use Rattle.model.specs.declared.Policy.TheVariants.{Preemptive, HoldOn}
 use Rattle.model.specs.declared.Machine.{Machine}
-use Rattle.model.specs.declared.Outcome.TheVariants.{Done, Refused}
+use Rattle.model.specs.Refusals.{Done, Refused}
 use Rattle.model.specs.declared.Refusal.TheVariants.{TooSoon, Stranger}
 use Rattle.model.specs.Basics.{all_n}
 use Rattle.model.specs.Graph.{system, link_at, linked, run_of}

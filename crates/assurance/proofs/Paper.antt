@@ -1,5 +1,6 @@
 -- The printed page alone: its line `tempo a.b` says that the file is accepted, what its quote is and that the promise holds up to it, and each line
 -- of a held source link says how long its events wait. Assumes nothing.
+use Rattle.std.specs.Prelude.{Ok, Err}
 use Prim.Native.Nat.{ℕ, suc, ◌-◌, ◌≤◌, ◌<◌}
 use mathlib.Core.Path.{◌≡◌, refl, sym, ap, ◌∙◌}
 use mathlib.Core.Bool.{not}
@@ -9,10 +10,7 @@ use borrow.Author.Tests.{not-true}
 use lib.ListN.{take}
 use Rattle.model.specs.declared.Description.{Description}
 use Rattle.model.specs.declared.Policy.{Policy}
-use Rattle.model.specs.declared.Outcome.{Outcome}
-use Rattle.model.specs.declared.Outcome.TheVariants.{Done, Refused}
-use Rattle.model.specs.declared.Quote.{Quote}
-use Rattle.model.specs.declared.Quote.TheVariants.{Tempo, Unquoted}
+use Rattle.model.specs.Refusals.{Outcome, Done, Refused, Quote}
 use Rattle.model.specs.declared.Refusal.{Refusal}
 use Rattle.model.specs.Graph.{link_at}
 use Rattle.model.specs.File.{Widths, read_file}
@@ -31,7 +29,7 @@ use Rattle.assurance.proofs.Demand3.{promise}
 use Rattle.assurance.proofs.PlainCalls.{plain_assured}
 
 -- of a description with a quote
-module _ (pol : Policy) (d : Description) (q : ℕ) (w : Widths d) (e : quote_of pol d ≡ Tempo q) where
+module _ (pol : Policy) (d : Description) (q : ℕ) (w : Widths d) (e : quote_of pol d ≡ Ok q) where
   fields : Fielded d
   fields = (judge_well_formed d w (quoted pol d q e).judged).fields
 
@@ -55,11 +53,11 @@ module _ (pol : Policy) (d : Description) (q : ℕ) (w : Widths d) (e : quote_of
       }
 
   -- and every critical link from a source is held
-  line_there : (l : ℕ) → l < d.link_count → (link_at d l).critical ≡ 1 → 33 ≤ (link_at d l).from → (D : ℕ) × (M : ℕ) × HasLine (report_for pol d (Tempo q)) (held_words (suc l) (link_at d l).from (link_at d l).to D M)
+  line_there : (l : ℕ) → l < d.link_count → (link_at d l).critical ≡ 1 → 33 ≤ (link_at d l).from → (D : ℕ) × (M : ℕ) × HasLine (report_for pol d (Ok q)) (held_words (suc l) (link_at d l).from (link_at d l).to D M)
   unfolding all_held
   line_there l h c s =
       let v = source_held pol d q l c s (not-true _ (all_at (λ k. not (doubtful (verdict_at pol d q k))) 0 d.link_count (quoted pol d q e).held l (omega arith) (omega arith))) in
-      (v.0, spacing_of d q (link_at d l).from, page_told pol d (Tempo q) l v.0 (spacing_of d q (link_at d l).from) h v.1)
+      (v.0, spacing_of d q (link_at d l).from, page_told pol d (Ok q) l v.0 (spacing_of d q (link_at d l).from) h v.1)
 
 from_report : (pol : Policy) (file : List ℕ) (q : ℕ) → Bytes file → TempoLine pol (report_of pol file) (tempo_words q) → FromPage pol file (report_of pol file) q
 unfolding report_of plain_report quoted_file quote_of
@@ -72,12 +70,12 @@ from_report pol file q b e = go (read_file file).outcome refl
     found = largest_below (all_held pol d) tempos
 
     go : (o : Outcome) → (read_file file).outcome ≡ o → FromPage pol file (report_of pol file) q
-    go (Refused r place) a = absurd (refused_no_tempo r place q ((tempo_line_lem pol (refused_line r place) (tempo_words q)).0 (rw a at e)))
+    go (Err x) a = absurd (refused_no_tempo x.why x.place q ((tempo_line_lem pol (refused_line x.why x.place) (tempo_words q)).0 (rw a at e)))
     go Done a =
-        let k : found ≡ Tempo q = page_tempo pol d found q (λ t f. omega (arith, (largest_found (all_held pol d) tempos t f).high)) ((tempo_line_lem pol (report_for pol d found) (tempo_words q)).0 (rw a at e)) in
+        let k : found ≡ Ok q = page_tempo pol d found q (λ t f. omega (arith, (largest_found (all_held pol d) tempos t f).high)) ((tempo_line_lem pol (report_for pol d found) (tempo_words q)).0 (rw a at e)) in
         let w : Widths d = (read_whence file b a).widths in
-        let z : quote_of pol d ≡ Tempo q = rw (read_judged file b a) k in
-        let page : report_of pol file ≡ policy_line pol ++ report_for pol d (Tempo q) = rw a (ap (λ (x : Quote). policy_line pol ++ report_for pol d x) k) in
+        let z : quote_of pol d ≡ Ok q = rw (read_judged file b a) k in
+        let page : report_of pol file ≡ policy_line pol ++ report_for pol d (Ok q) = rw a (ap (λ (x : Quote). policy_line pol ++ report_for pol d x) k) in
         record {
           accepted = a;
           quoted = rw a z;
@@ -85,9 +83,9 @@ from_report pol file q b e = go (read_file file).outcome refl
           high = (quoted pol d q z).high;
           assured = λ s cs rs m a c up. promise pol d q s cs rs m w z a c up;
           held = λ l i j D M h.
-              let n = page_held pol d (Tempo q) (fields pol d q w z) l i j D M ((held_line pol (report_for pol d (Tempo q)) l i j D M).0 (rw page at h)) in
+              let n = page_held pol d (Ok q) (fields pol d q w z) l i j D M ((held_line pol (report_for pol d (Ok q)) l i j D M).0 (rw page at h)) in
               line_true pol d q w z n.0 l i j D M n.1 n.2;
-          told = λ l h c s. let x = line_there pol d q w z l h c s in (x.0, x.1, rw page ((held_line pol (report_for pol d (Tempo q)) (suc l) (link_at d l).from (link_at d l).to x.0 x.1).1 x.2));
+          told = λ l h c s. let x = line_there pol d q w z l h c s in (x.0, x.1, rw page ((held_line pol (report_for pol d (Ok q)) (suc l) (link_at d l).from (link_at d l).to x.0 x.1).1 x.2));
         }
 
 -- the model is the one that the page tells
@@ -95,21 +93,21 @@ pub from_page : Paper
 from_page made p file q b t = rw (sym (model_told made p file t)) (from_report p file q b)
 
 -- the converse: the page of a file with a quote has that tempo
-pub quoted_page : (pol : Policy) (file : List ℕ) (q : ℕ) → Bytes file → quoted_file pol file ≡ Tempo q → TempoLine pol (report_of pol file) (tempo_words q)
+pub quoted_page : (pol : Policy) (file : List ℕ) (q : ℕ) → Bytes file → quoted_file pol file ≡ Ok q → TempoLine pol (report_of pol file) (tempo_words q)
 unfolding report_of plain_report quoted_file quote_of
 quoted_page pol file q b e = go (read_file file).outcome refl
   where
     d : Description
     d = (read_file file).description
 
-    not_tempo : (r : Refusal) (place : ℕ) → Unquoted r place ≡ Tempo q → ⊥
+    not_tempo : (r : Refusal) (place : ℕ) → Refused r place ≡ Ok q → ⊥
     not_tempo r place f = let z : ◌≡◌ {A = ℕ} 0 1 = cc in omega arith
 
     go : (o : Outcome) → (read_file file).outcome ≡ o → TempoLine pol (report_of pol file) (tempo_words q)
-    go (Refused r place) a = absurd (not_tempo r place (rw a at e))
+    go (Err x) a = absurd (not_tempo x.why x.place (rw a at e))
     go Done a =
-        let k : largest_below (all_held pol d) tempos ≡ Tempo q = rw (a, read_judged file b a) at e in
-        rw (a, k) ((tempo_line_lem pol (report_for pol d (Tempo q)) (tempo_words q)).1 (page_first pol d (Tempo q)))
+        let k : largest_below (all_held pol d) tempos ≡ Ok q = rw (a, read_judged file b a) at e in
+        rw (a, k) ((tempo_line_lem pol (report_for pol d (Ok q)) (tempo_words q)).1 (page_first pol d (Ok q)))
 
 -- what holds of the report holds of the page that the program prints for its input
 pub from_printed : (made p : Policy) (input : List ℕ) (q : ℕ) → Bytes input → TellsModel p (printed made input) → TempoLine p (printed made input) (tempo_words q) → FromPage p input (printed made input) q

@@ -14,13 +14,11 @@ use Rattle.model.specs.declared.Policy.TheVariants.{Preemptive, HoldOn}
 use Rattle.model.specs.declared.Machine.{Machine}
 use Rattle.model.specs.declared.Arrivals.{Arrivals}
 use Rattle.model.specs.declared.Ticked.{Ticked}
-use Rattle.model.specs.declared.Outcome.{Outcome}
-use Rattle.model.specs.declared.Outcome.TheVariants.{Done}
+use Rattle.model.specs.Refusals.{Outcome, Done, on_done}
 use Rattle.model.specs.declared.Refusal.TheVariants.{ShortPage}
 use Rattle.model.specs.Basics.{up_to, tab, all_n, any_n}
 use Rattle.model.specs.Delays.{spacing_of}
 use Rattle.model.specs.Graph.{run_of}
-use Rattle.model.specs.Refusals.{on_done}
 use Rattle.model.specs.File.{SameTo, Widths, filled_by, judge}
 use Rattle.model.specs.Verdicts.{on_knob}
 use Rattle.model.specs.Machine.{awake_at, used_at, waiting_at, age_at, fastest_at, again_at, late_at, set_awake, set_waiting, set_age, set_again, set_late, mark_dropped, complete, idle, unstarted, started, task_rule, absent_rule, links_rule, source_rule, lates_rule, rules_kept, lawful, fire_link, fire, arrive_one, arrive, highest_in, choose, run_task, clear_link, clear_into, end_run, age_one, age_all, keep, stepped, strangers, too_soon, judge_tick, plain_tick}

@@ -1,11 +1,11 @@
 -- The promise of the plain machine's own answers: a list of calls from the start, with nothing asked of it but its tempos. Assumes nothing.
+use Rattle.std.specs.Prelude.{Ok}
 use Prim.Native.Nat.{ℕ}
 use mathlib.Core.Path.{◌≡◌, refl}
 use mathlib.Core.List.{List, [], ◌∷◌}
 use Rattle.model.specs.declared.Description.{Description}
 use Rattle.model.specs.declared.Policy.{Policy}
 use Rattle.model.specs.declared.Machine.{Machine}
-use Rattle.model.specs.declared.Quote.TheVariants.{Tempo}
 use Rattle.model.specs.File.{Widths}
 use Rattle.model.specs.Verdicts.{quote_of}
 use Rattle.model.specs.Machine.{idle}
@@ -23,5 +23,5 @@ plain_calls pol d (c ∷ cs) m = call (refl, refl) (plain_calls pol d cs (plain_
 abbrev pub AssuredOf : Policy → Description → ℕ → List Call → Type 0
 AssuredOf pol d q cs = Assured pol d q cs (answers pol d (idle d) cs) (left pol d (idle d) cs)
 
-pub plain_assured : (pol : Policy) (d : Description) (q : ℕ) → Widths d → quote_of pol d ≡ Tempo q → (cs : List Call) → UpTo q (ticks pol d (idle d) cs) → AssuredOf pol d q cs
+pub plain_assured : (pol : Policy) (d : Description) (q : ℕ) → Widths d → quote_of pol d ≡ Ok q → (cs : List Call) → UpTo q (ticks pol d (idle d) cs) → AssuredOf pol d q cs
 plain_assured pol d q w e cs up = calls_assured pol d q cs (answers pol d (idle d) cs) (left pol d (idle d) cs) w e up (plain_calls pol d cs (idle d))

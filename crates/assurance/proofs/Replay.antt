@@ -1,4 +1,5 @@
 -- A list of calls from a record on: those that are ticks, the records between them, and that History's ticks are what they show. Assumes nothing.
+use Rattle.std.specs.Prelude.{Ok, Err}
 use Prim.Native.Nat.{ℕ, zero, suc, ◌<◌}
 use mathlib.Core.Path.{◌≡◌, refl, sym, ap, ◌∙◌}
 use mathlib.Core.Bool.{Bool, true, false}
@@ -8,8 +9,7 @@ use lib.ListN.{length, get_or}
 use Rattle.model.specs.declared.Description.{Description}
 use Rattle.model.specs.declared.Policy.{Policy}
 use Rattle.model.specs.declared.Machine.{Machine}
-use Rattle.model.specs.declared.Outcome.{Outcome}
-use Rattle.model.specs.declared.Outcome.TheVariants.{Done, Refused}
+use Rattle.model.specs.Refusals.{Outcome, Done, Refused}
 use Rattle.model.specs.declared.Refusal.TheVariants.{TooSoon, Stranger, ForeignState}
 use Rattle.model.specs.Verdicts.{judge_at}
 use Rattle.model.specs.Machine.{lawful, stepped, strangers, too_soon, judge_tick, plain_tick}
@@ -55,27 +55,27 @@ judge_passed pol d t m marks e = go (judge_at d t) refl (lawful pol d m) refl (s
     never o p q = absurd (not_both (ap is_done q) p)
 
     go : (o : Outcome) → judge_at d t ≡ o → (a : Bool) → lawful pol d m ≡ a → (b : Bool) → strangers d marks ≡ b → (c : Bool) → too_soon d t marks m ≡ c → Passed d t m marks
-    go (Refused r p) eo a ea b eb c ec = never (Refused r p) refl (rw (eo, judge_tick) at e)
-    go Done eo false ea b eb c ec = never (Refused ForeignState 0) refl (rw (eo, ea, judge_tick) at e)
-    go Done eo true ea true eb c ec = never (Refused Stranger 0) refl (rw (eo, ea, eb, judge_tick) at e)
-    go Done eo true ea false eb true ec = never (Refused TooSoon 0) refl (rw (eo, ea, eb, ec, judge_tick) at e)
-    go Done eo true ea false eb false ec = record { judged = eo; known = eb; spaced = ec }
+    go (Err x) eo a ea b eb c ec = never (Refused x.why x.place) refl (rw (eo, judge_tick) at e)
+    go (Ok tt) eo false ea b eb c ec = never (Refused ForeignState 0) refl (rw (eo, ea, judge_tick) at e)
+    go (Ok tt) eo true ea true eb c ec = never (Refused Stranger 0) refl (rw (eo, ea, eb, judge_tick) at e)
+    go (Ok tt) eo true ea false eb true ec = never (Refused TooSoon 0) refl (rw (eo, ea, eb, ec, judge_tick) at e)
+    go (Ok tt) eo true ea false eb false ec = record { judged = eo; known = eb; spaced = ec }
 
 tick_done : (pol : Policy) (d : Description) (m : Machine) (c : Call) → is_done (plain_call pol d m c).outcome ≡ true → (judge_tick pol d c.tempo m c.arrivals.marks ≡ Done) × ((plain_call pol d m c).machine ≡ stepped pol d c.tempo c.arrivals.marks c.finish m)
 unfolding plain_tick
 tick_done pol d m c e = go (judge_tick pol d c.tempo m c.arrivals.marks) refl
   where
     go : (o : Outcome) → judge_tick pol d c.tempo m c.arrivals.marks ≡ o → (judge_tick pol d c.tempo m c.arrivals.marks ≡ Done) × ((plain_call pol d m c).machine ≡ stepped pol d c.tempo c.arrivals.marks c.finish m)
-    go Done q = (q, rw (q, plain_tick) refl)
-    go (Refused r p) q = absurd (not_both (rw (q, plain_tick) at e) refl)
+    go (Ok tt) q = (q, rw (q, plain_tick) refl)
+    go (Err x) q = absurd (not_both (rw (q, plain_tick) at e) refl)
 
 pub tick_refused : (pol : Policy) (d : Description) (m : Machine) (c : Call) → is_done (plain_call pol d m c).outcome ≡ false → (plain_call pol d m c).machine ≡ m
 unfolding plain_tick
 tick_refused pol d m c e = go (judge_tick pol d c.tempo m c.arrivals.marks) refl
   where
     go : (o : Outcome) → judge_tick pol d c.tempo m c.arrivals.marks ≡ o → (plain_call pol d m c).machine ≡ m
-    go Done q = absurd (not_both refl (rw (q, plain_tick) at e))
-    go (Refused r p) q = rw (q, plain_tick) refl
+    go (Ok tt) q = absurd (not_both refl (rw (q, plain_tick) at e))
+    go (Err x) q = rw (q, plain_tick) refl
 
 -- what the calls cs show from the record m on, ks being those that are ticks
 pub record Replayed (pol : Policy) (d : Description) (m : Machine) (cs ks : List Call) : Type 0 where

@@ -4,8 +4,7 @@ use mathlib.Core.Path.{◌≡◌, refl, sym, ap}
 use mathlib.Core.Bool.{true}
 use mathlib.Core.List.{List}
 use native.Mathlib.Omega.{arith}
-use Rattle.model.specs.declared.Header.{Header}
-use Rattle.model.specs.Header.{is_tag, length_fits, header_at}
+use Rattle.model.specs.Header.{HeaderAt, is_tag, length_fits, header_at}
 use Rattle.model.specs.Field.{field_tags, taken_by, take_field, step_of, step_at}
 use Rattle.lemmas.proofs.Tests.{within}
 use Rattle.theory.proofs.FieldLaws.{tag_range, by_form}
@@ -25,6 +24,6 @@ other_length t n h k e =
     (λ q. omega arith)
     h
 
-pub header_step : (s : List ℕ) (at : ℕ) (h : Header) → header_at field_tags s at ≡ h → step_of (taken_by s h) at ≡ step_at s at
+pub header_step : (s : List ℕ) (at : ℕ) (h : HeaderAt) → header_at field_tags s at ≡ h → step_of (taken_by s h) at ≡ step_at s at
 unfolding take_field
-header_step s at h e = ap (λ (x : Header). step_of (taken_by s x) at) (sym e)
+header_step s at h e = ap (λ (x : HeaderAt). step_of (taken_by s x) at) (sym e)

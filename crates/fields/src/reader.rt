@@ -1,9 +1,8 @@
 // A reading place in the caller's bytes: the file is taken field by field from it. The functions over the place are thin: the work is done on a plain slice and an offset.
 
 ghost use Rattle.std.specs.Prelude.{◌≡◌, true, ◌+◌, ◌≤◌, length};
-ghost use Rattle.model.specs.declared.Taken.TheVariants.{Whole};
+ghost use Rattle.model.specs.Field.{Whole, field_tags, field_in, step_of, step_at};
 ghost use Rattle.model.specs.Header.{is_tag, length_fits};
-ghost use Rattle.model.specs.Field.{field_tags, field_in, step_of, step_at};
 
 use crate::{TAGS, field_in};
 use headers::header_at;

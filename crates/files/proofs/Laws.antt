@@ -6,11 +6,10 @@ use mathlib.Core.List.{List}
 use native.Mathlib.Nat.{sub-zero}
 use lib.ListN.{length}
 use Rattle.model.specs.declared.Description.{Description}
-use Rattle.model.specs.declared.Outcome.TheVariants.{Done, Refused}
+use Rattle.model.specs.Refusals.{Done, Refused, blank, on_done}
 use Rattle.model.specs.declared.Reading.{Reading}
 use Rattle.model.specs.declared.Refusal.{Refusal}
 use Rattle.model.specs.declared.Refusal.TheVariants.{TooMany}
-use Rattle.model.specs.Refusals.{blank, on_done}
 use Rattle.model.specs.File.{Widths, file_of, parse_file, last_checks, read_file, finished, refused_reading, Accepted, judge, overfull, load_sheet}
 use Rattle.theory.proofs.NumberBytes.{Bytes}
 use Rattle.theory.proofs.WellFormed.{Fielded}

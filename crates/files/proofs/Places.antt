@@ -1,4 +1,5 @@
 -- The fields from a place of the bytes on are those of the bytes that are left there. Assumes nothing.
+use Rattle.std.specs.Prelude.{Ok, Some}
 use Prim.Native.Nat.{ℕ, zero, suc, ◌+◌, ◌-◌}
 use mathlib.Core.Path.{◌≡◌, refl, ap, ◌∙◌}
 use mathlib.Core.List.{List}
@@ -10,18 +11,11 @@ use Rattle.model.specs.declared.Description.{Description}
 use Rattle.model.specs.declared.Field.{Field}
 use Rattle.model.specs.declared.Refusal.{Refusal}
 use Rattle.model.specs.declared.Refusal.TheVariants.{CutShort}
-use Rattle.model.specs.declared.Header.{Header}
-use Rattle.model.specs.declared.Header.TheVariants.{Body, Faulty, Ended}
-use Rattle.model.specs.declared.Taken.{Taken}
-use Rattle.model.specs.declared.Taken.TheVariants.{Whole, Broken, End}
+use Rattle.model.specs.Header.{HeaderAt, Body, Faulty, Ended, header_at}
+use Rattle.model.specs.Field.{Taken, Whole, Broken, End, Check, Fine, Unfit, field_tags, field_in, taken_by, take_field, check_field, passed, with_field, no_progress}
 use Rattle.model.specs.declared.Progress.{Progress}
-use Rattle.model.specs.declared.Check.{Check}
-use Rattle.model.specs.declared.Check.TheVariants.{Fine, Unfit}
-use Rattle.model.specs.declared.Outcome.TheVariants.{Done}
+use Rattle.model.specs.Refusals.{Done, blank}
 use Rattle.model.specs.declared.Reading.{Reading}
-use Rattle.model.specs.Refusals.{blank}
-use Rattle.model.specs.Header.{header_at}
-use Rattle.model.specs.Field.{field_tags, field_in, taken_by, take_field, check_field, passed, with_field, no_progress}
 use Rattle.model.specs.File.{refused_reading, parse_from, parse_file}
 use Rattle.theory.proofs.NumberBytes.{Bytes, number_left}
 use Rattle.theory.proofs.HeaderLaws.{onward, header_left}
@@ -49,8 +43,8 @@ take_left : (s : List ℕ) (a k : ℕ) → take_field s (a + k) ≡ further a (t
 unfolding take_field
 take_left s a k = ap (taken_by s) (header_left field_tags s a k) ∙ body (header_at field_tags (drop a s) k)
   where
-    body : (h : Header) → taken_by s (onward a h) ≡ further a (taken_by (drop a s) h)
-    body (Body tag b n) = λ i. Whole (field_left s a tag b n i) (add_assoc a b n i)
+    body : (h : HeaderAt) → taken_by s (onward a h) ≡ further a (taken_by (drop a s) h)
+    body (Ok (Some h)) = λ i. Whole (field_left s a h.tag h.at h.size i) (add_assoc a h.at h.size i)
     body (Faulty r) = refl
     body Ended = refl
 

@@ -1,8 +1,7 @@
 -- What a reading from a place answers, and what judging answers.
 use Rattle.std.specs.Prelude.{ℕ, List, ◌≡◌}
 use Rattle.model.specs.declared.Description.{Description}
-use Rattle.model.specs.declared.Outcome.{Outcome}
-use Rattle.model.specs.declared.Outcome.TheVariants.{Done}
+use Rattle.model.specs.Refusals.{Outcome, Done}
 use Rattle.model.specs.declared.Reading.{Reading}
 use Rattle.model.specs.File.{judge}
 use Rattle.theory.proofs.WellFormed.{WellFormed}

@@ -2,8 +2,7 @@
 #![tactic(auto)]
 
 ghost use Rattle.std.specs.Prelude.{◌≡◌};
-ghost use Rattle.model.specs.declared.Outcome.TheVariants.{Refused};
-ghost use Rattle.model.specs.Refusals.{blank};
+ghost use Rattle.model.specs.Refusals.{Refused, blank};
 ghost use Rattle.model.specs.File.{read_file, judge, load_sheet, written, page_after};
 ghost use Rattle.model.specs.File.{read_from};
 ghost use Rattle.files.specs.Answers.{JudgedOf, RecordAs, ReadAs};

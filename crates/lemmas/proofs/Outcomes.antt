@@ -2,7 +2,7 @@
 use Prim.Native.Nat.{ℕ}
 use mathlib.Core.Path.{◌≡◌}
 use native.Mathlib.Omega.{arith}
-use Rattle.model.specs.declared.Outcome.TheVariants.{Done, Refused}
+use Rattle.model.specs.Refusals.{Done, Refused}
 use Rattle.model.specs.declared.Refusal.{Refusal}
 
 pub refused_not : {A : Type 0} {r : Refusal} {place : ℕ} → Refused r place ≡ Done → A

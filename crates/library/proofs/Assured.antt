@@ -1,5 +1,6 @@
 -- What the header promises of a run: of the bytes that `bench_run` leaves, up to the number that `bench_quote` answers; and of a page, that `bench_report`
 -- leaves. On the hold-on model of those of `bench_hold_run`, `bench_hold_quote` and `bench_hold_report`. Assumes nothing.
+use Rattle.std.specs.Prelude.{Ok, Err}
 use Prim.Native.Nat.{ℕ, zero, suc, ◌+◌, ◌*◌, ◌/◌, ◌≤◌, ◌<◌}
 use mathlib.Core.Path.{◌≡◌, refl, sym, ap, ◌∙◌}
 use mathlib.Core.Bool.{Bool, true, false, cond, ◌||◌}
@@ -23,14 +24,9 @@ use Rattle.model.specs.declared.Description.{Description}
 use Rattle.model.specs.declared.Policy.{Policy}
 use Rattle.model.specs.declared.Policy.TheVariants.{Preemptive, HoldOn}
 use Rattle.model.specs.declared.Machine.{Machine}
-use Rattle.model.specs.declared.Quote.{Quote}
-use Rattle.model.specs.declared.Quote.TheVariants.{Tempo, Unquoted}
+use Rattle.model.specs.Refusals.{Quote, Refused, Outcome, Filled, Done, number_of, refusal, of_outcome, of_filled, of_quote}
 use Rattle.model.specs.declared.Refusal.{Refusal}
 use Rattle.model.specs.declared.Refusal.TheVariants.{ShortPage}
-use Rattle.model.specs.declared.Outcome.{Outcome}
-use Rattle.model.specs.declared.Filled.{Filled}
-use Rattle.model.specs.declared.Outcome.TheVariants.{Done, Refused}
-use Rattle.model.specs.Refusals.{number_of, refusal, of_outcome, of_filled, of_quote}
 use Rattle.model.specs.File.{read_file, filled_by}
 use Rattle.model.specs.Verdicts.{quoted_file}
 use Rattle.model.specs.Machine.{idle}
@@ -76,14 +72,14 @@ refusal_low : (r : Refusal) (p : ℕ) (n : ℕ) → reply (refusal r p) ≡ pos 
 refusal_low r p n e = not_both (neg_low (10000 * number_of r + p) (omega (arith, numbered r))) (ap low (reply_refused r p ∙ e))
 
 -- a quote call that answers q of 0 or more has quoted q
-pub quote_told : (x : Quote) (q : ℕ) → reply (of_quote x) ≡ pos q → x ≡ Tempo q
-quote_told (Tempo t) q e = ap Tempo (ap size (reply_done t ∙ e))
-quote_told (Unquoted r p) q e = absurd (refusal_low r p q e)
+pub quote_told : (x : Quote) (q : ℕ) → reply (of_quote x) ≡ pos q → x ≡ Ok q
+quote_told (Ok t) q e = ap Ok (ap size (reply_done t ∙ e))
+quote_told (Err x) q e = absurd (refusal_low x.why x.place q e)
 
 -- a report call that answers n of 0 or more has filled n bytes
-filled_told : (x : Filled) (n : ℕ) → reply (of_filled x) ≡ pos n → x ≡ Filled.Bytes n
-filled_told (Filled.Bytes k) n e = ap Filled.Bytes (ap size (reply_done k ∙ e))
-filled_told (Filled.Unfilled r p) n e = absurd (refusal_low r p n e)
+filled_told : (x : Filled) (n : ℕ) → reply (of_filled x) ≡ pos n → x ≡ Ok n
+filled_told (Ok k) n e = ap Ok (ap size (reply_done k ∙ e))
+filled_told (Err x) n e = absurd (refusal_low x.why x.place n e)
 
 -- the page of such a call assures what `Page.CallPaper` says of it
 pub bench_paper : (made p : Policy) (s out out' : List ℕ) (r : ℤ) (n q : ℕ) → AllBytes s → ReportReplied made s out out' r → r ≡ pos n
@@ -93,8 +89,8 @@ bench_paper made p s out out' r n q b c f =
 
 -- a run call that answers 0 is done
 run_done : (o : Outcome) → reply (of_outcome o) ≡ pos 0 → o ≡ Done
-run_done Done e = refl
-run_done (Refused r p) e = absurd (refusal_low r p 0 e)
+run_done (Ok tt) e = refl
+run_done (Err x) e = absurd (refusal_low x.why x.place 0 e)
 
 short_not : (b : Bool) → cond b (Refused ShortPage 0) (let x : Outcome = Done in x) ≡ Done → b ≡ false
 short_not true e = refused_not e
@@ -108,8 +104,8 @@ enough s calls outcomes out a e =
 
 -- the ticks of a list are its calls that are answered 0
 code_done : (o : Outcome) → is_done o ≡ true → (of_outcome o).number ≡ 0
-code_done Done e = refl
-code_done (Refused r p) e = absurd (not_both e refl)
+code_done (Ok tt) e = refl
+code_done (Err x) e = absurd (not_both e refl)
 
 CodesUpTo : ℕ → List Call → List ℕ → Type 0
 CodesUpTo q cs rs = (i : ℕ) → i < length cs → get_or rs i 0 ≡ 0 → (call_at cs i).tempo ≤ q

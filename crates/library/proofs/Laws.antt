@@ -1,4 +1,5 @@
 -- Signed replies, and the place of a refusal. Assumes nothing.
+use Rattle.std.specs.Prelude.{Ok, Err}
 use Prim.Native.Nat.{ℕ, zero, suc, ◌+◌, ◌*◌, ◌^◌, ◌≤◌, ◌<◌}
 use mathlib.Core.Path.{◌≡◌, refl, sym, ap, subst, ◌∙◌}
 use mathlib.Core.Bool.{Bool, true, false}
@@ -12,15 +13,9 @@ use mir.Val.{SFits, to_z, of_z}
 use mir.ValLaws.{to_z-of_z}
 use borrow.Author.Tests.{ne_eqb}
 use Rattle.model.specs.declared.Policy.{Policy}
-use Rattle.model.specs.declared.Filled.{Filled}
-use Rattle.model.specs.declared.Filled.TheVariants.{Bytes, Unfilled}
-use Rattle.model.specs.declared.Quote.{Quote}
-use Rattle.model.specs.declared.Quote.TheVariants.{Tempo, Unquoted}
+use Rattle.model.specs.Refusals.{Filled, Refused, Quote, Outcome, Done, number_of, accepted, refusal, on_done}
 use Rattle.model.specs.declared.Refusal.{Refusal}
 use Rattle.model.specs.declared.Refusal.TheVariants.{CutShort, StrangeTag, WrongLength, OutOfTurn, TooMany, OffScale, NoSuchEnd, NoTask, Loop, TooHeavy, OffKnob, NoTempo, ShortPage, TooSoon, Stranger, ForeignState}
-use Rattle.model.specs.declared.Outcome.{Outcome}
-use Rattle.model.specs.declared.Outcome.TheVariants.{Done, Refused}
-use Rattle.model.specs.Refusals.{number_of, accepted, refusal, on_done}
 use Rattle.model.specs.File.{read_file, fill_with, judge}
 use Rattle.model.specs.Report.{report_of, reported}
 use Rattle.model.specs.Verdicts.{quote_of, quoted_file, tempos, largest_below, all_held}
@@ -80,15 +75,15 @@ reply_done n = refl
 
 -- the place of a file's refusal
 abbrev quote_place : Quote → ℕ
-quote_place (Tempo t) = 0
-quote_place (Unquoted r p) = p
+quote_place (Ok t) = 0
+quote_place (Err x) = x.place
 
 lowest_place : (good : ℕ → Bool) (n : ℕ) → quote_place (largest_below good n) ≡ 0
 unfolding largest_below
 lowest_place good zero = refl
 lowest_place good (suc n) = go (good (200 + n)) (lowest_place good n)
   where
-    go : (b : Bool) → quote_place (largest_below good n) ≡ 0 → quote_place (elim b [ true ↦ Tempo (200 + n) | false ↦ largest_below good n ]) ≡ 0
+    go : (b : Bool) → quote_place (largest_below good n) ≡ 0 → quote_place (elim b [ true ↦ Ok (200 + n) | false ↦ largest_below good n ]) ≡ 0
     go true h = refl
     go false h = h
 
@@ -96,37 +91,37 @@ quoted_most : (pol : Policy) (s : List ℕ) → AllBytes s → quote_place (quot
 unfolding quoted_file quote_of
 quoted_most pol s b = go (read_file s).outcome refl
   where
-    go : (o : Outcome) → (read_file s).outcome ≡ o → quote_place (on_done (read_file s).outcome (on_done (judge (read_file s).description) (largest_below (all_held pol (read_file s).description) tempos) Unquoted) Unquoted) ≤ 2128
-    go Done e = rw (e, read_judged s b e) (omega (arith, lowest_place (all_held pol (read_file s).description) tempos))
-    go (Refused r p) e = rw e (rw e at (read_place s))
+    go : (o : Outcome) → (read_file s).outcome ≡ o → quote_place (on_done (read_file s).outcome (on_done (judge (read_file s).description) (largest_below (all_held pol (read_file s).description) tempos) Refused) Refused) ≤ 2128
+    go (Ok tt) e = rw (e, read_judged s b e) (omega (arith, lowest_place (all_held pol (read_file s).description) tempos))
+    go (Err x) e = rw e (rw e at (read_place s))
 
-pub quoted_place : (pol : Policy) (s : List ℕ) (q : Quote) (r : Refusal) (p : ℕ) → AllBytes s → q ≡ quoted_file pol s → q ≡ Unquoted r p → p ≤ 2128
+pub quoted_place : (pol : Policy) (s : List ℕ) (q : Quote) (r : Refusal) (p : ℕ) → AllBytes s → q ≡ quoted_file pol s → q ≡ Refused r p → p ≤ 2128
 quoted_place pol s q r p b e f =
     let k : quote_place (quoted_file pol s) ≡ p = sym (ap quote_place e) ∙ ap quote_place f in
     omega (arith, quoted_most pol s b)
 
 -- a report's length fits
-pub filled_most : (pol : Policy) (s out : List ℕ) (f : Filled) (n : ℕ) → length (report_of pol s) ≤ longest_report → f ≡ reported pol s out → f ≡ Bytes n → n ≤ longest_report
+pub filled_most : (pol : Policy) (s out : List ℕ) (f : Filled) (n : ℕ) → length (report_of pol s) ≤ longest_report → f ≡ reported pol s out → f ≡ Ok n → n ≤ longest_report
 unfolding reported fill_with
 filled_most pol s out f n h e g = go (ltb (length out) (length (report_of pol s))) refl
   where
     count : Filled → ℕ
-    count (Bytes k) = k
-    count (Unfilled r p) = 0
+    count (Ok k) = k
+    count (Err x) = 0
 
     go : (b : Bool) → ltb (length out) (length (report_of pol s)) ≡ b → n ≤ longest_report
-    go true q = let e' : f ≡ Unfilled ShortPage 0 = e ∙ rw q refl in let k : 0 ≡ n = sym (ap count e') ∙ ap count g in omega arith
-    go false q = let e' : f ≡ Bytes (length (report_of pol s)) = e ∙ rw q refl in let k : length (report_of pol s) ≡ n = sym (ap count e') ∙ ap count g in omega arith
+    go true q = let e' : f ≡ Refused ShortPage 0 = e ∙ rw q refl in let k : 0 ≡ n = sym (ap count e') ∙ ap count g in omega arith
+    go false q = let e' : f ≡ Ok (length (report_of pol s)) = e ∙ rw q refl in let k : length (report_of pol s) ≡ n = sym (ap count e') ∙ ap count g in omega arith
 
 -- a report is refused at place 0
-pub filled_place : (pol : Policy) (s out : List ℕ) (f : Filled) (r : Refusal) (p : ℕ) → f ≡ reported pol s out → f ≡ Unfilled r p → p ≤ 2128
+pub filled_place : (pol : Policy) (s out : List ℕ) (f : Filled) (r : Refusal) (p : ℕ) → f ≡ reported pol s out → f ≡ Refused r p → p ≤ 2128
 unfolding reported fill_with
 filled_place pol s out f r p e g = go (ltb (length out) (length (report_of pol s))) refl
   where
     place : Filled → ℕ
-    place (Bytes k) = 0
-    place (Unfilled r p) = p
+    place (Ok k) = 0
+    place (Err x) = x.place
 
     go : (b : Bool) → ltb (length out) (length (report_of pol s)) ≡ b → p ≤ 2128
-    go true q = let e' : f ≡ Unfilled ShortPage 0 = e ∙ rw q refl in let k : 0 ≡ p = sym (ap place e') ∙ ap place g in omega arith
-    go false q = let e' : f ≡ Bytes (length (report_of pol s)) = e ∙ rw q refl in let k : 0 ≡ p = sym (ap place e') ∙ ap place g in omega arith
+    go true q = let e' : f ≡ Refused ShortPage 0 = e ∙ rw q refl in let k : 0 ≡ p = sym (ap place e') ∙ ap place g in omega arith
+    go false q = let e' : f ≡ Ok (length (report_of pol s)) = e ∙ rw q refl in let k : 0 ≡ p = sym (ap place e') ∙ ap place g in omega arith

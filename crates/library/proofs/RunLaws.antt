@@ -15,8 +15,7 @@ use Rattle.model.specs.declared.Reading.{Reading}
 use Rattle.model.specs.declared.Ticked.{Ticked}
 use Rattle.model.specs.declared.Refusal.{Refusal}
 use Rattle.model.specs.declared.Refusal.TheVariants.{ShortPage}
-use Rattle.model.specs.declared.Outcome.TheVariants.{Done, Refused}
-use Rattle.model.specs.Refusals.{refusal, of_outcome}
+use Rattle.model.specs.Refusals.{Done, Refused, refusal, of_outcome}
 use Rattle.model.specs.File.{read_file, judge, filled_by}
 use Rattle.model.specs.Machine.{idle}
 use Rattle.model.specs.History.{left}

@@ -5,9 +5,7 @@ use Rattle.model.specs.declared.Policy.{Policy}
 use Rattle.model.specs.declared.Machine.{Machine}
 use Rattle.model.specs.declared.Ticked.{Ticked}
 use Rattle.model.specs.declared.Refusal.TheVariants.{OffKnob, ShortPage}
-use Rattle.model.specs.declared.Outcome.{Outcome}
-use Rattle.model.specs.declared.Outcome.TheVariants.{Done, Refused}
-use Rattle.model.specs.Refusals.{Numbered, accepted, refusal, of_outcome, of_filled, of_quote, on_done}
+use Rattle.model.specs.Refusals.{Outcome, Done, Refused, Numbered, accepted, refusal, of_outcome, of_filled, of_quote, on_done}
 use Rattle.model.specs.Header.{number_in}
 use Rattle.model.specs.File.{read_file, filled_by}
 use Rattle.model.specs.Verdicts.{on_knob, quoted_file}

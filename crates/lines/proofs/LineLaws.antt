@@ -1,4 +1,5 @@
 -- The lines of a report as the parts that are written one after the other, and their lengths. Assumes nothing.
+use Rattle.std.specs.Prelude.{Ok}
 use Prim.Native.Nat.{ℕ, ◌+◌, ◌/◌, ◌%◌}
 use mathlib.Core.Path.{◌≡◌, refl, ap}
 use mathlib.Core.List.{List, [], ◌∷◌, ◌++◌, append_assoc}
@@ -6,7 +7,6 @@ use native.Mathlib.Numerals.{add-one}
 use native.Mathlib.Omega.{arith}
 use lib.ListN.{length, length-append}
 use Rattle.model.specs.declared.Link.{Link}
-use Rattle.model.specs.declared.Quote.TheVariants.{Tempo}
 use Rattle.model.specs.declared.Refusal.{Refusal}
 use Rattle.model.specs.declared.Verdict.{Verdict}
 use Rattle.model.specs.declared.Verdict.TheVariants.{Held, Doubt}
@@ -29,7 +29,7 @@ pub tempo_text-parts : (t : ℕ) → tempo_text t ≡ decimal (t / 10) ++ tenth_
 unfolding tempo_text
 tempo_text-parts t = rw (decimal_one (t % 10) (omega arith))
 
-pub tempo_parts : (t : ℕ) → tempo_line (Tempo t) ≡ whole_text t ++ (tenth_text t ++ feed)
+pub tempo_parts : (t : ℕ) → tempo_line (Ok t) ≡ whole_text t ++ (tenth_text t ++ feed)
 unfolding tempo_line tempo_text
 tempo_parts t = rw (decimal_one (t % 10) (omega arith)) (simp append_assoc)
 
@@ -73,7 +73,7 @@ pub refused_parts : (r : Refusal) (x place : ℕ) → x ≡ number_of r → refu
 unfolding refused_line
 refused_parts r x place e = rw e (simp append_assoc)
 
-pub tempo_length : (t : ℕ) → length (tempo_line (Tempo t)) ≡ 9 + length (decimal (t / 10))
+pub tempo_length : (t : ℕ) → length (tempo_line (Ok t)) ≡ 9 + length (decimal (t / 10))
 tempo_length t =
     rw (tempo_parts t) (simp length-append (omega (arith, ap length (decimal_one (t % 10) (omega arith)))))
 

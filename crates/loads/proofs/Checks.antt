@@ -1,4 +1,5 @@
 -- The four ways that the last checks end, the loads of a description that passes, and what a caller reads off. Assumes nothing.
+use Rattle.std.specs.Prelude.{Ok, Err}
 use Prim.Native.Nat.{ℕ, suc, ◌-◌, ◌<◌}
 use mathlib.Core.Path.{◌≡◌, refl, sym, ap, ◌∙◌}
 use mathlib.Core.Bool.{true, false}
@@ -11,8 +12,7 @@ use Rattle.model.specs.declared.Description.{Description}
 use Rattle.model.specs.declared.Refusal.{Refusal}
 use Rattle.model.specs.declared.Row.{Row}
 use Rattle.model.specs.declared.Refusal.TheVariants.{NoTask, Loop, TooHeavy}
-use Rattle.model.specs.declared.Outcome.{Outcome}
-use Rattle.model.specs.declared.Outcome.TheVariants.{Done, Refused}
+use Rattle.model.specs.Refusals.{Outcome, Done, Refused}
 use Rattle.model.specs.Graph.{system, cyclic}
 use Rattle.model.specs.Basics.{tab}
 use Rattle.model.specs.Loads.{load, too_heavy, sheet, no_row}
@@ -119,8 +119,8 @@ unfolding checked_loads
 checked_outcome d = go (last_checks d) refl
   where
     go : (o : Outcome) → last_checks d ≡ o → (checked_loads d).outcome ≡ last_checks d
-    go Done e = rw e
-    go (Refused r place) e = rw e
+    go (Ok tt) e = rw e
+    go (Err x) e = rw e
 
 pub checked_rows : (d : Description) → last_checks d ≡ Done → (checked_loads d).rows ≡ sheet (system d)
 unfolding checked_loads

@@ -1,11 +1,10 @@
 -- The tables of loads, and what each stands for.
 use Rattle.std.specs.Prelude.{ℕ, suc, ◌+◌, ◌*◌, ◌≤◌, ◌<◌, ◌≡◌, Bool, List, [], length, get_or, ltb}
 use Rattle.model.specs.declared.Description.{Description}
-use Rattle.model.specs.declared.Outcome.TheVariants.{Done}
+use Rattle.model.specs.Refusals.{Done, on_done}
 use Rattle.model.specs.declared.LoadSheet.{LoadSheet}
 use Rattle.model.specs.declared.Row.{Row}
 use Rattle.model.specs.Basics.{any_n, given}
-use Rattle.model.specs.Refusals.{on_done}
 use Rattle.model.specs.Graph.{system}
 use Rattle.model.specs.Loads.{load, sheet, no_row}
 use Rattle.model.specs.File.{last_checks}

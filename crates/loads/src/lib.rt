@@ -9,7 +9,7 @@ mod rows;
 
 ghost use Rattle.std.specs.Prelude.{◌≡◌};
 ghost use Rattle.theory.proofs.WellFormed.{Fielded};
-ghost use Rattle.model.specs.declared.Outcome.TheVariants.{Refused};
+ghost use Rattle.model.specs.Refusals.{Refused};
 ghost use Rattle.loads.specs.Tables.{WorkedOf, RowsAre, checked_loads};
 
 // How the last checks end, and if they pass, for each node the tasks it brings in and for each task its work: all that loads are sums of.

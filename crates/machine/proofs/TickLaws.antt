@@ -12,7 +12,7 @@ use Rattle.model.specs.declared.Description.{Description}
 use Rattle.model.specs.declared.Policy.{Policy}
 use Rattle.model.specs.declared.Machine.{Machine}
 use Rattle.model.specs.declared.Ticked.{Ticked}
-use Rattle.model.specs.declared.Outcome.{Outcome}
+use Rattle.model.specs.Refusals.{Outcome}
 use Rattle.model.specs.Machine.{fastest_at, rules_kept, alone_rule}
 use Rattle.lemmas.proofs.Tests.{and_left}
 use Rattle.lemmas.proofs.Table.{is_tab}

@@ -5,11 +5,9 @@ use Rattle.model.specs.declared.Policy.{Policy}
 use Rattle.model.specs.declared.Machine.{Machine}
 use Rattle.model.specs.declared.Arrivals.{Arrivals}
 use Rattle.model.specs.declared.Ticked.{Ticked}
-use Rattle.model.specs.declared.Outcome.{Outcome}
-use Rattle.model.specs.declared.Outcome.TheVariants.{Done, Refused}
+use Rattle.model.specs.Refusals.{Outcome, Done, Refused, no_source}
 use Rattle.model.specs.declared.Refusal.{Refusal}
 use Rattle.model.specs.declared.Refusal.TheVariants.{Stranger, TooSoon}
-use Rattle.model.specs.Refusals.{no_source}
 use Rattle.model.specs.File.{judge}
 use Rattle.model.specs.Verdicts.{judge_at}
 use Rattle.model.specs.Machine.{fastest_at, arrive, age_all, kept_after, rules_kept, lawful, strangers, too_soon, plain_tick}

@@ -1,7 +1,7 @@
 // One call of the tick machine on words of bits: the refusals of its arrivals, and the four steps.
 
 ghost use Rattle.std.specs.Prelude.{◌≡◌, ◌+◌, ◌≤◌, ◌<◌, ◌/◌, ◌^◌, get_or, ltb};
-ghost use Rattle.model.specs.declared.Outcome.TheVariants.{Done, Refused};
+ghost use Rattle.model.specs.Refusals.{Done, Refused};
 ghost use Rattle.steps.specs.Steps.{Workable};
 ghost use Rattle.machine.specs.Calls.{PlanOf, TimedAt, due_by, Timed, SoonIs, Hearing, Hears, RunsOn, Going, Advances};
 

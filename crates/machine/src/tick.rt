@@ -1,7 +1,7 @@
 // The tick call on a record by value, once its description is judged.
 
 ghost use Rattle.std.specs.Prelude.{◌≡◌};
-ghost use Rattle.model.specs.declared.Outcome.TheVariants.{Refused};
+ghost use Rattle.model.specs.Refusals.{Refused};
 ghost use Rattle.model.specs.Run.{marks_in};
 ghost use Rattle.arrivals.specs.Parts.{Sourced};
 ghost use Rattle.machine.specs.Calls.{Accepted, TickIs};

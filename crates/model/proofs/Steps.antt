@@ -3,9 +3,8 @@ use Prim.Native.Nat.{ℕ}
 use mathlib.Core.Path.{◌≡◌, refl}
 use Rattle.model.specs.declared.Field.{Field}
 use Rattle.model.specs.declared.Refusal.{Refusal}
-use Rattle.model.specs.declared.Taken.TheVariants.{Whole, Broken, End}
+use Rattle.model.specs.Field.{Whole, Broken, End, tag_of, step_of, of_found}
 use Rattle.model.specs.Refusals.{accepted, refusal}
-use Rattle.model.specs.Field.{tag_of, step_of, of_found}
 
 -- a whole field is passed
 pub whole_passed : (f : Field) (next at : ℕ) → (of_found (step_of (Whole f next) at).found ≡ accepted (tag_of f)) × ((step_of (Whole f next) at).at ≡ next)

@@ -1,23 +1,17 @@
 -- "The description file": one field, its bytes, its reading, and whether it may stand where it does.
-use Rattle.std.specs.Prelude.{ℕ, ◌+◌, ◌-◌, Bool, true, cond, ◌&&◌, ◌||◌, not, List, [], ◌∷◌, ◌++◌, get_or, set, leb, ltb, eqb}
+use Rattle.std.specs.Prelude.{ℕ, Option, Some, None, Result, Ok, Err, ◌+◌, ◌-◌, Bool, true, cond, ◌&&◌, ◌||◌, not, List, [], ◌∷◌, ◌++◌, get_or, set, leb, ltb, eqb}
 use Rattle.model.specs.declared.Source.{Source}
 use Rattle.model.specs.declared.Source.TheVariants.{Fixed, Paced, Swung}
 use Rattle.model.specs.declared.Description.{Description}
 use Rattle.model.specs.declared.Field.{Field}
 use Rattle.model.specs.declared.Field.TheVariants.{OfTask, OfSource, OfLink}
 use Rattle.model.specs.declared.Refusal.TheVariants.{OutOfTurn, TooMany, OffScale, NoSuchEnd}
-use Rattle.model.specs.declared.Header.{Header}
-use Rattle.model.specs.declared.Header.TheVariants.{Body, Faulty, Ended}
-use Rattle.model.specs.declared.Taken.{Taken}
-use Rattle.model.specs.declared.Taken.TheVariants.{Whole, Broken, End}
-use Rattle.model.specs.declared.Found.{Found}
-use Rattle.model.specs.declared.Found.TheVariants.{Read, Unread, Nothing}
+use Rattle.model.specs.Header.{HeaderAt, Body, Faulty, Ended, bytes_of, number_in, header_at}
+use Rattle.model.specs.declared.Refusal.{Refusal}
+use Rattle.model.specs.declared.Rejection.{Rejection}
 use Rattle.model.specs.declared.Step.{Step}
 use Rattle.model.specs.declared.Progress.{Progress}
-use Rattle.model.specs.declared.Check.{Check}
-use Rattle.model.specs.declared.Check.TheVariants.{Fine, Unfit}
-use Rattle.model.specs.Header.{bytes_of, number_in, header_at}
-use Rattle.model.specs.Refusals.{Numbered, accepted, refusal, no_link, no_source}
+use Rattle.model.specs.Refusals.{Numbered, Refused, accepted, refusal, no_link, no_source}
 
 -- the table of fields: tag, length of the body, body. "A paced source may have a length of 3, the third byte being the swing in percent;
 -- straight time keeps length 2" (C-11)
@@ -62,11 +56,37 @@ field_in s tag b n =
     (cond (eqb tag 3) (OfSource (paced_in s b n))
     (OfLink (record { from = get_or s b 0; to = get_or s (b + 1) 0; critical = get_or s (b + 2) 0 }))))
 
+-- what stands at a reading place: a whole field and where the next one begins, a refusal, or the end of the file
+pub data Taken : Type 0 where
+  Whole : Field → ℕ → Taken
+  Broken : Refusal → Taken
+  End : Taken
+
+-- what a reader finds at its place: a whole field, a refusal with the offset of the field's tag, or nothing at the end of the file
+abbrev pub Found : Type 0
+Found = Result (Option Field) Rejection
+
+pattern abbrev pub Read : Field → Found
+Read f = Ok (Some f)
+
+pattern abbrev pub Nothing : Found
+Nothing = Ok None
+
+-- whether a whole field may stand where it does
+abbrev pub Check : Type 0
+Check = Result (Unit {0}) Refusal
+
+pattern abbrev pub Fine : Check
+Fine = Ok tt
+
+pattern abbrev pub Unfit : Refusal → Check
+Unfit r = Err r
+
 -- the field at a reading place: its header by that table, then its body
-abbrev pub taken_by : List ℕ → Header → Taken
-taken_by s (Body tag b n) = Whole (field_in s tag b n) (b + n)
-taken_by s (Faulty r) = Broken r
-taken_by s Ended = End
+abbrev pub taken_by : List ℕ → HeaderAt → Taken
+taken_by s (Ok (Some h)) = Whole (field_in s h.tag h.at h.size) (h.at + h.size)
+taken_by s (Err r) = Broken r
+taken_by s (Ok None) = End
 
 unfoldable pub take_field : List ℕ → ℕ → Taken
 take_field s at = taken_by s (header_at field_tags s at)
@@ -74,7 +94,7 @@ take_field s at = taken_by s (header_at field_tags s at)
 -- one step from a reading place: past a whole field; a refused one, with "the offset of the field's tag", and the end leave the place where it is
 abbrev pub step_of : Taken → ℕ → Step
 step_of (Whole f next) at = record { found = Read f; at = next }
-step_of (Broken r) at = record { found = Unread r at; at = at }
+step_of (Broken r) at = record { found = Refused r at; at = at }
 step_of End at = record { found = Nothing; at = at }
 
 abbrev pub step_at : List ℕ → ℕ → Step
@@ -82,9 +102,9 @@ step_at s at = step_of (take_field s at) at
 
 -- what a reader finds, in document 01's numbers: the tag of a field, or a refusal with its place; at the end 0, which is no tag
 abbrev pub of_found : Found → Numbered
-of_found (Read f) = accepted (tag_of f)
-of_found (Unread r place) = refusal r place
-of_found Nothing = accepted 0
+of_found (Ok (Some f)) = accepted (tag_of f)
+of_found (Err x) = refusal x.why x.place
+of_found (Ok None) = accepted 0
 
 -- "Tasks come first, then sources of both kinds, then links"; "links rise strictly by from, then by to"
 abbrev pub in_turn : Progress → Field → Bool

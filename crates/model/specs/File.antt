@@ -1,24 +1,17 @@
 -- "The description file" as a whole: its bytes, its reading, acceptance, and the judging of a record.
-use Rattle.std.specs.Prelude.{ℕ, zero, suc, ◌+◌, ◌-◌, ◌^◌, ◌<◌, Bool, cond, ◌||◌, List, ◌++◌, ◌≡◌, length, get_or, take, drop, replicate, eqb, ltb}
+use Rattle.std.specs.Prelude.{ℕ, zero, suc, ◌+◌, ◌-◌, ◌^◌, ◌<◌, Bool, cond, ◌||◌, List, ◌++◌, ◌≡◌, length, get_or, take, drop, replicate, eqb, ltb, Ok, Err}
 use Rattle.model.specs.declared.Source.{Source}
 use Rattle.model.specs.declared.Source.TheVariants.{Fixed, Paced, Swung}
 use Rattle.model.specs.declared.Description.{Description}
 use Rattle.model.specs.declared.Field.{Field}
 use Rattle.model.specs.declared.Refusal.{Refusal}
 use Rattle.model.specs.declared.Refusal.TheVariants.{CutShort, TooMany, NoTask, Loop, TooHeavy, ShortPage}
-use Rattle.model.specs.declared.Taken.{Taken}
-use Rattle.model.specs.declared.Taken.TheVariants.{Whole, Broken, End}
+use Rattle.model.specs.Field.{Taken, Whole, Broken, End, Fine, Unfit, field_bytes, take_field, check_field, with_field, passed, no_progress, field_of, field_count}
 use Rattle.model.specs.declared.Progress.{Progress}
-use Rattle.model.specs.declared.Check.TheVariants.{Fine, Unfit}
-use Rattle.model.specs.declared.Outcome.{Outcome}
-use Rattle.model.specs.declared.Outcome.TheVariants.{Done, Refused}
+use Rattle.model.specs.Refusals.{Outcome, Done, Refused, Filled, blank, no_link, no_source, on_done}
 use Rattle.model.specs.declared.Reading.{Reading}
-use Rattle.model.specs.declared.Filled.{Filled}
-use Rattle.model.specs.declared.Filled.TheVariants.{Bytes, Unfilled}
 use Rattle.model.specs.declared.LoadSheet.{LoadSheet}
 use Rattle.model.specs.Basics.{joined}
-use Rattle.model.specs.Refusals.{blank, no_link, no_source, on_done}
-use Rattle.model.specs.Field.{field_bytes, take_field, check_field, with_field, passed, no_progress, field_of, field_count}
 use Rattle.model.specs.Graph.{system, cyclic}
 use Rattle.model.specs.Loads.{too_heavy, sheet, no_row}
 
@@ -51,8 +44,8 @@ parse_from zero s at p d = refused_reading CutShort at
 parse_from (suc n) s at p d =
     on_taken (take_field s at)
     (λ f next. elim (check_field p f) [
-      | Fine ↦ parse_from n s next (passed p f) (with_field d f)
-      | Unfit r ↦ refused_reading r at
+      | Ok x ↦ parse_from n s next (passed p f) (with_field d f)
+      | Err r ↦ refused_reading r at
     ])
     (λ r. refused_reading r at)
     (record { outcome = Done; description = d })
@@ -115,14 +108,14 @@ pub record SameTo (d e : Description) : Type 0 where
 
 -- "short page: a lent buffer is shorter than the file or report it is to take"; "only the bytes of that file or report are filled"
 unfoldable pub fill_with : List ℕ → List ℕ → Filled
-fill_with text buffer = cond (ltb (length buffer) (length text)) (Unfilled ShortPage 0) (Bytes (length text))
+fill_with text buffer = cond (ltb (length buffer) (length text)) (Refused ShortPage 0) (Ok (length text))
 
 unfoldable pub filled_by : List ℕ → List ℕ → List ℕ
 filled_by text buffer = cond (ltb (length buffer) (length text)) buffer (text ++ drop (length text) buffer)
 
 -- writing: the answer, and the buffer as it is left; "a refusal changes no byte of a lent buffer"
 unfoldable pub written : Description → List ℕ → Filled
-written d buffer = on_done (judge d) (fill_with (file_of d) buffer) Unfilled
+written d buffer = on_done (judge d) (fill_with (file_of d) buffer) Refused
 
 unfoldable pub page_after : Description → List ℕ → List ℕ
 page_after d buffer = on_done (judge d) (filled_by (file_of d) buffer) (λ r place. buffer)

@@ -1,12 +1,11 @@
 -- A list of tick calls, the plain machine beside it, and what its ticks show: firings, runs, events, serves, drops and waits.
-use Rattle.std.specs.Prelude.{ℕ, zero, suc, ◌+◌, ◌-◌, ◌<◌, Bool, true, false, ◌||◌, ◌&&◌, not, cond, List, [], ◌∷◌, ◌≡◌, get_or, length, ltb, eqb}
+use Rattle.std.specs.Prelude.{ℕ, zero, suc, ◌+◌, ◌-◌, ◌<◌, Bool, true, false, ◌||◌, ◌&&◌, not, cond, List, [], ◌∷◌, ◌≡◌, get_or, length, ltb, eqb, Ok, Err}
 use Rattle.model.specs.declared.Description.{Description}
 use Rattle.model.specs.declared.Policy.{Policy}
 use Rattle.model.specs.declared.Machine.{Machine}
 use Rattle.model.specs.declared.Arrivals.{Arrivals}
 use Rattle.model.specs.declared.Ticked.{Ticked}
-use Rattle.model.specs.declared.Outcome.{Outcome}
-use Rattle.model.specs.declared.Outcome.TheVariants.{Done, Refused}
+use Rattle.model.specs.Refusals.{Outcome, Done, Refused}
 use Rattle.model.specs.Graph.{run_of}
 use Rattle.model.specs.Machine.{idle, plain_tick, arrive, choose, used_at}
 
@@ -50,8 +49,8 @@ observe p d m c =
 
 -- "a refused call is no tick"
 abbrev pub is_done : Outcome → Bool
-is_done Done = true
-is_done (Refused r place) = false
+is_done (Ok tt) = true
+is_done (Err x) = false
 
 unfoldable pub ticks : Policy → Description → Machine → List Call → List Tick
 ticks p d m [] = []

@@ -5,14 +5,12 @@ use Rattle.model.specs.declared.Description.{Description}
 use Rattle.model.specs.declared.Machine.{Machine}
 use Rattle.model.specs.declared.Arrivals.{Arrivals}
 use Rattle.model.specs.declared.Ticked.{Ticked}
-use Rattle.model.specs.declared.Outcome.{Outcome}
-use Rattle.model.specs.declared.Outcome.TheVariants.{Done, Refused}
+use Rattle.model.specs.Refusals.{Outcome, Done, Refused, on_done}
 use Rattle.model.specs.declared.Refusal.{Refusal}
 use Rattle.model.specs.declared.Refusal.TheVariants.{TooSoon, Stranger, ForeignState}
 use Rattle.model.specs.declared.Policy.{Policy}
 use Rattle.model.specs.declared.Policy.TheVariants.{Preemptive, HoldOn}
 use Rattle.model.specs.Basics.{sum_n, up_to, tab, all_n, any_n, unset, given}
-use Rattle.model.specs.Refusals.{on_done}
 use Rattle.model.specs.File.{judge}
 use Rattle.model.specs.Graph.{link_at, run_of}
 use Rattle.model.specs.Delays.{spacing_of}

@@ -1,14 +1,12 @@
 -- What the printed page alone assures: its lines, the words of the two lines that a dealer reads, and the promise that rests on them.
-use Rattle.std.specs.Prelude.{ℕ, suc, ◌-◌, ◌≤◌, ◌<◌, true, false, List, [], ◌∷◌, ◌++◌, ◌≡◌, ◌↔◌, length, get_or, take, eqb}
+use Rattle.std.specs.Prelude.{ℕ, suc, ◌-◌, ◌≤◌, ◌<◌, true, false, List, [], ◌∷◌, ◌++◌, ◌≡◌, ◌↔◌, length, get_or, take, eqb, Ok}
 use Rattle.model.specs.declared.Description.{Description}
 use Rattle.model.specs.declared.Policy.{Policy}
 use Rattle.model.specs.declared.Policy.TheVariants.{Preemptive, HoldOn}
 use Rattle.model.specs.declared.Machine.{Machine}
 use Rattle.model.specs.declared.Ticked.{Ticked}
-use Rattle.model.specs.declared.Outcome.TheVariants.{Done}
-use Rattle.model.specs.declared.Filled.{Filled}
+use Rattle.model.specs.Refusals.{Done, Filled}
 use Rattle.model.specs.declared.Verdict.TheVariants.{Held}
-use Rattle.model.specs.declared.Quote.TheVariants.{Tempo}
 use Rattle.model.specs.Graph.{link_at}
 use Rattle.model.specs.File.{read_file}
 use Rattle.model.specs.Delays.{spacing_of}
@@ -76,7 +74,7 @@ pub record HeldLine (p : Policy) (d : Description) (q l i j D M : ℕ) : Type 0 
 -- what a page assures that has the tempo q
 pub record FromPage (p : Policy) (file page : List ℕ) (q : ℕ) : Type 0 where
   pub accepted : (read_file file).outcome ≡ Done
-  pub quoted : quoted_file p file ≡ Tempo q
+  pub quoted : quoted_file p file ≡ Ok q
   pub low : 200 ≤ q
   pub high : q ≤ 3000
   -- the promise, however the knob moves up to q: of the record that the start call answers and every list of calls on it
@@ -98,5 +96,5 @@ Paper = (made p : Policy) (file : List ℕ) (q : ℕ) → ((i : ℕ) → get_or 
 -- the same of what a report call leaves at the front of a lent buffer
 abbrev pub CallPaper : Type 0
 CallPaper = (made p : Policy) (file buffer buffer' : List ℕ) (r : Filled) (n q : ℕ) → ((i : ℕ) → get_or file i 0 < 256)
-    → ReportMeets made file buffer r buffer' → r ≡ Filled.Bytes n
+    → ReportMeets made file buffer r buffer' → r ≡ Ok n
     → TellsModel p (take n buffer') → TempoLine p (take n buffer') (tempo_words q) → FromPage p file (take n buffer') q

@@ -1,13 +1,12 @@
 -- What is assured of a list of tick calls while the knob moves, as one type, and demand 3 of document 01, which is its case of one tempo. Read it beside
 -- C-13 of document 02 and the paragraph of document 01 that begins "Demand 3 is a single claim".
-use Rattle.std.specs.Prelude.{ℕ, ◌≤◌, ◌<◌, Bool, true, ◌&&◌, List, [], ◌∷◌, ◌≡◌, ◌↔◌, length, eqb}
+use Rattle.std.specs.Prelude.{ℕ, ◌≤◌, ◌<◌, Bool, true, ◌&&◌, List, [], ◌∷◌, ◌≡◌, ◌↔◌, length, eqb, Ok}
 use Rattle.model.specs.declared.Description.{Description}
 use Rattle.model.specs.declared.Policy.{Policy}
 use Rattle.model.specs.declared.Machine.{Machine}
 use Rattle.model.specs.declared.Arrivals.{Arrivals}
-use Rattle.model.specs.declared.Outcome.{Outcome}
+use Rattle.model.specs.Refusals.{Outcome}
 use Rattle.model.specs.declared.Ticked.{Ticked}
-use Rattle.model.specs.declared.Quote.TheVariants.{Tempo}
 use Rattle.model.specs.Graph.{link_at}
 use Rattle.model.specs.File.{Widths}
 use Rattle.model.specs.Verdicts.{quote_of, verdict_at, delay_in}
@@ -53,7 +52,7 @@ pub record Assured (p : Policy) (d : Description) (q : ℕ) (cs : List Call) (rs
 -- and every list of calls on it, however the knob moves up to the quote; of either model, with its own quote and its own machine
 abbrev pub Promise : Type 0
 Promise = (p : Policy) (d : Description) (q : ℕ) (s : Ticked) (cs : List Call) (rs : List Ticked) (m : Machine)
-    → Widths d → quote_of p d ≡ Tempo q → StartMeets d s → Calls p d s.machine cs rs m → UpTo q (history p d cs) → Assured p d q cs rs m
+    → Widths d → quote_of p d ≡ Ok q → StartMeets d s → Calls p d s.machine cs rs m → UpTo q (history p d cs) → Assured p d q cs rs m
 
 -- every call of a list is at tempo t
 unfoldable pub at_tempo : ℕ → List Call → Bool
@@ -64,4 +63,4 @@ at_tempo t (c ∷ cs) = eqb c.tempo t && at_tempo t cs
 -- On the hold-on model it is what "a buyer of this box relies on": "no critical loss, no longer wait, at any one tempo up to its quote" (C-14)
 abbrev pub Demand3 : Type 0
 Demand3 = (p : Policy) (d : Description) (q t : ℕ) (s : Ticked) (cs : List Call) (rs : List Ticked) (m : Machine)
-    → Widths d → quote_of p d ≡ Tempo q → t ≤ q → at_tempo t cs ≡ true → StartMeets d s → Calls p d s.machine cs rs m → Assured p d q cs rs m
+    → Widths d → quote_of p d ≡ Ok q → t ≤ q → at_tempo t cs ≡ true → StartMeets d s → Calls p d s.machine cs rs m → Assured p d q cs rs m

@@ -1,18 +1,13 @@
 -- "Table of refused work": the number of each refusal, answers in numbers, and what stands beside a refusal.
-use Rattle.std.specs.Prelude.{ℕ, replicate}
+use Rattle.std.specs.Prelude.{ℕ, Result, Ok, Err, replicate}
 use Rattle.model.specs.declared.Source.TheVariants.{Fixed}
 use Rattle.model.specs.declared.SourceSlot.{SourceSlot}
 use Rattle.model.specs.declared.Link.{Link}
 use Rattle.model.specs.declared.Description.{Description}
 use Rattle.model.specs.declared.Refusal.{Refusal}
 use Rattle.model.specs.declared.Refusal.TheVariants.{CutShort, StrangeTag, WrongLength, OutOfTurn, TooMany, OffScale, NoSuchEnd, NoTask, Loop, TooHeavy, OffKnob, NoTempo, ShortPage, TooSoon, Stranger, ForeignState}
-use Rattle.model.specs.declared.Outcome.{Outcome}
-use Rattle.model.specs.declared.Outcome.TheVariants.{Done, Refused}
+use Rattle.model.specs.declared.Rejection.{Rejection}
 use Rattle.model.specs.declared.Reading.{Reading}
-use Rattle.model.specs.declared.Filled.{Filled}
-use Rattle.model.specs.declared.Filled.TheVariants.{Bytes, Unfilled}
-use Rattle.model.specs.declared.Quote.{Quote}
-use Rattle.model.specs.declared.Quote.TheVariants.{Tempo, Unquoted}
 
 -- the number that document 01 gives to each refusal
 abbrev pub number_of : Refusal → ℕ
@@ -33,6 +28,22 @@ number_of TooSoon = 14
 number_of Stranger = 15
 number_of ForeignState = 16
 
+-- how a call ends: the work done, or a refusal with its place; the bytes that a call filled, and the tempo quoted, or a refusal likewise
+abbrev pub Outcome : Type 0
+Outcome = Result (Unit {0}) Rejection
+
+abbrev pub Filled : Type 0
+Filled = Result ℕ Rejection
+
+abbrev pub Quote : Type 0
+Quote = Result ℕ Rejection
+
+pattern abbrev pub Done : Outcome
+Done = Ok tt
+
+abbrev pub Refused : {A : Type 0} → Refusal → ℕ → Result A Rejection
+Refused r place = Err (record { why = r; place = place })
+
 -- an answer in document 01's numbers: 0 and its value where the work is done, or else the refusal's number and its place
 pub record Numbered : Type 0 where
   pub number : ℕ
@@ -46,24 +57,24 @@ refusal r place = record { number = number_of r; value = place }
 
 -- the end of a call; the bytes that a call filled; the tempo quoted; a reading by its end
 abbrev pub of_outcome : Outcome → Numbered
-of_outcome Done = accepted 0
-of_outcome (Refused r place) = refusal r place
+of_outcome (Ok tt) = accepted 0
+of_outcome (Err x) = refusal x.why x.place
 
 abbrev pub of_filled : Filled → Numbered
-of_filled (Bytes n) = accepted n
-of_filled (Unfilled r place) = refusal r place
+of_filled (Ok n) = accepted n
+of_filled (Err x) = refusal x.why x.place
 
 abbrev pub of_quote : Quote → Numbered
-of_quote (Tempo t) = accepted t
-of_quote (Unquoted r place) = refusal r place
+of_quote (Ok t) = accepted t
+of_quote (Err x) = refusal x.why x.place
 
 abbrev pub of_reading : Reading → Numbered
 of_reading r = of_outcome r.outcome
 
 -- what follows work done, or else the refusal handed on
 abbrev pub on_done : {A : Type 0} → Outcome → A → (Refusal → ℕ → A) → A
-on_done Done a f = a
-on_done (Refused r place) a f = f r place
+on_done (Ok tt) a f = a
+on_done (Err x) a f = f x.why x.place
 
 -- "0 for every count, entry and mark, a source being a fixed one of 0"
 abbrev pub no_source : SourceSlot

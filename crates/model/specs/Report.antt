@@ -1,5 +1,5 @@
 -- "The report": its text, line by line, in bytes.
-use Rattle.std.specs.Prelude.{ℕ, zero, suc, ◌+◌, ◌/◌, ◌%◌, true, false, List, [], ◌∷◌, ◌++◌, ◌≡◌, take, ltb}
+use Rattle.std.specs.Prelude.{ℕ, zero, suc, ◌+◌, ◌/◌, ◌%◌, true, false, List, [], ◌∷◌, ◌++◌, ◌≡◌, take, ltb, Ok, Err}
 use Rattle.model.specs.declared.Link.{Link}
 use Rattle.model.specs.declared.Description.{Description}
 use Rattle.model.specs.declared.Policy.{Policy}
@@ -7,11 +7,8 @@ use Rattle.model.specs.declared.Policy.TheVariants.{Preemptive, HoldOn}
 use Rattle.model.specs.declared.Refusal.{Refusal}
 use Rattle.model.specs.declared.Verdict.{Verdict}
 use Rattle.model.specs.declared.Verdict.TheVariants.{Free, HeldOrder, DoubtOrder, Held, Doubt}
-use Rattle.model.specs.declared.Quote.{Quote}
-use Rattle.model.specs.declared.Quote.TheVariants.{Tempo, Unquoted}
-use Rattle.model.specs.declared.Filled.{Filled}
+use Rattle.model.specs.Refusals.{Quote, Refused, Filled, refusal, on_done}
 use Rattle.model.specs.Basics.{joined}
-use Rattle.model.specs.Refusals.{refusal, on_done}
 use Rattle.model.specs.Graph.{link_at}
 use Rattle.model.specs.File.{read_file, fill_with, filled_by}
 use Rattle.model.specs.Verdicts.{verdict_at, tempos, largest_below, all_held}
@@ -82,8 +79,8 @@ unfoldable pub tempo_text : ℕ → List ℕ
 tempo_text t = decimal (t / 10) ++ (46 ∷ (48 + t % 10) ∷ [])
 
 unfoldable pub tempo_line : Quote → List ℕ
-tempo_line (Tempo t) = line_of (w_tempo ++ tempo_text t)
-tempo_line (Unquoted r place) = line_of (w_tempo ++ w_none)
+tempo_line (Ok t) = line_of (w_tempo ++ tempo_text t)
+tempo_line (Err x) = line_of (w_tempo ++ w_none)
 
 -- `free`, `held order`, `doubt order`, `held 700 of 701`, `doubt of 700`
 unfoldable pub verdict_text : Verdict → List ℕ
@@ -106,8 +103,8 @@ refused_line r place = let n = refusal r place in line_of (w_refused ++ (decimal
 
 -- "with refusal 12 the first line is `tempo none` and verdicts are at 20.0"
 abbrev pub shown_tempo : Quote → ℕ
-shown_tempo (Tempo t) = t
-shown_tempo (Unquoted r place) = 200
+shown_tempo (Ok t) = t
+shown_tempo (Err x) = 200
 
 unfoldable pub report_for : Policy → Description → Quote → List ℕ
 report_for p d q = tempo_line q ++ link_lines p d (shown_tempo q)

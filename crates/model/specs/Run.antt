@@ -1,13 +1,11 @@
 -- A run of many tick calls: the list of calls that its bytes stand for, its answer, the buffer it leaves, and what is assured of both.
-use Rattle.std.specs.Prelude.{ℕ, ◌+◌, ◌*◌, ◌/◌, ◌%◌, ◌^◌, Bool, cond, not, List, [], ◌∷◌, ◌≡◌, length, get_or, take, eqb, ltb}
+use Rattle.std.specs.Prelude.{ℕ, ◌+◌, ◌*◌, ◌/◌, ◌%◌, ◌^◌, Bool, cond, not, List, [], ◌∷◌, ◌≡◌, length, get_or, take, eqb, ltb, Ok}
 use Rattle.model.specs.declared.Description.{Description}
 use Rattle.model.specs.declared.Policy.{Policy}
 use Rattle.model.specs.declared.Ticked.{Ticked}
-use Rattle.model.specs.declared.Outcome.TheVariants.{Done}
+use Rattle.model.specs.Refusals.{Done, of_outcome, on_done}
 use Rattle.model.specs.declared.Refusal.TheVariants.{ShortPage}
-use Rattle.model.specs.declared.Quote.TheVariants.{Tempo}
 use Rattle.model.specs.Basics.{tab}
-use Rattle.model.specs.Refusals.{of_outcome, on_done}
 use Rattle.model.specs.Header.{number_in}
 use Rattle.model.specs.File.{filled_by, judge}
 use Rattle.model.specs.Verdicts.{quote_of}
@@ -68,4 +66,4 @@ pub record RunAssured (p : Policy) (d : Description) (q : ℕ) (cs : List Call) 
 pub record RunMeets (p : Policy) (d : Description) (cs : List Call) (buffer buffer' : List ℕ) (r : Ticked) : Type 0 where
   pub answer : r ≡ ran p d cs buffer
   pub filled : buffer' ≡ page_ran p d cs buffer
-  pub assured : (q : ℕ) → quote_of p d ≡ Tempo q → UpTo q (history p d cs) → r.outcome ≡ Done → RunAssured p d q cs buffer' r
+  pub assured : (q : ℕ) → quote_of p d ≡ Ok q → UpTo q (history p d cs) → r.outcome ≡ Done → RunAssured p d q cs buffer' r

@@ -1,19 +1,15 @@
 -- "Verdicts" and the quote.
-use Rattle.std.specs.Prelude.{ℕ, zero, suc, ◌+◌, Bool, true, false, ◌&&◌, not, cond, List, replicate, ltb, leb, eqb}
+use Rattle.std.specs.Prelude.{ℕ, zero, suc, ◌+◌, Bool, true, false, ◌&&◌, not, cond, List, replicate, ltb, leb, eqb, Ok}
 use Rattle.model.specs.declared.Link.{Link}
 use Rattle.model.specs.declared.Description.{Description}
-use Rattle.model.specs.declared.Outcome.{Outcome}
-use Rattle.model.specs.declared.Outcome.TheVariants.{Done, Refused}
+use Rattle.model.specs.Refusals.{Outcome, Done, Refused, Quote, on_done}
 use Rattle.model.specs.declared.Refusal.TheVariants.{OffKnob, NoTempo}
 use Rattle.model.specs.declared.Policy.{Policy}
 use Rattle.model.specs.declared.Verdict.{Verdict}
 use Rattle.model.specs.declared.Verdict.TheVariants.{Free, HeldOrder, DoubtOrder, Held, Doubt}
 use Rattle.model.specs.declared.VerdictSlot.{VerdictSlot}
 use Rattle.model.specs.declared.Verdicts.{Verdicts}
-use Rattle.model.specs.declared.Quote.{Quote}
-use Rattle.model.specs.declared.Quote.TheVariants.{Tempo, Unquoted}
 use Rattle.model.specs.Basics.{tab, all_n}
-use Rattle.model.specs.Refusals.{on_done}
 use Rattle.model.specs.Graph.{System, system, link_at}
 use Rattle.model.specs.Delays.{Settled, unchanged, reached, tail_of, delay_of, spacing_of}
 use Rattle.model.specs.Order.{in_order}
@@ -86,13 +82,13 @@ verdicts p d t = on_done (judge_at d t)
 
 -- the largest tempo below 200 + n that passes a test, or 12
 unfoldable pub largest_below : (ℕ → Bool) → ℕ → Quote
-largest_below good zero = Unquoted NoTempo 0
-largest_below good (suc n) = elim (good (200 + n)) [ true ↦ Tempo (200 + n) | false ↦ largest_below good n ]
+largest_below good zero = Refused NoTempo 0
+largest_below good (suc n) = elim (good (200 + n)) [ true ↦ Ok (200 + n) | false ↦ largest_below good n ]
 
 -- "the quote is the largest T at which every critical link is held"
 unfoldable pub quote_of : Policy → Description → Quote
-quote_of p d = on_done (judge d) (largest_below (all_held p d) tempos) Unquoted
+quote_of p d = on_done (judge d) (largest_below (all_held p d) tempos) Refused
 
 -- the quote of a file
 unfoldable pub quoted_file : Policy → List ℕ → Quote
-quoted_file p s = on_done (read_file s).outcome (quote_of p (read_file s).description) Unquoted
+quoted_file p s = on_done (read_file s).outcome (quote_of p (read_file s).description) Refused

@@ -43,62 +43,46 @@ pub enum Field {
     OfLink(Link),
 }
 
-// Why work is refused: document 01's table of refused work, in its order.
-#[derive(Clone, Copy)]
+// Why work is refused: document 01's table of refused work, with its numbers.
+#[derive(Clone, Copy, PartialEq, Eq)]
 pub enum Refusal {
-    CutShort,
-    StrangeTag,
-    WrongLength,
-    OutOfTurn,
-    TooMany,
-    OffScale,
-    NoSuchEnd,
-    NoTask,
-    Loop,
-    TooHeavy,
-    OffKnob,
-    NoTempo,
-    ShortPage,
-    TooSoon,
-    Stranger,
-    ForeignState,
+    CutShort = 1,
+    StrangeTag = 2,
+    WrongLength = 3,
+    OutOfTurn = 4,
+    TooMany = 5,
+    OffScale = 6,
+    NoSuchEnd = 7,
+    NoTask = 8,
+    Loop = 9,
+    TooHeavy = 10,
+    OffKnob = 11,
+    NoTempo = 12,
+    ShortPage = 13,
+    TooSoon = 14,
+    Stranger = 15,
+    ForeignState = 16,
 }
 
-// The end of a call: the work done, or one refusal with its place.
+// A refusal with its place. A call ends with its work done, or with one of these.
+#[derive(Clone, Copy, PartialEq, Eq)]
+pub struct Rejection {
+    pub why: Refusal,
+    pub place: usize,
+}
+
+// The header of a field: the tag of a whole body, its offset and its length.
 #[derive(Clone, Copy)]
-pub enum Outcome {
-    Done,
-    Refused(Refusal, usize),
+pub struct Header {
+    pub tag: u8,
+    pub at: usize,
+    pub size: u16,
 }
 
-// The header at a reading place: the tag of a whole body, its offset and its length; a refusal; or the end of the bytes.
-#[derive(Clone, Copy)]
-pub enum Header {
-    Body(u8, usize, u16),
-    Faulty(Refusal),
-    Ended,
-}
-
-// What stands at a reading place: a whole field and where the next one begins, a refusal, or the end of the file.
-#[derive(Clone, Copy)]
-pub enum Taken {
-    Whole(Field, usize),
-    Broken(Refusal),
-    End,
-}
-
-// What a reader finds at its place: a whole field, a refusal with the offset of the field's tag, or the end of the file.
-#[derive(Clone, Copy)]
-pub enum Found {
-    Read(Field),
-    Unread(Refusal, usize),
-    Nothing,
-}
-
-// One step of a reader: what it found, and its place after that.
+// One step of a reader: a whole field, a refusal with the offset of the field's tag, or nothing at the end of the file; and the reader's place after that.
 #[derive(Clone, Copy)]
 pub struct Step {
-    pub found: Found,
+    pub found: Result<Option<Field>, Rejection>,
     pub at: usize,
 }
 
@@ -112,25 +96,11 @@ pub struct Progress {
     pub to: u8,
 }
 
-// Whether a whole field may stand where it does.
-#[derive(Clone, Copy)]
-pub enum Check {
-    Fine,
-    Unfit(Refusal),
-}
-
 // The answer of a reading. Beside a refusal the description is all zeros.
 #[derive(Clone, Copy)]
 pub struct Reading {
-    pub outcome: Outcome,
+    pub outcome: Result<(), Rejection>,
     pub description: Description,
-}
-
-// The answer of a call that fills a lent buffer: the bytes filled, or a refusal.
-#[derive(Clone, Copy)]
-pub enum Filled {
-    Bytes(usize),
-    Unfilled(Refusal, usize),
 }
 
 // A row of the load sheet: the load of one node at each task.
@@ -142,7 +112,7 @@ pub struct Row {
 // The load sheet: tasks 1 to 32, then sources 33 to 48. Beside a refusal every load is 0.
 #[derive(Clone, Copy)]
 pub struct LoadSheet {
-    pub outcome: Outcome,
+    pub outcome: Result<(), Rejection>,
     pub rows: [Row; 48],
 }
 
@@ -164,7 +134,7 @@ pub struct VerdictSlot {
 // The verdicts, one for each link of the file. Past the links, and beside a refusal, each is free.
 #[derive(Clone, Copy)]
 pub struct Verdicts {
-    pub outcome: Outcome,
+    pub outcome: Result<(), Rejection>,
     pub slots: [VerdictSlot; 256],
 }
 
@@ -173,13 +143,6 @@ pub struct Verdicts {
 pub struct Walk {
     pub failed: u8,
     pub met: [bool; 32],
-}
-
-// The quoted tempo in tenths of a beat per minute, or a refusal.
-#[derive(Clone, Copy)]
-pub enum Quote {
-    Tempo(u32),
-    Unquoted(Refusal, usize),
 }
 
 // Which task runs: in every tick the highest awake one, or (the hold-on model) the one that is part done, and the highest awake if none is.
@@ -212,6 +175,6 @@ pub struct Arrivals {
 // The answer of a start or a tick: its end, and the record as it is left.
 #[derive(Clone, Copy)]
 pub struct Ticked {
-    pub outcome: Outcome,
+    pub outcome: Result<(), Rejection>,
     pub machine: Machine,
 }

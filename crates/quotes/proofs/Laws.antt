@@ -1,4 +1,5 @@
 -- The best tempo level by level, and the quote by the answers of the search. Assumes nothing.
+use Rattle.std.specs.Prelude.{Ok}
 use Prim.Native.Nat.{ℕ, suc, ◌+◌, ◌≤◌, ◌<◌}
 use mathlib.Core.Path.{◌≡◌, sym}
 use mathlib.Core.Bool.{true, false}
@@ -6,10 +7,9 @@ use mathlib.Core.List.{List}
 use native.Mathlib.Omega.{arith}
 use Rattle.model.specs.declared.Description.{Description}
 use Rattle.model.specs.declared.Policy.{Policy}
-use Rattle.model.specs.declared.Outcome.TheVariants.{Done, Refused}
+use Rattle.model.specs.Refusals.{Done, Refused}
 use Rattle.model.specs.declared.Refusal.{Refusal}
 use Rattle.model.specs.declared.Refusal.TheVariants.{NoTempo}
-use Rattle.model.specs.declared.Quote.TheVariants.{Tempo, Unquoted}
 use Rattle.model.specs.Delays.{spacing_of}
 use Rattle.model.specs.File.{read_file, judge}
 use Rattle.model.specs.Verdicts.{all_held, tempos, largest_below, quote_of, quoted_file}
@@ -68,18 +68,18 @@ module _ (pol : Policy) (d : Description) where
       go x k a (more y) b = absurd (omega arith)
 
   -- the quote, where the last level is passed
-  pub best_quote : WellFormed d → orders_held d ≡ true → (best : ℕ) → Best pol d d.task_count best → Tempo best ≡ largest_below (all_held pol d) tempos
+  pub best_quote : WellFormed d → orders_held d ≡ true → (best : ℕ) → Best pol d d.task_count best → Ok best ≡ largest_below (all_held pol d) tempos
   best_quote g o best r =
       sym (quote_at pol d g best r.low r.high (levels_all pol d best g o r.held) (λ h. let x = r.above h in not_level pol d (suc best) x.0 x.3))
 
   -- there is none, where a level or an order is in doubt at the lowest tempo
-  pub no_level : WellFormed d → (j : ℕ) → level_held pol d (spacing_of d 200) j ≡ false → Unquoted NoTempo 0 ≡ largest_below (all_held pol d) tempos
+  pub no_level : WellFormed d → (j : ℕ) → level_held pol d (spacing_of d 200) j ≡ false → Refused NoTempo 0 ≡ largest_below (all_held pol d) tempos
   no_level g j e = sym (quote_none pol d g (not_level pol d 200 j e))
 
-  pub no_order : WellFormed d → orders_held d ≡ false → Unquoted NoTempo 0 ≡ largest_below (all_held pol d) tempos
+  pub no_order : WellFormed d → orders_held d ≡ false → Refused NoTempo 0 ≡ largest_below (all_held pol d) tempos
   no_order g e = sym (quote_none pol d g (not_orders pol d 200 e))
 
-pub quote_refused : (pol : Policy) (d : Description) (r : Refusal) (p : ℕ) → judge d ≡ Refused r p → Unquoted r p ≡ quote_of pol d
+pub quote_refused : (pol : Policy) (d : Description) (r : Refusal) (p : ℕ) → judge d ≡ Refused r p → Refused r p ≡ quote_of pol d
 unfolding quote_of
 quote_refused pol d r p e = rw e
 
@@ -89,7 +89,7 @@ quote_judged pol d e = rw e
 
 -- the quote of a file, refused or accepted
 module _ (pol : Policy) (s : List ℕ) where
-  pub file_refused : (r : Refusal) (p : ℕ) → (read_file s).outcome ≡ Refused r p → Unquoted r p ≡ quoted_file pol s
+  pub file_refused : (r : Refusal) (p : ℕ) → (read_file s).outcome ≡ Refused r p → Refused r p ≡ quoted_file pol s
   unfolding quoted_file
   file_refused r p e = rw e
 

@@ -2,7 +2,7 @@
 use Rattle.std.specs.Prelude.{ℕ, suc, ◌≤◌, ◌<◌, ◌≡◌, Bool, true, false, List}
 use Rattle.model.specs.declared.Description.{Description}
 use Rattle.model.specs.declared.Policy.{Policy}
-use Rattle.model.specs.declared.Quote.{Quote}
+use Rattle.model.specs.Refusals.{Quote}
 use Rattle.model.specs.Delays.{spacing_of}
 use Rattle.model.specs.Verdicts.{all_held, tempos, largest_below}
 use Rattle.spacings.specs.declared.Sources.{Sources}

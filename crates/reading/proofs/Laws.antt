@@ -1,4 +1,5 @@
 -- A reading that goes on past a field, and one that stops. Assumes nothing.
+use Rattle.std.specs.Prelude.{Ok, Err}
 use Prim.Native.Nat.{ℕ, zero, suc, ◌+◌, ◌<◌}
 use mathlib.Core.Path.{◌≡◌, refl, sym, ap, subst, ◌∙◌}
 use mathlib.Core.List.{List, [], ◌∷◌}
@@ -11,16 +12,10 @@ use Rattle.model.specs.contracts.Found as F
 use Rattle.model.specs.declared.Description.{Description}
 use Rattle.model.specs.declared.Field.{Field}
 use Rattle.model.specs.declared.Refusal.{Refusal}
-use Rattle.model.specs.declared.Taken.{Taken}
-use Rattle.model.specs.declared.Taken.TheVariants.{Whole, Broken, End}
-use Rattle.model.specs.declared.Found.{Found}
-use Rattle.model.specs.declared.Found.TheVariants.{Read, Unread, Nothing}
+use Rattle.model.specs.Field.{Taken, Whole, Broken, End, Found, Read, Unread, Nothing, Check, Fine, Unfit, take_field, step_of, check_field, passed, with_field}
 use Rattle.model.specs.declared.Step.{Step}
 use Rattle.model.specs.declared.Progress.{Progress}
-use Rattle.model.specs.declared.Check.{Check}
-use Rattle.model.specs.declared.Check.TheVariants.{Fine, Unfit}
 use Rattle.model.specs.declared.Reading.{Reading}
-use Rattle.model.specs.Field.{take_field, step_of, check_field, passed, with_field}
 use Rattle.model.specs.File.{parse_from}
 use Rattle.theory.proofs.FieldLaws.{length-field, take-took, took_length, took_inside}
 use Rattle.theory.proofs.RecordLaws.{parse_fine, parse_unfit, parse_broken, parse_end}
@@ -38,7 +33,7 @@ no_read f k = ⊎_elim (λ e. no1 e) (λ e. no2 e) k
 -- what is found is no field
 pub no_field : (x : Found) → ((f : Field) → x ≡ Read f → ⊥) → OneOf (1 ∷ 2 ∷ []) (tag F.the_type x)
 no_field (Read f) h = absurd (h f refl)
-no_field (Unread r place) h = inl refl
+no_field (Err x) h = inl refl
 no_field Nothing h = inr refl
 
 -- a step that gives no field stays as it is under a check
@@ -79,7 +74,7 @@ fine_taken p End f next e = absurd (let z : ◌≡◌ {A = ℕ} 0 1 = cc in omeg
 fine_taken p (Whole g m) f next e = go (check_field p g) refl
   where
     go : (k : Check) → check_field p g ≡ k → (Whole g m ≡ Whole f next) × (check_field p f ≡ Fine)
-    go Fine q = let h : Whole g m ≡ Whole f next = rw q at e in let i : g ≡ f = cc in (h, rw i at q)
+    go (Ok tt) q = let h : Whole g m ≡ Whole f next = rw q at e in let i : g ≡ f = cc in (h, rw i at q)
     go (Unfit r) q = let h : Broken r ≡ Whole f next = rw q at e in absurd (let z : ◌≡◌ {A = ℕ} 0 1 = cc in omega arith)
 
 -- r is what a reading answers from a place on
@@ -102,7 +97,7 @@ reads_stop s at p d x e k (suc n) z m = go (take_field s at) refl
     by t q = ap (λ (y : Step). y.found) e ∙ ap (λ (y : Taken). (step_of y at).found) q
 
     unfit : (f : Field) (next : ℕ) → take_field s at ≡ Whole f next → (h : Check) → check_field p f ≡ h → stopped_by x.found d ≡ parse_from (suc n) s at p d
-    unfit f next q Fine g = absurd (no_read f (subst (λ (y : Found). OneOf (1 ∷ 2 ∷ []) (tag F.the_type y)) (by (Whole f next) (ap (checked_taken p) q ∙ ap (λ (c : Check). if_fine c f next) g)) k))
+    unfit f next q (Ok tt) g = absurd (no_read f (subst (λ (y : Found). OneOf (1 ∷ 2 ∷ []) (tag F.the_type y)) (by (Whole f next) (ap (checked_taken p) q ∙ ap (λ (c : Check). if_fine c f next) g)) k))
     unfit f next q (Unfit r) g =
         ap (λ (y : Found). stopped_by y d) (by (Broken r) (ap (checked_taken p) q ∙ ap (λ (c : Check). if_fine c f next) g)) ∙ sym (parse_unfit n s at p d f next r q g)
 

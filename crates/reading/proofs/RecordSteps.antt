@@ -5,11 +5,9 @@ use native.Mathlib.Omega.{arith}
 use lib.ListN.{length}
 use Rattle.model.specs.declared.Description.{Description}
 use Rattle.model.specs.declared.Refusal.{Refusal}
-use Rattle.model.specs.declared.Check.TheVariants.{Fine, Unfit}
-use Rattle.model.specs.declared.Outcome.{Outcome}
-use Rattle.model.specs.declared.Outcome.TheVariants.{Done, Refused}
+use Rattle.model.specs.Field.{Fine, Unfit, check_field, field_of, field_count}
+use Rattle.model.specs.Refusals.{Outcome, Done, Refused}
 use Rattle.model.specs.declared.Reading.{Reading}
-use Rattle.model.specs.Field.{check_field, field_of, field_count}
 use Rattle.model.specs.File.{file_of, parse_file}
 use Rattle.theory.proofs.FieldLaws.{length-field}
 use Rattle.theory.proofs.RecordLaws.{Widths, offset, offset_more, progress_at, read_at, read_fine, read_unfit, read_end, read_start}

@@ -1,7 +1,7 @@
 -- What stands beside a refusal.
 use Rattle.std.specs.Prelude.{ℕ, replicate}
 use Rattle.model.specs.declared.LoadSheet.{LoadSheet}
-use Rattle.model.specs.declared.Outcome.TheVariants.{Refused}
+use Rattle.model.specs.Refusals.{Refused}
 use Rattle.model.specs.declared.Refusal.{Refusal}
 use Rattle.model.specs.Loads.{no_row}
 

@@ -8,7 +8,7 @@ use contract.Monad.{Fun, fact}
 use contract.Lifetimes.{Lfts}
 use denote.Triple.Entry.{Args}
 use denote.Triple.Clauses.{AtExit}
-use Rattle.model.specs.declared.Filled.{Filled}
+use Rattle.model.specs.Refusals.{Filled}
 use Rattle.model.specs.Report.{ReportMeets}
 use Rattle.report.specs.contracts.report as report
 

@@ -1,4 +1,5 @@
 -- The report by the outcomes of reading, and its length. Assumes nothing.
+use Rattle.std.specs.Prelude.{Err}
 use Prim.Native.Nat.{ℕ, zero, suc, ◌+◌, ◌≤◌, ◌<◌}
 use mathlib.Core.Path.{◌≡◌, refl, ap, ◌∙◌}
 use mathlib.Core.List.{List, [], ◌++◌}
@@ -8,8 +9,7 @@ use lib.ListN.{length, get_or, length-append}
 use Rattle.model.specs.declared.Description.{Description}
 use Rattle.model.specs.declared.Policy.{Policy}
 use Rattle.model.specs.declared.Policy.TheVariants.{Preemptive, HoldOn}
-use Rattle.model.specs.declared.Outcome.{Outcome}
-use Rattle.model.specs.declared.Outcome.TheVariants.{Done, Refused}
+use Rattle.model.specs.Refusals.{Outcome, Done, Refused}
 use Rattle.model.specs.declared.Refusal.{Refusal}
 use Rattle.model.specs.declared.VerdictSlot.{VerdictSlot}
 use Rattle.model.specs.Basics.{tab, joined}
@@ -45,7 +45,7 @@ module _ (pol : Policy) (s : List ℕ) where
   plain_length b = go (read_file s).outcome refl
     where
       go : (o : Outcome) → (read_file s).outcome ≡ o → length (plain_report pol s) ≤ longest_plain
-      go (Refused r p) e = rw (← report_refused r p e) (omega (arith, refusal_length r p))
+      go (Err x) e = rw (← report_refused x.why x.place e) (omega (arith, refusal_length x.why x.place))
       go Done e =
           rw (← report_done e) (verdicts_length pol (read_file s).description (read_good s b e) (all_held pol (read_file s).description))
 

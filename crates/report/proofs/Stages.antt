@@ -1,13 +1,12 @@
 -- The report stage by stage, from the answers of the calls that make it: examined, quoted. Assumes nothing.
+use Rattle.std.specs.Prelude.{Ok, Err}
 use Prim.Native.Nat.{ℕ, ◌≤◌}
 use mathlib.Core.Path.{◌≡◌, sym, ap, ◌∙◌}
 use mathlib.Core.List.{List, ◌++◌}
 use native.Mathlib.Omega.{arith}
 use Rattle.model.specs.declared.Description.{Description}
 use Rattle.model.specs.declared.Policy.{Policy}
-use Rattle.model.specs.declared.Outcome.TheVariants.{Done, Refused}
-use Rattle.model.specs.declared.Quote.{Quote}
-use Rattle.model.specs.declared.Quote.TheVariants.{Tempo, Unquoted}
+use Rattle.model.specs.Refusals.{Done, Refused, Quote}
 use Rattle.model.specs.declared.Refusal.{Refusal}
 use Rattle.model.specs.declared.VerdictSlot.{VerdictSlot}
 use Rattle.model.specs.Basics.{tab}
@@ -29,10 +28,10 @@ quoted_parts pol d q slots w e f =
 
 -- the tempo shown is on the knob
 pub shown_on : (pol : Policy) (d : Description) (q : Quote) → q ≡ largest_below (all_held pol d) tempos → (200 ≤ shown_tempo q) × (shown_tempo q ≤ 3000)
-shown_on pol d (Tempo t) e =
+shown_on pol d (Ok t) e =
     let r : Largest (all_held pol d) tempos t = largest_found (all_held pol d) tempos t (sym e) in
     (r.low, omega (arith, r.high))
-shown_on pol d (Unquoted r p) e = (omega arith, omega arith)
+shown_on pol d (Err x) e = (omega arith, omega arith)
 
 module _ (pol : Policy) (s : List ℕ) (j : Judged) (examined : ReadAs (read_file s) j) where
   -- the file is refused, or accepted

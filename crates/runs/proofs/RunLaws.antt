@@ -12,8 +12,7 @@ use Rattle.model.specs.declared.Description.{Description}
 use Rattle.model.specs.declared.Policy.{Policy}
 use Rattle.model.specs.declared.Machine.{Machine}
 use Rattle.model.specs.declared.Refusal.TheVariants.{ShortPage}
-use Rattle.model.specs.declared.Outcome.TheVariants.{Done, Refused}
-use Rattle.model.specs.Refusals.{of_outcome}
+use Rattle.model.specs.Refusals.{Done, Refused, of_outcome}
 use Rattle.model.specs.File.{filled_by}
 use Rattle.model.specs.Machine.{idle, blank_machine, lawful}
 use Rattle.model.specs.History.{Call, plain_call, answers, left}

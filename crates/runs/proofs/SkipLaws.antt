@@ -12,11 +12,9 @@ use Rattle.model.specs.declared.Description.{Description}
 use Rattle.model.specs.declared.Policy.{Policy}
 use Rattle.model.specs.declared.Machine.{Machine}
 use Rattle.model.specs.declared.Ticked.{Ticked}
-use Rattle.model.specs.declared.Outcome.{Outcome}
-use Rattle.model.specs.declared.Outcome.TheVariants.{Done}
+use Rattle.model.specs.Refusals.{Outcome, Done, of_outcome}
 use Rattle.model.specs.Header.{number_in}
 use Rattle.model.specs.Graph.{run_of}
-use Rattle.model.specs.Refusals.{of_outcome}
 use Rattle.model.specs.File.{judge}
 use Rattle.model.specs.Verdicts.{on_knob}
 use Rattle.model.specs.Machine.{idle, age_all, stepped, plain_tick}

@@ -3,7 +3,7 @@ use Rattle.std.specs.Prelude.{ℕ, List, ◌≡◌}
 use Rattle.model.specs.declared.Description.{Description}
 use Rattle.model.specs.declared.Policy.{Policy}
 use Rattle.model.specs.declared.Ticked.{Ticked}
-use Rattle.model.specs.declared.Outcome.TheVariants.{Done}
+use Rattle.model.specs.Refusals.{Done}
 use Rattle.model.specs.File.{filled_by, judge}
 use Rattle.model.specs.History.{Call}
 use Rattle.model.specs.Run.{page, ran_from}

@@ -2,7 +2,7 @@
 #![tactic(auto)]
 
 ghost use Rattle.std.specs.Prelude.{◌≡◌};
-ghost use Rattle.model.specs.declared.Outcome.TheVariants.{Done};
+ghost use Rattle.model.specs.Refusals.{Done};
 ghost use Rattle.model.specs.File.{judge};
 ghost use Rattle.theory.proofs.WellFormed.{WellFormed};
 ghost use Rattle.machine.specs.Calls.{Accepted};

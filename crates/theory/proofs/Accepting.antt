@@ -11,11 +11,9 @@ use Rattle.model.specs.declared.Description.{Description}
 use Rattle.model.specs.declared.Field.{Field}
 use Rattle.model.specs.declared.Field.TheVariants.{OfTask, OfSource, OfLink}
 use Rattle.model.specs.declared.Progress.{Progress}
-use Rattle.model.specs.declared.Check.TheVariants.{Fine}
-use Rattle.model.specs.declared.Outcome.TheVariants.{Done}
-use Rattle.model.specs.Refusals.{no_source}
+use Rattle.model.specs.Field.{Fine, in_turn, on_scale, is_task, is_source, check_field, field_of, field_count}
+use Rattle.model.specs.Refusals.{Done, no_source}
 use Rattle.model.specs.Graph.{system, link_at}
-use Rattle.model.specs.Field.{in_turn, on_scale, is_task, is_source, check_field, field_of, field_count}
 use Rattle.model.specs.File.{file_of, parse_file, last_checks, judge}
 use Rattle.lemmas.proofs.Tests.{Cmp, less, same, more, cmp, or_left, or_right, both}
 use Rattle.theory.proofs.WellFormed.{WellFormed, Fielded, IsTask, IsSource, rises}

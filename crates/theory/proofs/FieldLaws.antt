@@ -1,4 +1,5 @@
 -- One field of a description file: what is written is taken whole, and what is taken whole was written. Assumes nothing.
+use Rattle.std.specs.Prelude.{Ok, Some}
 use Prim.Native.Nat.{ℕ, zero, suc, ◌+◌, ◌*◌, ◌^◌, ◌≤◌, ◌<◌}
 use mathlib.Core.Path.{◌≡◌, refl, sym, ap, subst, ◌∙◌}
 use mathlib.Core.Bool.{Bool, true, false, ◌&&◌}
@@ -14,11 +15,8 @@ use Rattle.model.specs.declared.Source.TheVariants.{Fixed, Paced, Swung}
 use Rattle.model.specs.declared.Field.{Field}
 use Rattle.model.specs.declared.Field.TheVariants.{OfTask, OfSource, OfLink}
 use Rattle.model.specs.declared.Refusal.{Refusal}
-use Rattle.model.specs.declared.Header.{Header}
-use Rattle.model.specs.declared.Header.TheVariants.{Body, Faulty, Ended}
-use Rattle.model.specs.declared.Taken.TheVariants.{Whole, Broken, End}
-use Rattle.model.specs.Header.{bytes_of, number_in, is_tag, length_fits, header_at}
-use Rattle.model.specs.Field.{tag_of, body_length, body_of, field_bytes, field_tags, field_in, taken_by, take_field}
+use Rattle.model.specs.Header.{HeaderAt, Body, Faulty, Ended, bytes_of, number_in, is_tag, length_fits, header_at}
+use Rattle.model.specs.Field.{Whole, Broken, End, tag_of, body_length, body_of, field_bytes, field_tags, field_in, taken_by, take_field}
 use Rattle.lemmas.proofs.Tests.{within}
 pub use Rattle.model.specs.File.{SourceFits}
 use Rattle.theory.proofs.HeaderLaws.{header_whole, header_headed, header_end}
@@ -156,10 +154,10 @@ pub take-took : (s : List ℕ) (at : ℕ) (f : Field) (next : ℕ) → take_fiel
 unfolding take_field
 take-took s at f next e = go (header_at field_tags s at) refl e
   where
-    go : (h : Header) → header_at field_tags s at ≡ h → taken_by s h ≡ Whole f next → Took s at f next
-    go (Body tag b n) q w =
-        let k = header_headed field_tags s at tag b n q in
-        let r = tag_range tag k.known in
+    go : (h : HeaderAt) → header_at field_tags s at ≡ h → taken_by s h ≡ Whole f next → Took s at f next
+    go (Ok (Some h)) q w =
+        let k = header_headed field_tags s at h.tag h.at h.size q in
+        let r = tag_range h.tag k.known in
         record {
           tag_low = rw k.tag_is r.0;
           tag_high = rw k.tag_is r.1;
@@ -182,8 +180,8 @@ pub take-end : (s : List ℕ) (at : ℕ) → take_field s at ≡ End → length 
 unfolding take_field
 take-end s at e = go (header_at field_tags s at) refl e
   where
-    go : (h : Header) → header_at field_tags s at ≡ h → taken_by s h ≡ End → length s ≤ at
-    go (Body tag b n) q w = absurd (whole_end w)
+    go : (h : HeaderAt) → header_at field_tags s at ≡ h → taken_by s h ≡ End → length s ≤ at
+    go (Ok (Some h)) q w = absurd (whole_end w)
     go (Faulty r) q w = absurd (broken_end w)
     go Ended q w = header_end field_tags s at q
 

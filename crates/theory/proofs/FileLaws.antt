@@ -1,4 +1,5 @@
 -- The description file: judging, reading and writing are one. The main theorems about the definitions of Field and File. Assumes nothing.
+use Rattle.std.specs.Prelude.{Ok, Err}
 use Prim.Native.Nat.{ℕ, suc, ◌+◌, ◌-◌, ◌≤◌, ◌<◌}
 use mathlib.Core.Path.{◌≡◌, refl, sym, ap, ◌∙◌}
 use mathlib.Core.Bool.{Bool, true, false, cond, ◌||◌}
@@ -10,10 +11,8 @@ use borrow.Author.Tests.{leb-true, eqb-false}
 use Rattle.model.specs.declared.Description.{Description}
 use Rattle.model.specs.declared.Field.TheVariants.{OfTask, OfSource, OfLink}
 use Rattle.model.specs.declared.Refusal.TheVariants.{TooMany, NoTask, Loop, TooHeavy, OffKnob}
-use Rattle.model.specs.declared.Outcome.{Outcome}
-use Rattle.model.specs.declared.Outcome.TheVariants.{Done, Refused}
+use Rattle.model.specs.Refusals.{Outcome, Done, Refused, no_source, on_done}
 use Rattle.model.specs.declared.Reading.{Reading}
-use Rattle.model.specs.Refusals.{no_source, on_done}
 use Rattle.model.specs.Graph.{System, system, link_at, run_of, cyclic}
 use Rattle.model.specs.Loads.{too_heavy}
 use Rattle.model.specs.Field.{field_of, field_count, is_task, is_source}
@@ -136,8 +135,8 @@ finished_outcome : (d : Description) → (finished d).outcome ≡ last_checks d
 finished_outcome d = go (last_checks d) refl
   where
     go : (o : Outcome) → last_checks d ≡ o → (finished d).outcome ≡ last_checks d
-    go Done q = rw q
-    go (Refused r place) q = rw q
+    go (Ok tt) q = rw q
+    go (Err x) q = rw q
 
 -- a file of a description whose fields are all taken and checked gives their copy
 pub parsed_copy : (d : Description) → Widths d → (parse_file (file_of d)).outcome ≡ Done → parse_file (file_of d) ≡ record { outcome = Done; description = copy_at d (field_count d) }
@@ -151,7 +150,7 @@ judge_steps d w = go (overfull d) refl (parse_file (file_of d)).outcome refl
   where
     go : (b : Bool) → overfull d ≡ b → (o : Outcome) → (parse_file (file_of d)).outcome ≡ o → judge d ≡ on_done (cond (overfull d) (Refused TooMany 0) (parse_file (file_of d)).outcome) (last_checks d) Refused
     go true q o r = rw q
-    go false q (Refused x place) r = rw (q, r)
+    go false q (Err y) r = rw (q, r)
     go false q Done r =
         rw (q, r)
         (finished_outcome (parse_file (file_of d)).description
@@ -164,9 +163,9 @@ unfolding judge_at
 knob_known d t = go (judge d) refl (on_knob t) refl
   where
     go : (o : Outcome) → judge d ≡ o → (b : Bool) → on_knob t ≡ b → on_done o (cond b (let x : Outcome = Done in x) (Refused OffKnob 0)) Refused ≡ Done → (judge d ≡ Done) × (200 ≤ t) × (t ≤ 3000)
-    go Done e true k f = let z = within 200 t 3000 k in (e, z.0, z.1)
-    go Done e false k f = refused_not f
-    go (Refused r p) e b k f = refused_not f
+    go (Ok tt) e true k f = let z = within 200 t 3000 k in (e, z.0, z.1)
+    go (Ok tt) e false k f = refused_not f
+    go (Err x) e b k f = refused_not f
 
 pub at_known : (d : Description) (t : ℕ) → Widths d → judge_at d t ≡ Done → WellFormed d × (200 ≤ t) × (t ≤ 3000)
 at_known d t w f = let k = knob_known d t f in (judge_well_formed d w k.0, k.1, k.2)

@@ -1,4 +1,5 @@
 -- How long a description's file can be, and that a reading looks at no byte past the first 4,096. Assumes nothing.
+use Rattle.std.specs.Prelude.{Ok, Err, Some}
 use Prim.Native.Nat.{ℕ, zero, suc, ◌+◌, ◌-◌, ◌*◌, ◌≤◌, ◌<◌}
 use mathlib.Core.Path.{◌≡◌, refl, sym, ap, ◌∙◌}
 use mathlib.Core.Bool.{Bool, true, false, cond, not}
@@ -15,22 +16,14 @@ use Rattle.model.specs.declared.Description.{Description}
 use Rattle.model.specs.declared.Field.{Field}
 use Rattle.model.specs.declared.Field.TheVariants.{OfTask, OfSource, OfLink}
 use Rattle.model.specs.declared.Progress.{Progress}
-use Rattle.model.specs.declared.Outcome.{Outcome}
-use Rattle.model.specs.declared.Outcome.TheVariants.{Done, Refused}
+use Rattle.model.specs.Refusals.{Outcome, Done, Refused, blank, no_link, no_source, on_done}
 use Rattle.model.specs.declared.Refusal.{Refusal}
 use Rattle.model.specs.declared.Refusal.TheVariants.{CutShort, StrangeTag, WrongLength, NoTask, Loop, TooHeavy}
-use Rattle.model.specs.declared.Header.{Header}
-use Rattle.model.specs.declared.Header.TheVariants.{Body, Faulty, Ended}
-use Rattle.model.specs.declared.Taken.{Taken}
-use Rattle.model.specs.declared.Taken.TheVariants.{Whole, Broken, End}
-use Rattle.model.specs.declared.Check.{Check}
-use Rattle.model.specs.declared.Check.TheVariants.{Fine, Unfit}
+use Rattle.model.specs.Header.{HeaderAt, Body, Faulty, Ended, number_in, is_tag, length_fits, header_at}
+use Rattle.model.specs.Field.{Taken, Whole, Broken, End, Check, Fine, Unfit, field_bytes, field_tags, field_in, taken_by, take_field, check_field, with_field, passed, no_progress, field_of}
 use Rattle.model.specs.Basics.{joined}
-use Rattle.model.specs.Refusals.{blank, no_link, no_source, on_done}
 use Rattle.model.specs.Graph.{system, cyclic}
 use Rattle.model.specs.Loads.{too_heavy}
-use Rattle.model.specs.Header.{number_in, is_tag, length_fits, header_at}
-use Rattle.model.specs.Field.{field_bytes, field_tags, field_in, taken_by, take_field, check_field, with_field, passed, no_progress, field_of}
 use Rattle.model.specs.File.{file_of, parse_from, parse_file, last_checks, finished, refused_reading, read_file}
 use Rattle.lemmas.proofs.Tests.{Cmp, less, same, more, cmp}
 use Rattle.theory.proofs.NumberBytes.{number_same}
@@ -84,7 +77,7 @@ length_most : (t n : ℕ) → is_tag field_tags t ≡ true → length_fits field
 length_most t n k e =
     by_form (λ t n. n ≤ 4) t n (tag_range t k).0 (tag_range t k).1 e (omega arith) (omega arith) (omega arith) (omega arith) (omega arith)
 
-uncut : (left t n : ℕ) (w : Header) → 4 ≤ left → cond (not (is_tag field_tags t)) (Faulty StrangeTag) (cond (not (length_fits field_tags t n)) (Faulty WrongLength) (cond (ltb left n) (Faulty CutShort) w)) ≡ cond (not (is_tag field_tags t)) (Faulty StrangeTag) (cond (not (length_fits field_tags t n)) (Faulty WrongLength) w)
+uncut : (left t n : ℕ) (w : HeaderAt) → 4 ≤ left → cond (not (is_tag field_tags t)) (Faulty StrangeTag) (cond (not (length_fits field_tags t n)) (Faulty WrongLength) (cond (ltb left n) (Faulty CutShort) w)) ≡ cond (not (is_tag field_tags t)) (Faulty StrangeTag) (cond (not (length_fits field_tags t n)) (Faulty WrongLength) w)
 uncut left t n w h = go (is_tag field_tags t) (length_fits field_tags t n) refl refl
   where
     go : (a b : Bool) → is_tag field_tags t ≡ a → length_fits field_tags t n ≡ b → cond (not a) (Faulty StrangeTag) (cond (not b) (Faulty WrongLength) (cond (ltb left n) (Faulty CutShort) w)) ≡ cond (not a) (Faulty StrangeTag) (cond (not b) (Faulty WrongLength) w)
@@ -117,8 +110,8 @@ take_same s m at h l = ap (taken_by (take m s)) header ∙ body (header_at field
         rw
         (header_roomy (take m s) at (omega (arith, length-take-le m s l)), header_roomy s at (omega arith), shared at (omega arith), number_same (take m s) s (at + 1) (at + 1) 2 (λ i p. shared (at + 1 + i) (omega arith)))
 
-    body : (k : Header) → header_at field_tags s at ≡ k → taken_by (take m s) k ≡ taken_by s k
-    body (Body tag b n) q = ap (λ (f : Field). Whole f (b + n)) (field_same (take m s) s b tag n (λ i p. shared (b + i) (omega (arith, (header_headed field_tags s at tag b n q).begins))))
+    body : (k : HeaderAt) → header_at field_tags s at ≡ k → taken_by (take m s) k ≡ taken_by s k
+    body (Ok (Some x)) q = ap (λ (f : Field). Whole f (x.at + x.size)) (field_same (take m s) s x.at x.tag x.size (λ i p. shared (x.at + i) (omega (arith, (header_headed field_tags s at x.tag x.at x.size q).begins))))
     body (Faulty r) q = refl
     body Ended q = refl
 
@@ -189,8 +182,8 @@ read_first s = rw (parse_first s)
 
 -- the place of a refusal is within the longest file; 0 for none
 abbrev pub place_in : Outcome → ℕ
-place_in Done = 0
-place_in (Refused r place) = place
+place_in (Ok tt) = 0
+place_in (Err x) = x.place
 
 parse_place : (n : ℕ) (s : List ℕ) (at : ℕ) (p : Progress) (d : Description) → Near at p → place_in (parse_from n s at p d).outcome ≤ 2128
 unfolding parse_from
@@ -201,7 +194,7 @@ parse_place (suc n) s at p d y = taken (take_field s at) refl (parse_place n s)
     here r = omega (arith, y.place, y.tasks, y.sources, y.links)
 
     checked : (f : Field) (next : ℕ) → take_field s at ≡ Whole f next → (c : Check) → check_field p f ≡ c → ((a : ℕ) (q : Progress) (x : Description) → Near a q → place_in (parse_from n s a q x).outcome ≤ 2128) → place_in (parse_from (suc n) s at p d).outcome ≤ 2128
-    checked f next t Fine q ih = rw (parse_fine n s at p d f next t q) (ih next (passed p f) (with_field d f) (near_more at p f next (next_most s at f next t).1 q y))
+    checked f next t (Ok tt) q ih = rw (parse_fine n s at p d f next t q) (ih next (passed p f) (with_field d f) (near_more at p f next (next_most s at f next t).1 q y))
     checked f next t (Unfit r) q ih = rw (parse_unfit n s at p d f next r t q) (here r)
 
     taken : (t : Taken) → take_field s at ≡ t → ((a : ℕ) (q : Progress) (x : Description) → Near a q → place_in (parse_from n s a q x).outcome ≤ 2128) → place_in (parse_from (suc n) s at p d).outcome ≤ 2128
@@ -224,11 +217,11 @@ unfolding read_file parse_file
 read_place s = go (parse_file s).outcome refl
   where
     last : (o : Outcome) (d : Description) → place_in o ≡ 0 → place_in (on_done o (record { outcome = Done; description = d }) refused_reading).outcome ≤ 2128
-    last Done d e = omega arith
-    last (Refused r place) d e = omega arith
+    last (Ok tt) d e = omega arith
+    last (Err x) d e = omega arith
 
     go : (o : Outcome) → (parse_file s).outcome ≡ o → place_in (on_done (parse_file s).outcome (finished (parse_file s).description) refused_reading).outcome ≤ 2128
-    go Done e = rw e (last (last_checks (parse_file s).description) (parse_file s).description (last_place (parse_file s).description))
-    go (Refused r place) e =
+    go (Ok tt) e = rw e (last (last_checks (parse_file s).description) (parse_file s).description (last_place (parse_file s).description))
+    go (Err x) e =
         let b : place_in (parse_file s).outcome ≤ 2128 = parse_place (suc (length s)) s 0 no_progress blank (record { place = omega arith; tasks = omega arith; sources = omega arith; links = omega arith }) in
         rw e (rw e at b)

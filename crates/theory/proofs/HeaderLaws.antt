@@ -1,5 +1,6 @@
 -- The header at a reading place, by any table of tags: when it is whole, what is known of it then, and that bytes before the place do not matter. Assumes
 -- nothing.
+use Rattle.std.specs.Prelude.{Ok, Err, Some, None}
 use Prim.Native.Nat.{ℕ, ◌+◌, ◌-◌, ◌≤◌}
 use mathlib.Core.Path.{◌≡◌, refl, sym, ap, ◌∙◌}
 use mathlib.Core.Bool.{Bool, true, false, cond, not}
@@ -11,9 +12,7 @@ use lib.Seq.{get_or-drop}
 use borrow.Author.Tests.{le-leb, lt-leb, le-ltb, leb-true, leb-false, ltb-false, not-false}
 use Rattle.model.specs.declared.Refusal.{Refusal}
 use Rattle.model.specs.declared.Refusal.TheVariants.{CutShort, StrangeTag, WrongLength}
-use Rattle.model.specs.declared.Header.{Header}
-use Rattle.model.specs.declared.Header.TheVariants.{Body, Faulty, Ended}
-use Rattle.model.specs.Header.{number_in, is_tag, length_fits, header_at}
+use Rattle.model.specs.Header.{HeaderAt, Body, Faulty, Ended, number_in, is_tag, length_fits, header_at}
 use Rattle.lemmas.proofs.Tests.{same_test}
 use Rattle.theory.proofs.NumberBytes.{number_left}
 
@@ -42,19 +41,35 @@ faulty_body q = let z : ◌≡◌ {A = ℕ} 0 1 = cc in omega arith
 ended_body : {tag b n : ℕ} → Ended ≡ Body tag b n → ⊥
 ended_body q = let z : ◌≡◌ {A = ℕ} 0 1 = cc in omega arith
 
+-- the numbers of a header
+abbrev tag_in : HeaderAt → ℕ
+tag_in (Ok (Some h)) = h.tag
+tag_in (Ok None) = 0
+tag_in (Err r) = 0
+
+abbrev start_in : HeaderAt → ℕ
+start_in (Ok (Some h)) = h.at
+start_in (Ok None) = 0
+start_in (Err r) = 0
+
+abbrev size_in : HeaderAt → ℕ
+size_in (Ok (Some h)) = h.size
+size_in (Ok None) = 0
+size_in (Err r) = 0
+
 pub header_headed : (tags s : List ℕ) (at tag b n : ℕ) → header_at tags s at ≡ Body tag b n → Headed tags s at tag b n
 unfolding header_at
 header_headed tags s at tag b n e =
-    let z : Header = Body tag b n in
+    let z : HeaderAt = Body tag b n in
     let a1 = cond-else (leb (length s) at) _ _ z e ended_body in
     let a2 = cond-else (ltb (length s - at) 3) _ _ z a1.1 faulty_body in
     let a3 = cond-else (not (is_tag tags (get_or s at 0))) _ _ z a2.1 faulty_body in
     let a4 = cond-else (not (length_fits tags (get_or s at 0) (number_in s (at + 1) 2))) _ _ z a3.1 faulty_body in
     let a5 = cond-else (ltb (length s - at - 3) (number_in s (at + 1) 2)) _ _ z a4.1 faulty_body in
     let q : Body (get_or s at 0) (at + 3) (number_in s (at + 1) 2) ≡ Body tag b n = a5.1 in
-    let t : get_or s at 0 ≡ tag = cc in
-    let o : at + 3 ≡ b = cc in
-    let l : number_in s (at + 1) 2 ≡ n = cc in
+    let t : get_or s at 0 ≡ tag = ap tag_in q in
+    let o : at + 3 ≡ b = ap start_in q in
+    let l : number_in s (at + 1) 2 ≡ n = ap size_in q in
     let k : is_tag tags (get_or s at 0) ≡ true = not-false _ a3.0 in
     let r : length_fits tags (get_or s at 0) (number_in s (at + 1) 2) ≡ true = not-false _ a4.0 in
     let h1 = leb-false (length s) at a1.0 in
@@ -95,8 +110,8 @@ header_end tags s at e = go (leb (length s) at) refl
         (rw q at e))
 
 -- a header, with the offset of its body counted from a further on
-abbrev pub onward : ℕ → Header → Header
-onward a (Body tag b n) = Body tag (a + b) n
+abbrev pub onward : ℕ → HeaderAt → HeaderAt
+onward a (Ok (Some h)) = Body h.tag (a + h.at) h.size
 onward a (Faulty r) = Faulty r
 onward a Ended = Ended
 
@@ -115,7 +130,7 @@ end_left s a k =
     (λ e. le-leb (length s) (a + k) (omega (arith, leb-true (length (drop a s)) k e, length-drop a s)))
 
 -- the tests of a header in their order, over what they look at
-unfoldable headed_by : List ℕ → Bool → ℕ → ℕ → ℕ → ℕ → Header
+unfoldable headed_by : List ℕ → Bool → ℕ → ℕ → ℕ → ℕ → HeaderAt
 headed_by tags end left tag size at =
     cond end Ended
     (cond (ltb left 3) (Faulty CutShort)

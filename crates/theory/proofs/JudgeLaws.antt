@@ -1,4 +1,5 @@
 -- A description that is judged as done is well formed. Assumes nothing.
+use Rattle.std.specs.Prelude.{Ok, Err}
 use Prim.Native.Nat.{ℕ, zero, suc, ◌+◌, ◌-◌, ◌≤◌, ◌<◌}
 use mathlib.Core.Path.{◌≡◌, refl, ◌∙◌, fun_ext}
 use mathlib.Core.Bool.{Bool, true, false, cond, ◌||◌, ◌&&◌}
@@ -11,14 +12,10 @@ use Rattle.model.specs.declared.Description.{Description}
 use Rattle.model.specs.declared.Field.{Field}
 use Rattle.model.specs.declared.Progress.{Progress}
 use Rattle.model.specs.declared.Refusal.{Refusal}
-use Rattle.model.specs.declared.Check.{Check}
-use Rattle.model.specs.declared.Check.TheVariants.{Fine, Unfit}
-use Rattle.model.specs.declared.Outcome.{Outcome}
-use Rattle.model.specs.declared.Outcome.TheVariants.{Done, Refused}
-use Rattle.model.specs.Refusals.{no_link, no_source}
+use Rattle.model.specs.Field.{Check, Fine, Unfit, check_field, in_turn, has_room, on_scale, has_ends, field_of, field_count}
+use Rattle.model.specs.Refusals.{Outcome, Done, Refused, no_link, no_source}
 use Rattle.model.specs.Graph.{system, linked, link_at, run_of, cyclic}
 use Rattle.model.specs.Loads.{too_heavy}
-use Rattle.model.specs.Field.{check_field, in_turn, has_room, on_scale, has_ends, field_of, field_count}
 use Rattle.model.specs.File.{file_of, parse_file, last_checks, finished, read_file, overfull, judge}
 use Rattle.lemmas.proofs.Tests.{Cmp, less, same, more, cmp, at_or_not, or_false_left, or_false_right}
 use Rattle.lemmas.proofs.Range.{any_cong}
@@ -107,15 +104,15 @@ unfolding read_file
 read_parsed s e = go (parse_file s).outcome refl
   where
     go : (o : Outcome) → (parse_file s).outcome ≡ o → (parse_file s).outcome ≡ Done
-    go Done q = q
-    go (Refused r place) q = refused_not (rw q at e)
+    go (Ok tt) q = q
+    go (Err x) q = refused_not (rw q at e)
 
 finished_last : (d : Description) → (finished d).outcome ≡ Done → last_checks d ≡ Done
 finished_last d e = go (last_checks d) refl
   where
     go : (o : Outcome) → last_checks d ≡ o → last_checks d ≡ Done
-    go Done q = q
-    go (Refused r place) q = refused_not (rw q at e)
+    go (Ok tt) q = q
+    go (Err x) q = refused_not (rw q at e)
 
 pub read_last : (s : List ℕ) → (read_file s).outcome ≡ Done → last_checks (parse_file s).description ≡ Done
 unfolding read_file

@@ -14,9 +14,8 @@ use Rattle.model.specs.declared.SourceSlot.{SourceSlot}
 use Rattle.model.specs.declared.Link.{Link}
 use Rattle.model.specs.declared.Description.{Description}
 use Rattle.model.specs.declared.Field.TheVariants.{OfSource}
-use Rattle.model.specs.declared.Outcome.TheVariants.{Done}
+use Rattle.model.specs.Refusals.{Done, no_link, no_source}
 use Rattle.model.specs.Basics.{tab, joined, all_n, sum_n}
-use Rattle.model.specs.Refusals.{no_link, no_source}
 use Rattle.model.specs.Graph.{system, link_at, cyclic}
 use Rattle.model.specs.Loads.{work, added, load, too_heavy}
 use Rattle.model.specs.Header.{bytes_of}

@@ -1,4 +1,5 @@
 -- The report read as a page: its lines, and that each line determines its parts. Assumes nothing.
+use Rattle.std.specs.Prelude.{Ok, Err}
 use Prim.Native.Nat.{ℕ, zero, suc, ◌+◌, ◌/◌, ◌%◌, ◌^◌, ◌≤◌, ◌<◌}
 use mathlib.Core.Path.{◌≡◌, refl, sym, ap, ◌∙◌}
 use mathlib.Core.Bool.{Bool, true, false, cond, not}
@@ -13,17 +14,12 @@ use Rattle.model.specs.declared.Link.{Link}
 use Rattle.model.specs.declared.Description.{Description}
 use Rattle.model.specs.declared.Policy.{Policy}
 use Rattle.model.specs.declared.Policy.TheVariants.{Preemptive, HoldOn}
-use Rattle.model.specs.declared.Outcome.{Outcome}
-use Rattle.model.specs.declared.Outcome.TheVariants.{Done, Refused}
+use Rattle.model.specs.Refusals.{Outcome, Done, Refused, Quote, number_of}
 use Rattle.model.specs.declared.Refusal.{Refusal}
 use Rattle.model.specs.declared.Refusal.TheVariants.{ShortPage}
-use Rattle.model.specs.declared.Filled.TheVariants.{Bytes, Unfilled}
 use Rattle.model.specs.declared.Verdict.{Verdict}
 use Rattle.model.specs.declared.Verdict.TheVariants.{Free, HeldOrder, DoubtOrder, Held, Doubt}
-use Rattle.model.specs.declared.Quote.{Quote}
-use Rattle.model.specs.declared.Quote.TheVariants.{Tempo, Unquoted}
 use Rattle.model.specs.Basics.{tab, joined}
-use Rattle.model.specs.Refusals.{number_of}
 use Rattle.model.specs.Graph.{system, link_at}
 use Rattle.model.specs.Delays.{Settled, unchanged, reached, tail_of, delay_of, spacing_of}
 use Rattle.model.specs.Order.{in_order}
@@ -92,18 +88,18 @@ link_plain l e v =
 
 -- the first line without its line feed
 abbrev pub quote_words : Quote → List ℕ
-quote_words (Tempo t) = tempo_words t
-quote_words (Unquoted r place) = w_tempo ++ w_none
+quote_words (Ok t) = tempo_words t
+quote_words (Err x) = w_tempo ++ w_none
 
 quote_plain : (q : Quote) → every plain (quote_words q) ≡ true
 unfolding tempo_words tempo_text
-quote_plain (Tempo t) = every_append plain (decimal (t / 10)) (46 ∷ (48 + t % 10) ∷ []) (decimal_plain (t / 10)) (rw (ne_eqb (48 + t % 10) 10 (λ e. omega arith)))
-quote_plain (Unquoted r place) = refl
+quote_plain (Ok t) = every_append plain (decimal (t / 10)) (46 ∷ (48 + t % 10) ∷ []) (decimal_plain (t / 10)) (rw (ne_eqb (48 + t % 10) 10 (λ e. omega arith)))
+quote_plain (Err x) = refl
 
 quote_line : (q : Quote) → tempo_line q ≡ line_of (quote_words q)
 unfolding tempo_line tempo_words
-quote_line (Tempo t) = refl
-quote_line (Unquoted r place) = refl
+quote_line (Ok t) = refl
+quote_line (Err x) = refl
 
 -- the lines of a report: the tempo's, then one for each link
 pub report_lines : (pol : Policy) (d : Description) (q : Quote) → lines_of (report_for pol d q) ≡ quote_words q ∷ tab d.link_count (λ l. link_words l (link_at d l) (verdict_at pol d (shown_tempo q) l))
@@ -119,14 +115,14 @@ not_number : (x c d : ℕ) (r u : List ℕ) → is_digit c ≡ false → is_digi
 not_number x c d r u a b h e = h (cut_same is_digit [] (decimal x) c d r u refl (decimal_every x) a b e).1
 
 -- the words of the first line determine the tempo
-tempo_read : (k : Quote) (q : ℕ) → ((t : ℕ) → k ≡ Tempo t → t ≤ 3000) → quote_words k ≡ tempo_words q → k ≡ Tempo q
+tempo_read : (k : Quote) (q : ℕ) → ((t : ℕ) → k ≡ Ok t → t ≤ 3000) → quote_words k ≡ tempo_words q → k ≡ Ok q
 unfolding tempo_words tempo_text
-tempo_read (Tempo t) q h e =
+tempo_read (Ok t) q h e =
     let b : t ≤ 3000 = h t refl in
     let f = decimal_cut (t / 10) (q / 10) 46 46 _ _ (omega arith) refl refl (append_cancel_left w_tempo _ _ e) in
     let z : t ≡ q = omega (arith, f.0, head-eq_of_cons-eq f.2) in
-    ap Tempo z
-tempo_read (Unquoted r place) q h e =
+    ap Ok z
+tempo_read (Err x) q h e =
     absurd (not_number (q / 10) 110 46 _ _ refl refl (λ z. omega arith) (append_cancel_left w_tempo _ _ e))
 
 -- the words of a verdict that is held determine its delay and spacing
@@ -260,8 +256,8 @@ module _ (pol : Policy) (d : Description) (q : Quote) where
       words l = link_words l (link_at d l) (verdict_at pol d (shown_tempo q) l)
 
       not_first : (x : Quote) → quote_words x ≡ held_words place i j D M → ⊥
-      not_first (Tempo t) f = omega (arith, head-eq_of_cons-eq f)
-      not_first (Unquoted r p) f = omega (arith, head-eq_of_cons-eq f)
+      not_first (Ok t) f = omega (arith, head-eq_of_cons-eq f)
+      not_first (Err x) f = omega (arith, head-eq_of_cons-eq f)
 
       small : (l : ℕ) → l < d.link_count → (x y : ℕ) → verdict_at pol d (shown_tempo q) l ≡ Held x y → (x < 10 ^ 19) × (y < 10 ^ 19)
       small l h x y f =
@@ -288,7 +284,7 @@ module _ (pol : Policy) (d : Description) (q : Quote) where
   pub page_first : get_or (lines_of (report_for pol d q)) 0 [] ≡ quote_words q
   page_first = rw (report_lines pol d q)
 
-  pub page_tempo : (x : ℕ) → ((t : ℕ) → q ≡ Tempo t → t ≤ 3000) → get_or (lines_of (report_for pol d q)) 0 [] ≡ tempo_words x → q ≡ Tempo x
+  pub page_tempo : (x : ℕ) → ((t : ℕ) → q ≡ Ok t → t ≤ 3000) → get_or (lines_of (report_for pol d q)) 0 [] ≡ tempo_words x → q ≡ Ok x
   page_tempo x h e = tempo_read q x h (rw (report_lines pol d q) at e)
 
 -- the page of a refused file does not begin with a tempo
@@ -322,17 +318,17 @@ hold_first HoldOn file = (λ e. refl, λ e. refl)
 hold_first Preemptive file = (λ e. absurd (go (read_file file).outcome refl e), λ e. absurd (two_models e))
   where
     first : (d : Description) (q : Quote) → line_at (report_for Preemptive d q) 0 ≡ w_hold → ⊥
-    first d (Tempo t) e =
-        not_hold (report_for Preemptive d (Tempo t)) 116 refl (λ z. omega arith) (λ z. omega arith) e
-    first d (Unquoted r place) e =
-        not_hold (report_for Preemptive d (Unquoted r place)) 116 refl (λ z. omega arith) (λ z. omega arith) e
+    first d (Ok t) e =
+        not_hold (report_for Preemptive d (Ok t)) 116 refl (λ z. omega arith) (λ z. omega arith) e
+    first d (Err x) e =
+        not_hold (report_for Preemptive d (Refused x.why x.place)) 116 refl (λ z. omega arith) (λ z. omega arith) e
 
     go : (o : Outcome) → (read_file file).outcome ≡ o → line_at (plain_report Preemptive file) 0 ≡ w_hold → ⊥
     go Done a e =
         let d : Description = (read_file file).description in
         first d (largest_below (all_held Preemptive d) tempos) (rw a at e)
-    go (Refused r place) a e =
-        not_hold (refused_line r place) 114 refl (λ z. omega arith) (λ z. omega arith) (rw a at e)
+    go (Err x) a e =
+        not_hold (refused_line x.why x.place) 114 refl (λ z. omega arith) (λ z. omega arith) (rw a at e)
 
 -- so that the model is read off the page
 pub model_told : (pol told : Policy) (file : List ℕ) → TellsModel told (report_of pol file) → told ≡ pol
@@ -347,10 +343,10 @@ unfolding printed report_of plain_report
 printed_whole pol input = rw (read_first input)
 
 -- and the page that the report call leaves at the front of a lent buffer
-pub filled_page : (text buffer : List ℕ) (n : ℕ) → fill_with text buffer ≡ Bytes n → take n (filled_by text buffer) ≡ text
+pub filled_page : (text buffer : List ℕ) (n : ℕ) → fill_with text buffer ≡ Ok n → take n (filled_by text buffer) ≡ text
 unfolding fill_with filled_by
 filled_page text buffer n = go (ltb (length buffer) (length text))
   where
-    go : (b : Bool) → cond b (Unfilled ShortPage 0) (Bytes (length text)) ≡ Bytes n → take n (cond b buffer (text ++ drop (length text) buffer)) ≡ text
+    go : (b : Bool) → cond b (Refused ShortPage 0) (Ok (length text)) ≡ Ok n → take n (cond b buffer (text ++ drop (length text) buffer)) ≡ text
     go true e = absurd (let z : ◌≡◌ {A = ℕ} 0 1 = cc in omega arith)
     go false e = let z : n ≡ length text = cc in rw z (take-append_seam text (drop (length text) buffer))

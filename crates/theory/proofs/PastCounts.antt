@@ -1,4 +1,5 @@
 -- "Entries past a count are not looked at": two records that agree below their counts get the same answers. Assumes nothing.
+use Rattle.std.specs.Prelude.{Ok, Err}
 use Prim.Native.Nat.{ℕ, ◌+◌, ◌-◌, ◌<◌}
 use mathlib.Core.Path.{◌≡◌, refl, sym, ap, subst, ◌∙◌, fun_ext}
 use mathlib.Core.Bool.{◌||◌}
@@ -10,10 +11,8 @@ use Rattle.model.specs.declared.Description.{Description}
 use Rattle.model.specs.declared.Field.TheVariants.{OfTask, OfSource, OfLink}
 use Rattle.model.specs.declared.Refusal.{Refusal}
 use Rattle.model.specs.declared.Policy.{Policy}
-use Rattle.model.specs.declared.Outcome.{Outcome}
-use Rattle.model.specs.declared.Outcome.TheVariants.{Done, Refused}
+use Rattle.model.specs.Refusals.{Outcome, Done, Refused, no_link, no_source, on_done}
 use Rattle.model.specs.Basics.{joined}
-use Rattle.model.specs.Refusals.{no_link, no_source, on_done}
 use Rattle.model.specs.Graph.{system, run_of}
 use Rattle.model.specs.Loads.{sheet}
 use Rattle.model.specs.Field.{field_bytes, field_of, field_count}
@@ -33,8 +32,8 @@ use Rattle.theory.proofs.BySpacings.{held_same, slots_same}
 
 -- two answers after the same outcome
 pub done_same : {A : Type 0} (o p : Outcome) (x y : A) (f : Refusal → ℕ → A) → o ≡ p → (o ≡ Done → x ≡ y) → on_done o x f ≡ on_done p y f
-done_same Done p x y f e g = rw (← e) (g refl)
-done_same (Refused r place) p x y f e g = rw (← e) refl
+done_same (Ok tt) p x y f e g = rw (← e) (g refl)
+done_same (Err z) p x y f e g = rw (← e) refl
 
 module _ (d e : Description) (s : SameTo d e) where
   -- the file

@@ -1,5 +1,6 @@
 -- The quote: a link held at one tempo is held at every lower one, so the quote is where a search by halves finds it,
 -- and there is none exactly if some critical link is doubtful at 20.0. Assumes nothing.
+use Rattle.std.specs.Prelude.{Ok, Err}
 use Prim.Native.Nat.{ℕ, zero, suc, ◌+◌, ◌-◌, ◌≤◌, ◌<◌}
 use mathlib.Core.Path.{◌≡◌, refl, sym, ap, ◌∙◌}
 use mathlib.Core.Bool.{Bool, true, false, not, cond}
@@ -13,11 +14,8 @@ use Rattle.model.specs.declared.Description.{Description}
 use Rattle.model.specs.declared.Refusal.{Refusal}
 use Rattle.model.specs.declared.Refusal.TheVariants.{NoTempo}
 use Rattle.model.specs.declared.Policy.{Policy}
-use Rattle.model.specs.declared.Outcome.{Outcome}
-use Rattle.model.specs.declared.Outcome.TheVariants.{Done, Refused}
+use Rattle.model.specs.Refusals.{Quote, Outcome, Done, Refused, on_done, number_of}
 use Rattle.model.specs.declared.Verdict.{Verdict}
-use Rattle.model.specs.declared.Quote.TheVariants.{Tempo, Unquoted}
-use Rattle.model.specs.Refusals.{on_done, number_of}
 use Rattle.model.specs.Graph.{System, system, link_at}
 use Rattle.model.specs.File.{judge, read_file, Accepted}
 use Rattle.model.specs.Delays.{Settled, unchanged, reached, tail_of, delay_of, spacing_of}
@@ -97,7 +95,7 @@ all_slower pol d g t t' p h b e =
 
 -- the largest tempo that passes a test
 module _ (good : ℕ → Bool) where
-  pub largest_hit : (n : ℕ) → good (200 + n) ≡ true → largest_below good (suc n) ≡ Tempo (200 + n)
+  pub largest_hit : (n : ℕ) → good (200 + n) ≡ true → largest_below good (suc n) ≡ Ok (200 + n)
   unfolding largest_below
   largest_hit n e = rw (e, largest_below)
 
@@ -112,18 +110,18 @@ module _ (good : ℕ → Bool) where
     pub passes : good q ≡ true
     pub above : (t : ℕ) → q < t → t < 200 + n → good t ≡ false
 
-  unquoted_not : {r : Refusal} {p q : ℕ} → Unquoted r p ≡ Tempo q → ⊥
+  unquoted_not : {r : Refusal} {p q : ℕ} → Refused r p ≡ Ok q → ⊥
   unquoted_not e = let z : ◌≡◌ {A = ℕ} 0 1 = cc in omega arith
 
-  tempo_is : {a b : ℕ} → Tempo a ≡ Tempo b → a ≡ b
+  tempo_is : {a b : ℕ} → ◌≡◌ {A = Quote} (Ok a) (Ok b) → a ≡ b
   tempo_is e = cc
 
-  pub largest_found : (n q : ℕ) → largest_below good n ≡ Tempo q → Largest n q
+  pub largest_found : (n q : ℕ) → largest_below good n ≡ Ok q → Largest n q
   unfolding largest_below
   largest_found zero q = λ e. absurd (unquoted_not e)
   largest_found (suc n) q = go (good (200 + n)) refl (largest_found n q)
     where
-      go : (b : Bool) → good (200 + n) ≡ b → (largest_below good n ≡ Tempo q → Largest n q) → largest_below good (suc n) ≡ Tempo q → Largest (suc n) q
+      go : (b : Bool) → good (200 + n) ≡ b → (largest_below good n ≡ Ok q → Largest n q) → largest_below good (suc n) ≡ Ok q → Largest (suc n) q
       go true e ih f =
           let z : 200 + n ≡ q = tempo_is (sym (largest_hit n e) ∙ f) in
           record { low = omega arith; high = omega arith; passes = rw z at e; above = λ t x y. absurd (omega arith) }
@@ -137,26 +135,26 @@ module _ (good : ℕ → Bool) where
           up r t x (more c) y = absurd (omega arith)
 
   -- and it is found
-  pub largest_is : (n q : ℕ) → Largest n q → largest_below good n ≡ Tempo q
+  pub largest_is : (n q : ℕ) → Largest n q → largest_below good n ≡ Ok q
   unfolding largest_below
   largest_is zero q r = absurd (omega (arith, r.low, r.high))
   largest_is (suc n) q r = go (cmp q (200 + n)) (largest_is n q)
     where
-      go : Cmp q (200 + n) → (Largest n q → largest_below good n ≡ Tempo q) → largest_below good (suc n) ≡ Tempo q
+      go : Cmp q (200 + n) → (Largest n q → largest_below good n ≡ Ok q) → largest_below good (suc n) ≡ Ok q
       go (less c) ih =
           largest_miss n (r.above (200 + n) c (omega arith)) ∙ ih (record { low = r.low; high = c; passes = r.passes; above = λ t x y. r.above t x (omega arith) })
-      go (same c) ih = let p : good (200 + n) ≡ true = rw c at r.passes in largest_hit n p ∙ ap Tempo (sym c)
+      go (same c) ih = let p : good (200 + n) ≡ true = rw c at r.passes in largest_hit n p ∙ ap Ok (sym c)
       go (more c) ih = absurd (omega (arith, r.high))
 
   -- none passes
-  pub none_largest : (n : ℕ) → largest_below good n ≡ Unquoted NoTempo 0 → (t : ℕ) → 200 ≤ t → t < 200 + n → good t ≡ false
+  pub none_largest : (n : ℕ) → largest_below good n ≡ Refused NoTempo 0 → (t : ℕ) → 200 ≤ t → t < 200 + n → good t ≡ false
   none_largest n e t x y = false_of (good t) (λ f. found n t e x y f)
     where
-      found : (n t : ℕ) → largest_below good n ≡ Unquoted NoTempo 0 → 200 ≤ t → t < 200 + n → good t ≡ true → ⊥
+      found : (n t : ℕ) → largest_below good n ≡ Refused NoTempo 0 → 200 ≤ t → t < 200 + n → good t ≡ true → ⊥
       found zero t e x y f = omega arith
       found (suc n) t e x y f = go (good (200 + n)) refl (found n t)
         where
-          go : (b : Bool) → good (200 + n) ≡ b → (largest_below good n ≡ Unquoted NoTempo 0 → 200 ≤ t → t < 200 + n → good t ≡ true → ⊥) → ⊥
+          go : (b : Bool) → good (200 + n) ≡ b → (largest_below good n ≡ Refused NoTempo 0 → 200 ≤ t → t < 200 + n → good t ≡ true → ⊥) → ⊥
           go true q ih = unquoted_not (sym e ∙ largest_hit n q)
           go false q ih = ih (sym (largest_miss n q) ∙ e) x (below (cmp t (200 + n))) f
             where
@@ -165,7 +163,7 @@ module _ (good : ℕ → Bool) where
               below (same c) = absurd (not_both (rw c at f) q)
               below (more c) = absurd (omega arith)
 
-  pub largest_none : (n : ℕ) → ((t : ℕ) → 200 ≤ t → t < 200 + n → good t ≡ false) → largest_below good n ≡ Unquoted NoTempo 0
+  pub largest_none : (n : ℕ) → ((t : ℕ) → 200 ≤ t → t < 200 + n → good t ≡ false) → largest_below good n ≡ Refused NoTempo 0
   unfolding largest_below
   largest_none zero h = refl
   largest_none (suc n) h =
@@ -173,7 +171,7 @@ module _ (good : ℕ → Bool) where
 
 -- of a test that passes at every lower tempo too, it is enough to look at two neighbours, or at the lowest
 module _ (pol : Policy) (d : Description) (g : WellFormed d) where
-  pub quote_at : (q : ℕ) → 200 ≤ q → q ≤ 3000 → all_held pol d q ≡ true → (q < 3000 → all_held pol d (suc q) ≡ false) → largest_below (all_held pol d) tempos ≡ Tempo q
+  pub quote_at : (q : ℕ) → 200 ≤ q → q ≤ 3000 → all_held pol d q ≡ true → (q < 3000 → all_held pol d (suc q) ≡ false) → largest_below (all_held pol d) tempos ≡ Ok q
   quote_at q a b e h =
       largest_is
       (all_held pol d)
@@ -187,7 +185,7 @@ module _ (pol : Policy) (d : Description) (g : WellFormed d) where
             λ t x y. false_of (all_held pol d t) (λ f. not_both (all_slower pol d g (suc q) t (omega arith) x (omega arith) f) (h (omega arith)));
       })
 
-  pub quote_none : all_held pol d 200 ≡ false → largest_below (all_held pol d) tempos ≡ Unquoted NoTempo 0
+  pub quote_none : all_held pol d 200 ≡ false → largest_below (all_held pol d) tempos ≡ Refused NoTempo 0
   quote_none e =
       largest_none
       (all_held pol d)
@@ -202,11 +200,11 @@ pub record Quoted (pol : Policy) (d : Description) (q : ℕ) : Type 0 where
   pub held : all_held pol d q ≡ true
   pub above : (t : ℕ) → q < t → t ≤ 3000 → all_held pol d t ≡ false
 
-pub quoted : (pol : Policy) (d : Description) (q : ℕ) → quote_of pol d ≡ Tempo q → Quoted pol d q
+pub quoted : (pol : Policy) (d : Description) (q : ℕ) → quote_of pol d ≡ Ok q → Quoted pol d q
 unfolding quote_of
 quoted pol d q = go (judge d) refl
   where
-    go : (o : Outcome) → judge d ≡ o → on_done o (largest_below (all_held pol d) tempos) Unquoted ≡ Tempo q → Quoted pol d q
+    go : (o : Outcome) → judge d ≡ o → on_done o (largest_below (all_held pol d) tempos) Refused ≡ Ok q → Quoted pol d q
     go Done e f =
         let r : Largest (all_held pol d) tempos q = largest_found (all_held pol d) tempos q f in
         record {
@@ -216,14 +214,14 @@ quoted pol d q = go (judge d) refl
           held = r.passes;
           above = λ t x y. r.above t x (omega arith);
         }
-    go (Refused r p) e f = absurd (unquoted_not (all_held pol d) f)
+    go (Err x) e f = absurd (unquoted_not (all_held pol d) f)
 
 -- "the quote is the largest T at which every critical link is held", both ways
-pub quote_exactly : (pol : Policy) (d : Description) (q : ℕ) → (quote_of pol d ≡ Tempo q) ↔ Quoted pol d q
+pub quote_exactly : (pol : Policy) (d : Description) (q : ℕ) → (quote_of pol d ≡ Ok q) ↔ Quoted pol d q
 unfolding quote_of
 quote_exactly pol d q = (quoted pol d q, found)
   where
-    found : Quoted pol d q → quote_of pol d ≡ Tempo q
+    found : Quoted pol d q → quote_of pol d ≡ Ok q
     found r =
         rw r.judged
         (largest_is (all_held pol d) tempos q (record { low = r.low; high = omega (arith, r.high); passes = r.held; above = λ t x y. r.above t x (omega arith) }))
@@ -234,37 +232,41 @@ pub record NoneHeld (pol : Policy) (d : Description) : Type 0 where
   pub none : (t : ℕ) → 200 ≤ t → t ≤ 3000 → all_held pol d t ≡ false
 
 -- a refusal of a reading is not 12
-not_12 : {r : Refusal} {p : ℕ} → number_of r ≤ 10 → Unquoted r p ≡ Unquoted NoTempo 0 → ⊥
-not_12 {r} h e = let z : r ≡ NoTempo = cc in omega (arith, ap number_of z)
+abbrev why_of : Quote → ℕ
+why_of (Ok t) = 0
+why_of (Err x) = number_of x.why
+
+not_12 : {r : Refusal} {p : ℕ} → number_of r ≤ 10 → ◌≡◌ {A = Quote} (Refused r p) (Refused NoTempo 0) → ⊥
+not_12 {r} h e = omega (arith, h, ap why_of e)
 
 -- 12 is given only if there is no such tempo, and always then
-pub no_tempo_exactly : (pol : Policy) (d : Description) → (quote_of pol d ≡ Unquoted NoTempo 0) ↔ NoneHeld pol d
+pub no_tempo_exactly : (pol : Policy) (d : Description) → (quote_of pol d ≡ Refused NoTempo 0) ↔ NoneHeld pol d
 unfolding quote_of
 no_tempo_exactly pol d = (go (judge d) refl, found)
   where
-    go : (o : Outcome) → judge d ≡ o → on_done o (largest_below (all_held pol d) tempos) Unquoted ≡ Unquoted NoTempo 0 → NoneHeld pol d
-    go Done e f = record { judged = e; none = λ t x y. none_largest (all_held pol d) tempos f t x (omega arith) }
-    go (Refused r p) e f = absurd (not_12 (rw e at (judge_number d)) f)
+    go : (o : Outcome) → judge d ≡ o → on_done o (largest_below (all_held pol d) tempos) Refused ≡ Refused NoTempo 0 → NoneHeld pol d
+    go (Ok tt) e f = record { judged = e; none = λ t x y. none_largest (all_held pol d) tempos f t x (omega arith) }
+    go (Err x) e f = absurd (not_12 (rw e at (judge_number d)) f)
 
-    found : NoneHeld pol d → quote_of pol d ≡ Unquoted NoTempo 0
+    found : NoneHeld pol d → quote_of pol d ≡ Refused NoTempo 0
     found r = rw r.judged (largest_none (all_held pol d) tempos (λ t x y. r.none t x (omega arith)))
 
 -- the same of a file
-pub file_quote_exactly : (pol : Policy) (s : List ℕ) (q : ℕ) → (quoted_file pol s ≡ Tempo q) ↔ (Accepted s × Quoted pol (read_file s).description q)
+pub file_quote_exactly : (pol : Policy) (s : List ℕ) (q : ℕ) → (quoted_file pol s ≡ Ok q) ↔ (Accepted s × Quoted pol (read_file s).description q)
 unfolding quoted_file
 file_quote_exactly pol s q = (go (read_file s).outcome refl, λ r. rw r.0 ((quote_exactly pol (read_file s).description q).1 r.1))
   where
-    go : (o : Outcome) → (read_file s).outcome ≡ o → on_done o (quote_of pol (read_file s).description) Unquoted ≡ Tempo q → Accepted s × Quoted pol (read_file s).description q
-    go Done e f = (e, quoted pol (read_file s).description q f)
-    go (Refused r p) e f = absurd (unquoted_not (λ t. true) f)
+    go : (o : Outcome) → (read_file s).outcome ≡ o → on_done o (quote_of pol (read_file s).description) Refused ≡ Ok q → Accepted s × Quoted pol (read_file s).description q
+    go (Ok tt) e f = (e, quoted pol (read_file s).description q f)
+    go (Err x) e f = absurd (unquoted_not (λ t. true) f)
 
-pub file_no_tempo_exactly : (pol : Policy) (s : List ℕ) → Bytes s → (quoted_file pol s ≡ Unquoted NoTempo 0) ↔ (Accepted s × ((t : ℕ) → 200 ≤ t → t ≤ 3000 → all_held pol (read_file s).description t ≡ false))
+pub file_no_tempo_exactly : (pol : Policy) (s : List ℕ) → Bytes s → (quoted_file pol s ≡ Refused NoTempo 0) ↔ (Accepted s × ((t : ℕ) → 200 ≤ t → t ≤ 3000 → all_held pol (read_file s).description t ≡ false))
 unfolding quoted_file
 file_no_tempo_exactly pol s b = (go (read_file s).outcome refl, found)
   where
-    go : (o : Outcome) → (read_file s).outcome ≡ o → on_done o (quote_of pol (read_file s).description) Unquoted ≡ Unquoted NoTempo 0 → Accepted s × ((t : ℕ) → 200 ≤ t → t ≤ 3000 → all_held pol (read_file s).description t ≡ false)
-    go Done e f = (e, ((no_tempo_exactly pol (read_file s).description).0 f).none)
-    go (Refused r p) e f = absurd (not_12 (rw e at (read_number s)) f)
+    go : (o : Outcome) → (read_file s).outcome ≡ o → on_done o (quote_of pol (read_file s).description) Refused ≡ Refused NoTempo 0 → Accepted s × ((t : ℕ) → 200 ≤ t → t ≤ 3000 → all_held pol (read_file s).description t ≡ false)
+    go (Ok tt) e f = (e, ((no_tempo_exactly pol (read_file s).description).0 f).none)
+    go (Err x) e f = absurd (not_12 (rw e at (read_number s)) f)
 
-    found : Accepted s × ((t : ℕ) → 200 ≤ t → t ≤ 3000 → all_held pol (read_file s).description t ≡ false) → quoted_file pol s ≡ Unquoted NoTempo 0
+    found : Accepted s × ((t : ℕ) → 200 ≤ t → t ≤ 3000 → all_held pol (read_file s).description t ≡ false) → quoted_file pol s ≡ Refused NoTempo 0
     found r = rw r.0 ((no_tempo_exactly pol (read_file s).description).1 (record { judged = read_judged s b r.0; none = r.1 }))

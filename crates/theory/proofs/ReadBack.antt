@@ -13,8 +13,7 @@ use Rattle.model.specs.declared.Field.TheVariants.{OfSource}
 use Rattle.model.specs.declared.SourceSlot.{SourceSlot}
 use Rattle.model.specs.declared.Link.{Link}
 use Rattle.model.specs.declared.Reading.{Reading}
-use Rattle.model.specs.declared.Outcome.TheVariants.{Done}
-use Rattle.model.specs.Refusals.{no_link, no_source}
+use Rattle.model.specs.Refusals.{Done, no_link, no_source}
 use Rattle.model.specs.Graph.{system}
 use Rattle.model.specs.Field.{field_count, on_scale}
 use Rattle.model.specs.File.{file_of, parse_file, read_file, Accepted, overfull, judge, trimmed}

@@ -13,14 +13,9 @@ use Rattle.model.specs.declared.Description.{Description}
 use Rattle.model.specs.declared.Field.{Field}
 use Rattle.model.specs.declared.Field.TheVariants.{OfTask, OfSource, OfLink}
 use Rattle.model.specs.declared.Progress.{Progress}
-use Rattle.model.specs.declared.Taken.{Taken}
-use Rattle.model.specs.declared.Taken.TheVariants.{Whole, Broken, End}
-use Rattle.model.specs.declared.Check.{Check}
-use Rattle.model.specs.declared.Check.TheVariants.{Fine, Unfit}
-use Rattle.model.specs.declared.Outcome.TheVariants.{Done}
+use Rattle.model.specs.Field.{Taken, Whole, Broken, End, Check, Fine, Unfit, field_bytes, take_field, check_field, with_field, passed, no_progress, field_of, field_count}
+use Rattle.model.specs.Refusals.{Done, no_link, no_source, blank}
 use Rattle.model.specs.Basics.{joined}
-use Rattle.model.specs.Refusals.{no_link, no_source, blank}
-use Rattle.model.specs.Field.{field_bytes, take_field, check_field, with_field, passed, no_progress, field_of, field_count}
 use Rattle.model.specs.File.{file_of, parse_from}
 use Rattle.lemmas.proofs.Tests.{at_or_not, and_left, and_right}
 use Rattle.theory.proofs.NumberBytes.{Bytes}

@@ -9,16 +9,12 @@ use Rattle.model.specs.declared.Description.{Description}
 use Rattle.model.specs.declared.Field.{Field}
 use Rattle.model.specs.declared.Field.TheVariants.{OfTask, OfSource, OfLink}
 use Rattle.model.specs.declared.Refusal.{Refusal}
-use Rattle.model.specs.declared.Taken.TheVariants.{Whole, Broken, End}
+use Rattle.model.specs.Field.{Whole, Broken, End, Check, Fine, Unfit, field_bytes, take_field, check_field, with_field, passed, no_progress, field_of, field_count}
 use Rattle.model.specs.declared.Progress.{Progress}
-use Rattle.model.specs.declared.Check.{Check}
-use Rattle.model.specs.declared.Check.TheVariants.{Fine, Unfit}
-use Rattle.model.specs.declared.Outcome.TheVariants.{Done}
+use Rattle.model.specs.Refusals.{Done, blank, no_link, no_source}
 use Rattle.model.specs.declared.Reading.{Reading}
 use Rattle.model.specs.Basics.{joined, up_to}
-use Rattle.model.specs.Refusals.{blank, no_link, no_source}
 use Rattle.model.specs.Header.{header_at}
-use Rattle.model.specs.Field.{field_bytes, take_field, check_field, with_field, passed, no_progress, field_of, field_count}
 use Rattle.model.specs.File.{file_of, parse_from, parse_file, refused_reading}
 pub use Rattle.model.specs.File.{Widths}
 use Rattle.lemmas.proofs.Tests.{Cmp, less, same, more, cmp}

@@ -1,4 +1,5 @@
 -- Which refusals a reading and a judging give: those numbered 1 to 10. Assumes nothing.
+use Rattle.std.specs.Prelude.{Ok, Err}
 use Prim.Native.Nat.{ℕ, zero, suc, ◌+◌, ◌-◌, ◌≤◌}
 use mathlib.Core.Path.{◌≡◌, refl}
 use mathlib.Core.Bool.{Bool, true, false, cond, not}
@@ -10,26 +11,18 @@ use Rattle.model.specs.declared.Description.{Description}
 use Rattle.model.specs.declared.Field.{Field}
 use Rattle.model.specs.declared.Progress.{Progress}
 use Rattle.model.specs.declared.Refusal.TheVariants.{CutShort, StrangeTag, WrongLength, OutOfTurn, TooMany, OffScale, NoSuchEnd, NoTask, Loop, TooHeavy}
-use Rattle.model.specs.declared.Header.{Header}
-use Rattle.model.specs.declared.Header.TheVariants.{Body, Faulty, Ended}
-use Rattle.model.specs.declared.Taken.{Taken}
-use Rattle.model.specs.declared.Taken.TheVariants.{Whole, Broken, End}
-use Rattle.model.specs.declared.Check.{Check}
-use Rattle.model.specs.declared.Check.TheVariants.{Fine, Unfit}
-use Rattle.model.specs.declared.Outcome.{Outcome}
-use Rattle.model.specs.declared.Outcome.TheVariants.{Done, Refused}
-use Rattle.model.specs.Refusals.{number_of, on_done}
+use Rattle.model.specs.Header.{HeaderAt, Body, Faulty, Ended, number_in, is_tag, length_fits, header_at}
+use Rattle.model.specs.Field.{Taken, Whole, Broken, End, Check, Fine, Unfit, field_tags, taken_by, take_field, check_field, in_turn, has_room, on_scale, has_ends, with_field, passed}
+use Rattle.model.specs.Refusals.{Outcome, Done, Refused, number_of, on_done}
 use Rattle.model.specs.Graph.{system, cyclic}
 use Rattle.model.specs.Loads.{too_heavy}
-use Rattle.model.specs.Header.{number_in, is_tag, length_fits, header_at}
-use Rattle.model.specs.Field.{field_tags, taken_by, take_field, check_field, in_turn, has_room, on_scale, has_ends, with_field, passed}
 use Rattle.model.specs.File.{file_of, parse_from, parse_file, last_checks, finished, refused_reading, read_file, overfull, judge}
 use Rattle.theory.proofs.RecordLaws.{parse_fine, parse_unfit, parse_broken, parse_end}
 
 -- the number of a refusal, 0 for none
 abbrev pub refusal_number : Outcome → ℕ
-refusal_number Done = 0
-refusal_number (Refused r place) = number_of r
+refusal_number (Ok tt) = 0
+refusal_number (Err x) = number_of x.why
 
 abbrev taken_number : Taken → ℕ
 taken_number (Whole f next) = 0
@@ -37,7 +30,7 @@ taken_number (Broken r) = number_of r
 taken_number End = 0
 
 abbrev check_number : Check → ℕ
-check_number Fine = 0
+check_number (Ok tt) = 0
 check_number (Unfit r) = number_of r
 
 -- a field that does not come out whole: 1, 2 or 3
@@ -49,7 +42,7 @@ taken_number_lem s at =
     (Body (get_or s at 0) (at + 3) (number_in s (at + 1) 2))
     (omega arith)
   where
-    go : (a b c d e : Bool) (w : Header) → taken_number (taken_by s w) ≤ 7 → taken_number (taken_by s (cond a Ended (cond b (Faulty CutShort) (cond c (Faulty StrangeTag) (cond d (Faulty WrongLength) (cond e (Faulty CutShort) w)))))) ≤ 7
+    go : (a b c d e : Bool) (w : HeaderAt) → taken_number (taken_by s w) ≤ 7 → taken_number (taken_by s (cond a Ended (cond b (Faulty CutShort) (cond c (Faulty StrangeTag) (cond d (Faulty WrongLength) (cond e (Faulty CutShort) w)))))) ≤ 7
     go true b c d e w h = omega arith
     go false true c d e w h = omega arith
     go false false true d e w h = omega arith
@@ -75,7 +68,7 @@ parse_number zero s at p d = omega arith
 parse_number (suc n) s at p d = taken (take_field s at) refl (parse_number n s)
   where
     checked : (f : Field) (next : ℕ) → take_field s at ≡ Whole f next → (c : Check) → check_field p f ≡ c → ((a : ℕ) (q : Progress) (x : Description) → refusal_number (parse_from n s a q x).outcome ≤ 7) → refusal_number (parse_from (suc n) s at p d).outcome ≤ 7
-    checked f next t Fine q ih = rw (parse_fine n s at p d f next t q) (ih next (passed p f) (with_field d f))
+    checked f next t (Ok tt) q ih = rw (parse_fine n s at p d f next t q) (ih next (passed p f) (with_field d f))
     checked f next t (Unfit r) q ih = rw (parse_unfit n s at p d f next r t q) (rw q at (check_number_lem p f))
 
     taken : (t : Taken) → take_field s at ≡ t → ((a : ℕ) (q : Progress) (x : Description) → refusal_number (parse_from n s a q x).outcome ≤ 7) → refusal_number (parse_from (suc n) s at p d).outcome ≤ 7
@@ -99,12 +92,12 @@ unfolding read_file parse_file
 read_number s = go (parse_file s).outcome refl
   where
     last : (o : Outcome) (d : Description) → refusal_number o ≤ 10 → refusal_number (on_done o (record { outcome = Done; description = d }) refused_reading).outcome ≤ 10
-    last Done d h = h
-    last (Refused r place) d h = h
+    last (Ok tt) d h = h
+    last (Err x) d h = h
 
     go : (o : Outcome) → (parse_file s).outcome ≡ o → refusal_number (on_done (parse_file s).outcome (finished (parse_file s).description) refused_reading).outcome ≤ 10
-    go Done e = rw e (last (last_checks (parse_file s).description) (parse_file s).description (last_number (parse_file s).description))
-    go (Refused r place) e =
+    go (Ok tt) e = rw e (last (last_checks (parse_file s).description) (parse_file s).description (last_number (parse_file s).description))
+    go (Err x) e =
         let b : refusal_number (parse_file s).outcome ≤ 7 = parse_number (suc (length s)) s 0 _ _ in
         rw e (omega (arith, rw e at b))
 

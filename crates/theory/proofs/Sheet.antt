@@ -6,7 +6,7 @@ use lib.ListN.{get_or}
 use Rattle.model.specs.declared.Row.{Row}
 use Rattle.model.specs.declared.Description.{Description}
 use Rattle.model.specs.declared.Refusal.{Refusal}
-use Rattle.model.specs.declared.Outcome.TheVariants.{Done, Refused}
+use Rattle.model.specs.Refusals.{Done, Refused}
 use Rattle.model.specs.Graph.{system}
 use Rattle.model.specs.Basics.{tab}
 use Rattle.model.specs.Loads.{load, sheet, no_row}

@@ -1,5 +1,6 @@
 -- The promise of the code's own calls, on either model: of the record that `start` answers and any list of calls of `tick`, and of a run's answer and
 -- buffer. -- Assumes nothing.
+use Rattle.std.specs.Prelude.{Ok}
 use Prim.Native.Nat.{ℕ, ◌≤◌}
 use mathlib.Core.Path.{◌≡◌, refl, sym, ap, subst, ◌∙◌}
 use mathlib.Core.Bool.{Bool, true, false}
@@ -20,9 +21,7 @@ use Rattle.model.specs.declared.Description.{Description}
 use Rattle.model.specs.declared.Policy.{Policy}
 use Rattle.model.specs.declared.Machine.{Machine}
 use Rattle.model.specs.declared.Ticked.{Ticked}
-use Rattle.model.specs.declared.Outcome.{Outcome}
-use Rattle.model.specs.declared.Quote.TheVariants.{Tempo}
-use Rattle.model.specs.declared.Outcome.TheVariants.{Done}
+use Rattle.model.specs.Refusals.{Outcome, Done}
 use Rattle.model.specs.File.{Widths, read_file, filled_by}
 use Rattle.model.specs.Verdicts.{quote_of, quoted_file}
 use Rattle.model.specs.Machine.{idle}
@@ -55,7 +54,7 @@ ran_done pol d cs b b' r g o = go (ltb (length b) (length cs)) refl
         let f : b' ≡ page pol d cs ++ drop (length cs) b = rw (n, e) at g.1 in
         (ap (λ (y : Ticked). y.machine) (rw e at g.0), ap (take (length cs)) f ∙ take_at (page pol d cs) (drop (length cs) b) (length cs) n)
 
-pub run_assured : (pol : Policy) (d : Description) (q : ℕ) → Widths d → quote_of pol d ≡ Tempo q → (cs : List Call) → UpTo q (ticks pol d (idle d) cs) → (b b' : List ℕ) (r : Ticked) → RunOf pol d cs b b' r → r.outcome ≡ Done → RunAssured pol d q cs b' r
+pub run_assured : (pol : Policy) (d : Description) (q : ℕ) → Widths d → quote_of pol d ≡ Ok q → (cs : List Call) → UpTo q (ticks pol d (idle d) cs) → (b b' : List ℕ) (r : Ticked) → RunOf pol d cs b b' r → r.outcome ≡ Done → RunAssured pol d q cs b' r
 run_assured pol d q w e cs up b b' r g o =
     let k = ran_done pol d cs b b' r g o in
     record {
@@ -68,7 +67,7 @@ run_assured pol d q w e cs up b b' r g o =
 -- the file and its quote; the record that `start` answers; any list of calls of `tick`, each on the record as the one before left it, no tick of
 -- which is above the quote: the start is not refused, and all is assured
 pub file_assured : (pol : Policy) (file : List ℕ) (q : ℕ) (s : Ticked) (cs : List Call) (rs : List Ticked) (m : Machine)
-    → AllBytes file → quoted_file pol file ≡ Tempo q → StartMeets (read_file file).description s → Calls pol (read_file file).description s.machine cs rs m
+    → AllBytes file → quoted_file pol file ≡ Ok q → StartMeets (read_file file).description s → Calls pol (read_file file).description s.machine cs rs m
     → UpTo q (ticks pol (read_file file).description (idle (read_file file).description) cs)
     → (s.outcome ≡ Done) × Assured pol (read_file file).description q cs rs m
 file_assured pol file q s cs rs m b e started calls up =
@@ -77,7 +76,7 @@ file_assured pol file q s cs rs m b e started calls up =
 
 -- and demand 3: the calls at one tempo up to it
 pub file_demand3 : (pol : Policy) (file : List ℕ) (q t : ℕ) (s : Ticked) (cs : List Call) (rs : List Ticked) (m : Machine)
-    → AllBytes file → quoted_file pol file ≡ Tempo q → t ≤ q → at_tempo t cs ≡ true → StartMeets (read_file file).description s → Calls pol (read_file file).description s.machine cs rs m
+    → AllBytes file → quoted_file pol file ≡ Ok q → t ≤ q → at_tempo t cs ≡ true → StartMeets (read_file file).description s → Calls pol (read_file file).description s.machine cs rs m
     → Assured pol (read_file file).description q cs rs m
 file_demand3 pol file q t s cs rs m b e high one started calls =
     let k : QuotedFile pol file q = quoted_file_lem pol file q b e in

@@ -10,7 +10,7 @@ use Rattle.model.specs.declared.Arrivals.{Arrivals}
 use Rattle.model.specs.declared.Ticked.{Ticked}
 use Rattle.model.specs.declared.Refusal.{Refusal}
 use Rattle.model.specs.declared.Refusal.TheVariants.{OffKnob}
-use Rattle.model.specs.declared.Outcome.TheVariants.{Done, Refused}
+use Rattle.model.specs.Refusals.{Done, Refused}
 use Rattle.model.specs.File.{Widths, judge}
 use Rattle.model.specs.Verdicts.{judge_at, on_knob}
 use Rattle.model.specs.Machine.{idle, started, judge_tick, plain_tick}

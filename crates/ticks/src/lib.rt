@@ -3,7 +3,7 @@
 #![tactic(auto)]
 
 ghost use Rattle.std.specs.Prelude.{◌≡◌};
-ghost use Rattle.model.specs.declared.Outcome.TheVariants.{Done};
+ghost use Rattle.model.specs.Refusals.{Done};
 ghost use Rattle.model.specs.File.{judge};
 ghost use Rattle.model.specs.Verdicts.{judge_at};
 ghost use Rattle.model.specs.Machine.{unstarted, plain_tick};

@@ -1,5 +1,6 @@
 -- The verdict call's answers by structure and spacings (C-12): two records that it does not refuse, each at its own tempo, get the same answer if they have the same
 -- tasks and links, and their sources the same spacings there. `Widths` is what the types of a record give (`theory/Typed.typed_widths`). Assumes nothing.
+use Rattle.std.specs.Prelude.{Ok, Err}
 use Prim.Native.Nat.{ℕ}
 use mathlib.Core.Path.{◌≡◌, sym, ap, ◌∙◌}
 use mathlib.Core.List.{List}
@@ -15,12 +16,10 @@ use denote.Triple.Entry.{Args}
 use denote.Triple.Clauses.{AtExit}
 use Rattle.model.specs.declared.Description.{Description}
 use Rattle.model.specs.declared.Policy.{Policy}
-use Rattle.model.specs.declared.Outcome.{Outcome}
-use Rattle.model.specs.declared.Outcome.TheVariants.{Done, Refused}
+use Rattle.model.specs.Refusals.{Outcome, Done, Refused, on_done}
 use Rattle.model.specs.declared.VerdictSlot.{VerdictSlot}
 use Rattle.model.specs.declared.Verdicts.{Verdicts}
 use Rattle.model.specs.Basics.{tab}
-use Rattle.model.specs.Refusals.{on_done}
 use Rattle.model.specs.File.{Widths}
 use Rattle.model.specs.Verdicts.{judge_at, slot_at, free_slot, verdicts}
 use Rattle.lemmas.proofs.Outcomes.{refused_not}
@@ -37,8 +36,8 @@ unfolding verdicts
 answered pol d t r e o = go (judge_at d t) (sym (ap (λ (x : Verdicts). x.outcome) e) ∙ o)
   where
     go : (k : Outcome) → (on_done k (answer Done (tab 256 (slot_at pol d t))) (λ w p. answer (Refused w p) (replicate 256 free_slot))).outcome ≡ Done → k ≡ Done
-    go Done f = f
-    go (Refused w p) f = refused_not f
+    go (Ok tt) f = f
+    go (Err x) f = refused_not f
 
 pub same_answers : (pol : Policy) (d e : Description) (t t' : ℕ) (r r' : Verdicts) → Widths d → Widths e → r ≡ verdicts pol d t → r' ≡ verdicts pol e t' → r.outcome ≡ Done → r'.outcome ≡ Done → SameStructure d e → SameSpacings d t e t' → r ≡ r'
 same_answers pol d e t t' r r' w w' a b o o' s g = a ∙ verdicts_same pol d e t t' w w' (answered pol d t r a o) (answered pol e t' r' b o') s g ∙ sym b

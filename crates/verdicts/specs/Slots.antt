@@ -8,7 +8,7 @@ use Rattle.model.specs.declared.Verdict.TheVariants.{Free, HeldOrder, DoubtOrder
 use Rattle.model.specs.declared.VerdictSlot.{VerdictSlot}
 use Rattle.model.specs.declared.Verdicts.{Verdicts}
 use Rattle.model.specs.declared.Refusal.{Refusal}
-use Rattle.model.specs.declared.Outcome.TheVariants.{Refused}
+use Rattle.model.specs.Refusals.{Refused}
 use Rattle.model.specs.Basics.{tab}
 use Rattle.model.specs.Graph.{system, link_at}
 use Rattle.model.specs.Delays.{tail_of}

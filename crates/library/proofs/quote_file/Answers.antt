@@ -4,8 +4,7 @@ use Rattle.library.proofs.Laws.{quoted_place, reply_done}
 use mathlib.Core.Path.{sym, ap, ◌∙◌}
 use mir.Syntax.{w64}
 use mir.ValLaws.{to_z-of_z}
-use Rattle.model.specs.declared.Quote.{Quote}
-use Rattle.model.specs.Refusals.{of_quote}
+use Rattle.model.specs.Refusals.{Quote, of_quote}
 use Rattle.library.specs.Replies.{reply}
 use Rattle.library.proofs.quote_file.Goals as goal
 

@@ -5,8 +5,7 @@ use mathlib.Core.Path.{sym, ap, ◌∙◌}
 use mir.Syntax.{w64}
 use mir.ValLaws.{to_z-of_z}
 use native.Mathlib.Omega.{arith}
-use Rattle.model.specs.Refusals.{of_filled}
-use Rattle.model.specs.declared.Filled.{Filled}
+use Rattle.model.specs.Refusals.{of_filled, Filled}
 use Rattle.report.proofs.ReportLaws.{report_length}
 use Rattle.library.specs.Replies.{reply}
 use Rattle.library.proofs.report_file.Goals as goal

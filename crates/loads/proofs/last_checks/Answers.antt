@@ -2,7 +2,7 @@ use mathlib.Core.Path.{sym, ap, ◌∙◌}
 use mathlib.Core.List.{List}
 use Rattle.model.specs.declared.Row.{Row}
 use Rattle.model.specs.declared.LoadSheet.{LoadSheet}
-use Rattle.model.specs.declared.Outcome.TheVariants.{Done}
+use Rattle.model.specs.Refusals.{Done}
 use Rattle.loads.proofs.Checks.{sheet_refused, sheet_done, rows_are}
 use Rattle.loads.proofs.last_checks.Goals as goal
 

@@ -1,8 +1,7 @@
 -- The header by a table of tags: rows of a table that has the tag 6 alone, with bodies of length 6, and rows of the description's table.
 use Rattle.std.specs.Prelude.{ℕ, List, [], ◌∷◌, ◌≡◌}
 use Rattle.model.specs.declared.Refusal.TheVariants.{CutShort, StrangeTag, WrongLength}
-use Rattle.model.specs.declared.Header.TheVariants.{Body, Faulty, Ended}
-use Rattle.model.specs.Header.{header_at}
+use Rattle.model.specs.Header.{Body, Faulty, Ended, header_at}
 use Rattle.model.specs.Field.{field_tags}
 
 abbrev pub six_tags : List ℕ

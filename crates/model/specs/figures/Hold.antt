@@ -1,12 +1,11 @@
 -- Request C-14, "The hold-on model": the files its figures speak of, and the figures as the rows of one statement.
-use Rattle.std.specs.Prelude.{ℕ, true, false, List, [], ◌∷◌, ◌++◌, ◌≡◌, length, eqb}
+use Rattle.std.specs.Prelude.{ℕ, true, false, List, [], ◌∷◌, ◌++◌, ◌≡◌, length, eqb, Ok}
 use Rattle.model.specs.declared.Source.TheVariants.{Fixed}
 use Rattle.model.specs.declared.Description.{Description}
 use Rattle.model.specs.declared.Machine.{Machine}
 use Rattle.model.specs.declared.Policy.{Policy}
 use Rattle.model.specs.declared.Policy.TheVariants.{Preemptive, HoldOn}
 use Rattle.model.specs.declared.Verdict.TheVariants.{HeldOrder, Held, Doubt}
-use Rattle.model.specs.declared.Quote.TheVariants.{Tempo}
 use Rattle.model.specs.Basics.{tab}
 use Rattle.model.specs.Refusals.{of_outcome}
 use Rattle.model.specs.Graph.{system}
@@ -63,7 +62,7 @@ pub record HoldFigures : Type 0 where
   pub box_delay : round_of HoldOn (system box) (spacing_of box 1248) 2 700 ≡ 700
   pub box_held : verdict_at HoldOn box 1248 2 ≡ Held 1000 1001
   pub box_doubtful : verdict_at HoldOn box 1249 2 ≡ Doubt 1000
-  pub box_quote : quote_of HoldOn box ≡ Tempo 1248
+  pub box_quote : quote_of HoldOn box ≡ Ok 1248
   -- 34>3: the longest run is 400, nothing is above task 3, and 200 follow
   pub box_highest : start_of HoldOn (system box) 3 ≡ 400
   pub box_second : verdict_at HoldOn box 1248 3 ≡ Held 600 2000
@@ -73,9 +72,9 @@ pub record HoldFigures : Type 0 where
   pub twin_first : verdict_at HoldOn (twin 11) 200 2 ≡ Held 10 11
   pub twin_second : verdict_at HoldOn (twin 11) 200 3 ≡ Held 6 11
   pub twin_doubtful : verdict_at HoldOn (twin 10) 200 2 ≡ Doubt 10
-  pub twin_quote : quote_of HoldOn (twin 11) ≡ Tempo 3000
+  pub twin_quote : quote_of HoldOn (twin 11) ≡ Ok 3000
   -- "a line `hold` before its first, a refused line included"
-  pub page_box : policy_line HoldOn ++ report_for HoldOn box (Tempo 1248) ≡ box_hold_page
+  pub page_box : policy_line HoldOn ++ report_for HoldOn box (Ok 1248) ≡ box_hold_page
   pub page_box_lines : length (lines_of box_hold_page) ≡ 6
   pub page_box_tempo : TempoLine HoldOn box_hold_page (tempo_words 1248)
   pub page_box_link_3 : line_at box_hold_page 4 ≡ held_words 3 33 2 1000 1001

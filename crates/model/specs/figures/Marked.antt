@@ -1,5 +1,5 @@
 -- "Figures to keep, marked P": the files they speak of, and the figures as the rows of one statement.
-use Rattle.std.specs.Prelude.{ℕ, ◌+◌, ◌-◌, ◌%◌, Bool, true, false, ◌||◌, List, [], ◌∷◌, ◌++◌, ◌≡◌, length, replicate, eqb}
+use Rattle.std.specs.Prelude.{ℕ, ◌+◌, ◌-◌, ◌%◌, Bool, true, false, ◌||◌, List, [], ◌∷◌, ◌++◌, ◌≡◌, length, replicate, eqb, Ok}
 use Rattle.model.specs.declared.Source.{Source}
 use Rattle.model.specs.declared.Source.TheVariants.{Fixed, Paced}
 use Rattle.model.specs.declared.SourceSlot.{SourceSlot}
@@ -8,14 +8,11 @@ use Rattle.model.specs.declared.Policy.{Policy}
 use Rattle.model.specs.declared.Policy.TheVariants.{Preemptive}
 use Rattle.model.specs.declared.Description.{Description}
 use Rattle.model.specs.declared.Refusal.TheVariants.{CutShort, StrangeTag, WrongLength, OutOfTurn, TooMany, OffScale, NoSuchEnd, NoTask, Loop, TooHeavy, OffKnob, NoTempo, ShortPage, TooSoon, Stranger, ForeignState}
-use Rattle.model.specs.declared.Outcome.{Outcome}
-use Rattle.model.specs.declared.Outcome.TheVariants.{Done}
+use Rattle.model.specs.Refusals.{Outcome, Done, number_of, of_outcome, of_reading, of_quote, no_source, no_link}
 use Rattle.model.specs.declared.Verdict.TheVariants.{HeldOrder, DoubtOrder, Held, Doubt}
-use Rattle.model.specs.declared.Quote.TheVariants.{Tempo}
 use Rattle.model.specs.declared.Machine.{Machine}
 use Rattle.model.specs.declared.Ticked.{Ticked}
 use Rattle.model.specs.Basics.{tab}
-use Rattle.model.specs.Refusals.{number_of, of_outcome, of_reading, of_quote, no_source, no_link}
 use Rattle.model.specs.Graph.{system}
 use Rattle.model.specs.Loads.{load}
 use Rattle.model.specs.File.{file_of, read_file}
@@ -171,7 +168,7 @@ pub record Figures : Type 0 where
   pub waits_next_run : wait_of (history Preemptive quick (calls_where 9 (λ x. eqb (x % 2) 0))) 1 4 ≡ 4
   -- an event of the last tick waits one
   pub waits_last_tick : wait_of (history Preemptive quick (calls_where 9 (λ x. eqb (x % 2) 0))) 1 8 ≡ 1
-  pub page_box : report_for Preemptive box (Tempo 1783) ≡ box_page
+  pub page_box : report_for Preemptive box (Ok 1783) ≡ box_page
   pub page_box_lines : length (lines_of box_page) ≡ 5
   pub page_box_tempo : TempoLine Preemptive box_page (tempo_words 1783)
   pub page_box_link_3 : line_at box_page 3 ≡ held_words 3 33 2 700 701

@@ -4,10 +4,9 @@ use Rattle.model.specs.declared.Source.TheVariants.{Paced, Swung}
 use Rattle.model.specs.declared.Policy.TheVariants.{Preemptive}
 use Rattle.model.specs.declared.Description.{Description}
 use Rattle.model.specs.declared.Field.TheVariants.{OfSource}
-use Rattle.model.specs.declared.Taken.TheVariants.{Whole}
+use Rattle.model.specs.Field.{Whole, field_bytes, take_field}
 use Rattle.model.specs.declared.Verdict.TheVariants.{Held, Doubt}
 use Rattle.model.specs.Refusals.{Numbered, accepted, of_reading}
-use Rattle.model.specs.Field.{field_bytes, take_field}
 use Rattle.model.specs.File.{read_file}
 use Rattle.model.specs.Delays.{spacing}
 use Rattle.model.specs.Verdicts.{verdict_at}

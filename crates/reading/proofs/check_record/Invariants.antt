@@ -2,7 +2,7 @@
 -- reading does. The measure is the number of fields left.
 use Prim.Native.Nat.{◌≤◌, ◌-◌}
 use mathlib.Core.Path.{◌≡◌}
-use Rattle.model.specs.declared.Outcome.{Outcome}
+use Rattle.model.specs.Refusals.{Outcome}
 use Rattle.model.specs.Field.{field_count}
 use Rattle.model.specs.File.{file_of, parse_file}
 use Rattle.theory.proofs.RecordLaws.{offset, progress_at}

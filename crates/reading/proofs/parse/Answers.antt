@@ -6,12 +6,9 @@ use native.Mathlib.Omega.{arith}
 use Rattle.theory.proofs.FieldLaws.{length-field, take-took, took_length, took_inside}
 use Rattle.theory.proofs.ReadLaws.{counts_more, task_turn, source_turn, link_room}
 use Rattle.model.specs.declared.Field.{Field}
-use Rattle.model.specs.declared.Found.TheVariants.{Read}
+use Rattle.model.specs.Field.{Read, Whole, Fine, take_field, step_of, check_field, with_field}
 use Rattle.model.specs.declared.Step.{Step}
 use Rattle.model.specs.declared.Progress.{Progress}
-use Rattle.model.specs.declared.Taken.TheVariants.{Whole}
-use Rattle.model.specs.declared.Check.TheVariants.{Fine}
-use Rattle.model.specs.Field.{take_field, step_of, check_field, with_field}
 use Rattle.theory.proofs.JudgeLaws.{Passes, fine_passes}
 use Rattle.reading.specs.Steps.{checked_taken}
 use Rattle.reading.proofs.Laws.{fine_taken, step_read, reads_more, reads_stop, no_field}

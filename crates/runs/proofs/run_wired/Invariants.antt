@@ -3,7 +3,7 @@ use mathlib.Core.Path.{◌≡◌}
 use mathlib.Core.List.{◌++◌}
 use lib.ListN.{length, take, drop}
 use Rattle.model.specs.declared.Description.{Description}
-use Rattle.model.specs.declared.Outcome.TheVariants.{Done}
+use Rattle.model.specs.Refusals.{Done}
 use Rattle.model.specs.File.{judge}
 use Rattle.model.specs.Machine.{idle}
 use Rattle.model.specs.History.{left}

@@ -1,10 +1,10 @@
 // Whether a field may stand where it does, in a file or in a record, and what is known behind it: the refusals 4 to 7.
 #![tactic(auto)]
 
-ghost use Rattle.std.specs.Prelude.{◌≡◌, true, ◌||◌, ◌&&◌, leb};
+ghost use Rattle.std.specs.Prelude.{◌≡◌, true, ◌||◌};
 ghost use Rattle.model.specs.Field.{in_turn, has_room, on_scale, has_ends, is_task, is_source, check_field, passed};
 
-use model::{Check, Field, Progress, Refusal, Source};
+use model::{Field, Progress, Refusal, Source};
 
 // Whether a field comes in its turn.
 fn in_turn(p: Progress, f: Field) -> bool
@@ -28,24 +28,17 @@ fn has_room(p: Progress, f: Field) -> bool
     }
 }
 
-// Whether a number is in a range.
-fn within(low: u32, x: u32, high: u32) -> bool
-    ensures { result ≡ (leb low x && leb x high) }
-{
-    low <= x && x <= high
-}
-
 // Whether the numbers of a field are in their ranges.
 fn on_scale(f: Field) -> bool
     ensures { result ≡ on_scale f }
 {
     match f {
-        Field::OfTask(e) => within(1, e, 10000000),
-        Field::OfSource(s) => match s {
-            Source::Fixed(m) => within(1, m, 1000000000),
-            Source::Paced(n) => within(1, n as u32, 960),
-            Source::Swung(n, swing) => within(1, n as u32, 960) && within(51, swing as u32, 75),
-        },
+        Field::OfTask(e) => (1..=10000000).contains(&e),
+        Field::OfSource(Source::Fixed(m)) => (1..=1000000000).contains(&m),
+        Field::OfSource(Source::Paced(n)) => (1..=960).contains(&n),
+        Field::OfSource(Source::Swung(n, swing)) => {
+            (1..=960).contains(&n) && (51..=75).contains(&swing)
+        }
         Field::OfLink(l) => l.critical <= 1,
     }
 }
@@ -54,17 +47,13 @@ fn on_scale(f: Field) -> bool
 fn is_task(tasks: usize, i: u8) -> bool
     ensures { result ≡ is_task tasks i }
 {
-    1 <= i && (i as usize) <= tasks
+    1 <= i && usize::from(i) <= tasks
 }
 
 fn is_source(sources: usize, i: u8) -> bool
     ensures { result ≡ is_source sources i }
 {
-    if i < 33 {
-        return false;
-    }
-    let place = (i as usize) - 32;
-    place <= sources
+    33 <= i && usize::from(i) - 32 <= sources
 }
 
 fn is_node(tasks: usize, sources: usize, i: u8) -> bool
@@ -78,29 +67,28 @@ fn has_ends(p: Progress, f: Field) -> bool
     ensures { result ≡ has_ends p f }
 {
     match f {
-        Field::OfTask(_) => true,
-        Field::OfSource(_) => true,
+        Field::OfTask(_) | Field::OfSource(_) => true,
         Field::OfLink(l) => is_node(p.tasks, p.sources, l.from) && is_task(p.tasks, l.to),
     }
 }
 
 // Whether a field may stand where it does: the one check of a field, for a file and for a record.
-pub fn check_field(p: Progress, f: Field) -> Check
+pub fn check_field(p: Progress, f: Field) -> Result<(), Refusal>
     ensures { result ≡ check_field p f }
 {
     if !in_turn(p, f) {
-        return Check::Unfit(Refusal::OutOfTurn);
+        return Err(Refusal::OutOfTurn);
     }
     if !has_room(p, f) {
-        return Check::Unfit(Refusal::TooMany);
+        return Err(Refusal::TooMany);
     }
     if !on_scale(f) {
-        return Check::Unfit(Refusal::OffScale);
+        return Err(Refusal::OffScale);
     }
     if !has_ends(p, f) {
-        return Check::Unfit(Refusal::NoSuchEnd);
+        return Err(Refusal::NoSuchEnd);
     }
-    Check::Fine
+    Ok(())
 }
 
 // What is known after one field more.
@@ -111,24 +99,17 @@ pub fn advanced(p: Progress, f: Field) -> Progress
     match f {
         Field::OfTask(_) => Progress {
             tasks: p.tasks + 1,
-            sources: p.sources,
-            links: p.links,
-            from: p.from,
-            to: p.to,
+            ..p
         },
         Field::OfSource(_) => Progress {
-            tasks: p.tasks,
             sources: p.sources + 1,
-            links: p.links,
-            from: p.from,
-            to: p.to,
+            ..p
         },
         Field::OfLink(l) => Progress {
-            tasks: p.tasks,
-            sources: p.sources,
             links: p.links + 1,
             from: l.from,
             to: l.to,
+            ..p
         },
     }
 }

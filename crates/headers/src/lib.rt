@@ -1,27 +1,17 @@
 // The header of a field: numbers in bytes, and what stands at a reading place by a table of tags.
 #![tactic(auto)]
 
-ghost use Rattle.std.specs.Prelude.{◌≡◌, ◌+◌, ◌*◌, ◌≤◌, ◌<◌, length, get_or};
+ghost use Rattle.std.specs.Prelude.{◌≡◌, ◌+◌, ◌*◌, ◌≤◌, length, get_or};
 ghost use Rattle.model.specs.Header.{number_in, header_at};
 
 use model::{Header, Refusal};
-
-// The byte at a place.
-fn byte_at(s: &[u8], at: usize) -> u32
-    requires { at < length s.now }
-    ensures { (result ≡ get_or s.now at 0) × (result < 256) }
-{
-    s[at] as u32
-}
 
 // The number in two bytes, high byte first.
 pub fn half_at(s: &[u8], at: usize) -> u16
     requires { at + 2 ≤ length s.now }
     ensures { result ≡ number_in s.now at 2 }
 {
-    let a = byte_at(s, at);
-    let b = byte_at(s, at + 1);
-    (a * 256 + b) as u16
+    u16::from_be_bytes([s[at], s[at + 1]])
 }
 
 // The number in four bytes, high byte first.
@@ -29,21 +19,14 @@ pub fn word_at(s: &[u8], at: usize) -> u32
     requires { at + 4 ≤ length s.now }
     ensures { result ≡ number_in s.now at 4 }
 {
-    let a = byte_at(s, at);
-    let b = byte_at(s, at + 1);
-    let c = byte_at(s, at + 2);
-    let d = byte_at(s, at + 3);
-    ((a * 256 + b) * 256 + c) * 256 + d
+    u32::from_be_bytes([s[at], s[at + 1], s[at + 2], s[at + 3]])
 }
 
 // The entry of a table at a place, 0 past its end.
 fn entry_at(tags: &[u16], k: usize) -> u16
     ensures { result ≡ get_or tags.now k 0 }
 {
-    if k < tags.len() {
-        return tags[k];
-    }
-    0
+    tags.get(k).copied().unwrap_or(0)
 }
 
 // The least and the greatest length of a tag's bodies by a table, 0 for no such tag.
@@ -59,31 +42,35 @@ fn most_length(tags: &[u16], tag: u8) -> u16
     entry_at(tags, 2 * tag as usize + 1)
 }
 
-// The header at a reading place: whole header, tag, length, whole body.
-pub fn header_at(tags: &[u16], s: &[u8], at: usize) -> Header
+// The header at a reading place, none at the end: whole header, tag, length, whole body.
+pub fn header_at(tags: &[u16], s: &[u8], at: usize) -> Result<Option<Header>, Refusal>
     ensures { result ≡ header_at tags.now s.now at }
 {
     if s.len() <= at {
-        return Header::Ended;
+        return Ok(None);
     }
     let left = s.len() - at;
     if left < 3 {
-        return Header::Faulty(Refusal::CutShort);
+        return Err(Refusal::CutShort);
     }
     let tag = s[at];
     let most = most_length(tags, tag);
     if most == 0 {
-        return Header::Faulty(Refusal::StrangeTag);
+        return Err(Refusal::StrangeTag);
     }
     let size = half_at(s, at + 1);
     if size < least_length(tags, tag) {
-        return Header::Faulty(Refusal::WrongLength);
+        return Err(Refusal::WrongLength);
     }
     if most < size {
-        return Header::Faulty(Refusal::WrongLength);
+        return Err(Refusal::WrongLength);
     }
     if left - 3 < size as usize {
-        return Header::Faulty(Refusal::CutShort);
+        return Err(Refusal::CutShort);
     }
-    Header::Body(tag, at + 3, size)
+    Ok(Some(Header {
+        tag,
+        at: at + 3,
+        size,
+    }))
 }

@@ -1,6 +1,8 @@
 // The types that the definitions of `specs/` and every other crate share: a firmware description, the refusals,
-// the answers of the calls and the tick machine's record. There is no code here.
+// the answers of the calls and the tick machine's record.
 #![tactic(auto)]
+
+ghost use Rattle.std.specs.Prelude.{◌≡◌};
 
 // A source: the minimum inter-arrival time in ticks (document 01's spacing), or the pulses per quarter note that give it, in straight time or
 // with a swing in percent.
@@ -62,6 +64,15 @@ pub enum Refusal {
     TooSoon = 14,
     Stranger = 15,
     ForeignState = 16,
+}
+
+impl Refusal {
+    // The refusal with its place.
+    pub fn at(self, place: usize) -> Rejection
+        ensures { result ≡ record { why = self; place = place } }
+    {
+        Rejection { why: self, place }
+    }
 }
 
 // A refusal with its place. A call ends with its work done, or with one of these.

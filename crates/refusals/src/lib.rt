@@ -8,31 +8,14 @@ ghost use Rattle.model.specs.Machine.{blank_machine};
 ghost use Rattle.refusals.specs.Beside.{refused_sheet};
 
 use model::{
-    Description, Link, LoadSheet, Machine, Outcome, Reading, Refusal, Row, Source, SourceSlot,
+    Description, Link, LoadSheet, Machine, Reading, Refusal, Rejection, Row, Source, SourceSlot,
 };
 
 // The number of a refusal in the table of refused work.
 pub fn number_of(why: Refusal) -> usize
     ensures { result ≡ number_of why }
 {
-    match why {
-        Refusal::CutShort => 1,
-        Refusal::StrangeTag => 2,
-        Refusal::WrongLength => 3,
-        Refusal::OutOfTurn => 4,
-        Refusal::TooMany => 5,
-        Refusal::OffScale => 6,
-        Refusal::NoSuchEnd => 7,
-        Refusal::NoTask => 8,
-        Refusal::Loop => 9,
-        Refusal::TooHeavy => 10,
-        Refusal::OffKnob => 11,
-        Refusal::NoTempo => 12,
-        Refusal::ShortPage => 13,
-        Refusal::TooSoon => 14,
-        Refusal::Stranger => 15,
-        Refusal::ForeignState => 16,
-    }
+    why as usize
 }
 
 // A description of zeros.
@@ -59,44 +42,34 @@ pub fn blank() -> Description
 pub fn blank_machine() -> Machine
     ensures { result ≡ blank_machine }
 {
-    let awake = [false; 32];
-    let used = [0u32; 32];
-    let waiting = [false; 256];
-    let dropped = [false; 256];
-    let ages = [0u32; 16];
-    let fastest = [0u32; 16];
-    let again = [false; 32];
-    let late = [false; 256];
     Machine {
-        awake,
-        used,
-        waiting,
-        dropped,
-        ages,
-        fastest,
-        again,
-        late,
+        awake: [false; 32],
+        used: [0; 32],
+        waiting: [false; 256],
+        dropped: [false; 256],
+        ages: [0; 16],
+        fastest: [0; 16],
+        again: [false; 32],
+        late: [false; 256],
     }
 }
 
 // Beside a refusal the description is all zeros.
-pub fn refused_reading(why: Refusal, place: usize) -> Reading
-    ensures { result ≡ refused_reading why place }
+pub fn refused_reading(rejection: Rejection) -> Reading
+    ensures { result ≡ refused_reading rejection.why rejection.place }
 {
-    let none = blank();
-    let refused = Outcome::Refused(why, place);
     Reading {
-        outcome: refused,
-        description: none,
+        outcome: Err(rejection),
+        description: blank(),
     }
 }
 
 // Beside a refusal every load is 0.
-pub fn refused_sheet(why: Refusal, place: usize) -> LoadSheet
-    ensures { result ≡ refused_sheet why place }
+pub fn refused_sheet(rejection: Rejection) -> LoadSheet
+    ensures { result ≡ refused_sheet rejection.why rejection.place }
 {
     LoadSheet {
-        outcome: Outcome::Refused(why, place),
-        rows: [Row { loads: [0u64; 32] }; 48],
+        outcome: Err(rejection),
+        rows: [Row { loads: [0; 32] }; 48],
     }
 }

@@ -8,7 +8,5 @@ use Rattle.headers.proofs.half_at.Goals as goal
 pub returns : goal.returns
 unfolding number_in
 returns c =
-    let s = c.args.s.now in
-    let at = c.args.at in
-    let z : at + 0 ≡ at = omega arith in
-    rw z (omega (arith, c.byte_at-a.ensures.0, c.byte_at-b.ensures.0))
+    let z : c.args.at + 0 ≡ c.args.at = omega arith in
+    rw z (omega (arith, c.from_be_bytes.ensures))

@@ -6,7 +6,7 @@ ghost use Rattle.model.specs.Header.{is_tag, length_fits};
 
 use crate::{TAGS, field_in};
 use headers::header_at;
-use model::{Found, Header, Step};
+use model::{Field, Header, Rejection, Step};
 
 // The bytes of a file, and the offset of the field that is read next.
 #[derive(Clone, Copy)]
@@ -15,21 +15,32 @@ pub struct Reader<'a> {
     pub at: usize,
 }
 
-// The reading place at the start of the bytes.
-pub fn new<'a>(src: &'a [u8]) -> Reader<'a>
-    ensures { (result.src ≡ src.entry) × (result.at ≡ 0) }
-{
-    Reader { src, at: 0 }
+impl<'a> Reader<'a> {
+    // The reading place at the start of the bytes.
+    pub fn new(src: &'a [u8]) -> Reader<'a>
+        ensures { (result.src ≡ src.entry) × (result.at ≡ 0) }
+    {
+        Reader { src, at: 0 }
+    }
+
+    // The field at the reading place, which moves past it; or its refusal with its offset, or nothing at the end, and the place stays.
+    pub fn next(&mut self) -> Result<Option<Field>, Rejection>
+        ensures { (result ≡ (step_at self.old.src.now self.old.at).found) × (self.new.src ≡ self.old.src) × (self.new.at ≡ (step_at self.old.src.now self.old.at).at) }
+    {
+        let step = step_at(self.src, self.at);
+        self.at = step.at;
+        step.found
+    }
 }
 
-// The step past a whole body at b, of n bytes.
-fn step_past(s: &[u8], tag: u8, b: usize, n: u16) -> Step
-    requires { (is_tag field_tags tag ≡ true) × (length_fits field_tags tag n ≡ true) × (b + n ≤ length s.now) }
-    ensures { result ≡ step_of (Whole (field_in s.now tag b n) (b + n)) b }
+// The step past a whole body.
+fn step_past(s: &[u8], header: Header) -> Step
+    requires { (is_tag field_tags header.tag ≡ true) × (length_fits field_tags header.tag header.size ≡ true) × (header.at + header.size ≤ length s.now) }
+    ensures { result ≡ step_of (Whole (field_in s.now header.tag header.at header.size) (header.at + header.size)) header.at }
 {
     Step {
-        found: Found::Read(field_in(s, tag, b, n)),
-        at: b + n as usize,
+        found: Ok(Some(field_in(s, header))),
+        at: header.at + usize::from(header.size),
     }
 }
 
@@ -37,34 +48,27 @@ fn step_past(s: &[u8], tag: u8, b: usize, n: u16) -> Step
 fn step_at(s: &[u8], at: usize) -> Step
     ensures { result ≡ step_at s.now at }
 {
-    let h = header_at(&TAGS, s, at);
-    match h {
-        Header::Body(tag, b, n) => step_past(s, tag, b, n),
-        Header::Faulty(r) => Step {
-            found: Found::Unread(r, at),
+    match header_at(&TAGS, s, at) {
+        Ok(Some(header)) => step_past(s, header),
+        Ok(None) => Step {
+            found: Ok(None),
             at,
         },
-        Header::Ended => Step {
-            found: Found::Nothing,
+        Err(why) => Step {
+            found: Err(why.at(at)),
             at,
         },
     }
-}
-
-// The field at the reading place, which moves past it; or its refusal with its offset, or the end, and the place stays.
-pub fn next<'s, 'a>(r: &'s mut Reader<'a>) -> Found
-    ensures { (result ≡ (step_at r.old.src.now r.old.at).found) × (r.new.src ≡ r.old.src) × (r.new.at ≡ (step_at r.old.src.now r.old.at).at) }
-{
-    let step = step_at(r.src, r.at);
-    r.at = step.at;
-    step.found
 }
 
 // The next field of a reader at an offset of the bytes, and the place where that reader then is.
 pub fn next_at(s: &[u8], at: usize) -> Step
     ensures { result ≡ step_at s.now at }
 {
-    let mut r = Reader { src: s, at };
-    let found = next(&mut r);
-    Step { found, at: r.at }
+    let mut reader = Reader { src: s, at };
+    let found = reader.next();
+    Step {
+        found,
+        at: reader.at,
+    }
 }

@@ -1,19 +1,20 @@
-use borrow.Author.Tests.{eq-eqb, ne_eqb}
+use native.Mathlib.Omega.{arith}
+use borrow.Author.Tests.{ne_eqb}
 use Rattle.model.specs.Field.{field_in}
 use Rattle.fields.proofs.field_in.Goals as goal
 
-pub returns-then-tag-eq1 : goal.returns-then-tag-eq1
+pub returns-in-1 : goal.returns-in-1
 unfolding field_in
-returns-then-tag-eq1 c = rw (eq-eqb _ _ c.if-tag-eq1.true, c.word_at.ensures)
+returns-in-1 c = rw (c.in-1.is, c.word_at.ensures)
 
-pub returns-then-tag-eq2 : goal.returns-then-tag-eq2
+pub returns-in-2 : goal.returns-in-2
 unfolding field_in
-returns-then-tag-eq2 c = rw (ne_eqb _ _ c.if-tag-eq1.false, eq-eqb _ _ c.if-tag-eq2.true, c.word_at-then-tag-eq2.ensures)
+returns-in-2 c = rw (c.in-2.is, c.word_at-in-2.ensures)
 
-pub returns-then-tag-eq3 : goal.returns-then-tag-eq3
+pub returns-in-3 : goal.returns-in-3
 unfolding field_in
-returns-then-tag-eq3 c = rw (ne_eqb _ _ c.if-tag-eq1.false, ne_eqb _ _ c.if-tag-eq2.false, eq-eqb _ _ c.if-tag-eq3.true, c.paced_in.ensures)
+returns-in-3 c = rw (c.in-3.is, c.paced_in.ensures)
 
-pub returns : goal.returns
+pub returns-in_default : goal.returns-in_default
 unfolding field_in
-returns c = rw (ne_eqb _ _ c.if-tag-eq1.false, ne_eqb _ _ c.if-tag-eq2.false, ne_eqb _ _ c.if-tag-eq3.false)
+returns-in_default c = rw (ne_eqb c.args.header.tag 1 (λ q. omega arith), ne_eqb c.args.header.tag 2 (λ q. omega arith), ne_eqb c.args.header.tag 3 (λ q. omega arith))

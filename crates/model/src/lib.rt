@@ -98,7 +98,7 @@ pub struct Step {
 }
 
 // What the fields read so far fix about the next one: the counts, and the ends of the last link.
-#[derive(Clone, Copy)]
+#[derive(Clone, Copy, Default)]
 pub struct Progress {
     pub tasks: usize,
     pub sources: usize,

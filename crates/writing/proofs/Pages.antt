@@ -1,16 +1,18 @@
 -- A page that takes a record's file field by field. Assumes nothing.
-use Prim.Native.Nat.{ℕ, suc, ◌+◌, ◌≤◌}
-use mathlib.Core.Path.{◌≡◌, refl, ap, ◌∙◌}
-use mathlib.Core.List.{List, [], ◌∷◌, ◌++◌}
+use Prim.Native.Nat.{ℕ, suc, ◌+◌, ◌-◌, ◌≤◌}
+use mathlib.Core.Path.{◌≡◌, refl, sym, ap, ◌∙◌}
+use mathlib.Core.List.{List, [], ◌∷◌, ◌++◌, append_assoc}
 use native.Mathlib.Omega.{arith}
 use native.Mathlib.Nat.{add-zero}
 use lib.ListN.{length, drop, set}
+use Rattle.std.proofs.lemmas.List.{drop-drop}
 use lib.Seq.{sets, sets-eq, length-sets}
 use Rattle.model.specs.declared.Description.{Description}
 use Rattle.model.specs.declared.Field.{Field}
 use Rattle.model.specs.Basics.{joined}
 use Rattle.model.specs.Field.{field_bytes, field_of, field_count}
 use Rattle.model.specs.File.{file_of}
+use borrow.Rule.Slice.PartMut.{put_mid}
 use Rattle.lemmas.proofs.Table.{joined_more}
 use Rattle.theory.proofs.RecordLaws.{offset}
 
@@ -47,3 +49,9 @@ page_more d out k l at f p q r =
 pub page_all : (d : Description) (out : List ℕ) (k : ℕ) (l : List ℕ) → l ≡ page_of d out k → k ≡ field_count d → length (file_of d) ≤ length out → l ≡ file_of d ++ drop (length (file_of d)) out
 unfolding file_of
 page_all d out k l p q h = rw q at p ∙ sets_front (file_of d) out h
+
+-- a part of a buffer that is copied over
+pub part_copied : (xs out part : List ℕ) (at n : ℕ) → length xs ≡ n → at + n ≤ length out → part ≡ xs → put_mid at (at + n - at) out part ≡ sets out at xs
+part_copied xs out part at n l h e =
+    let k : at + n - at ≡ n = omega arith in
+    rw (k, e, ← l, drop-drop (length xs) at out, ← append_assoc) (sym (sets-eq xs out at (omega (arith, l))))

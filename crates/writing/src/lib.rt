@@ -8,20 +8,15 @@ ghost use Rattle.model.specs.Field.{field_bytes};
 ghost use Rattle.model.specs.File.{file_of, fill_with, filled_by};
 
 use fields::{field_length, field_of};
-use model::{Description, Field, Filled, Link, Refusal, Source};
+use model::{Description, Field, Link, Refusal, Rejection, Source};
 
 // A field whose body is a number of four bytes: a task or a fixed source.
 fn put_wide(out: &mut [u8], at: usize, tag: u8, x: u32)
     requires { at + 7 ≤ length out.old }
     ensures { out.new ≡ sets out.old at (tag ∷ 0 ∷ 4 ∷ bytes_of 4 x) }
 {
-    out[at] = tag;
-    out[at + 1] = 0;
-    out[at + 2] = 4;
-    out[at + 3] = (x / 256 / 256 / 256 % 256) as u8;
-    out[at + 4] = (x / 256 / 256 % 256) as u8;
-    out[at + 5] = (x / 256 % 256) as u8;
-    out[at + 6] = (x % 256) as u8;
+    let [a, b, c, d] = x.to_be_bytes();
+    out[at..at + 7].copy_from_slice(&[tag, 0, 4, a, b, c, d]);
 }
 
 // A paced source of the given length, to its pulses.
@@ -29,11 +24,8 @@ fn put_paced(out: &mut [u8], at: usize, size: u8, pulses: u16)
     requires { at + 5 ≤ length out.old }
     ensures { out.new ≡ sets out.old at (3 ∷ 0 ∷ size ∷ bytes_of 2 pulses) }
 {
-    out[at] = 3;
-    out[at + 1] = 0;
-    out[at + 2] = size;
-    out[at + 3] = (pulses / 256 % 256) as u8;
-    out[at + 4] = (pulses % 256) as u8;
+    let [a, b] = pulses.to_be_bytes();
+    out[at..at + 5].copy_from_slice(&[3, 0, size, a, b]);
 }
 
 // A paced source with a swing.
@@ -41,7 +33,7 @@ fn put_swung(out: &mut [u8], at: usize, pulses: u16, swing: u8)
     requires { at + 6 ≤ length out.old }
     ensures { out.new ≡ sets out.old at (3 ∷ 0 ∷ 3 ∷ bytes_of 2 pulses ++ (swing ∷ [])) }
 {
-    put_paced(&mut *out, at, 3, pulses);
+    put_paced(out, at, 3, pulses);
     out[at + 5] = swing;
 }
 
@@ -49,12 +41,7 @@ fn put_link(out: &mut [u8], at: usize, l: Link)
     requires { at + 6 ≤ length out.old }
     ensures { out.new ≡ sets out.old at (4 ∷ 0 ∷ 3 ∷ l.from ∷ l.to ∷ l.critical ∷ []) }
 {
-    out[at] = 4;
-    out[at + 1] = 0;
-    out[at + 2] = 3;
-    out[at + 3] = l.from;
-    out[at + 4] = l.to;
-    out[at + 5] = l.critical;
+    out[at..at + 6].copy_from_slice(&[4, 0, 3, l.from, l.to, l.critical]);
 }
 
 // The bytes of a field, from a place on.
@@ -63,13 +50,11 @@ fn put_field(out: &mut [u8], at: usize, f: Field)
     ensures { out.new ≡ sets out.old at (field_bytes f) }
 {
     match f {
-        Field::OfTask(e) => put_wide(&mut *out, at, 1, e),
-        Field::OfSource(s) => match s {
-            Source::Fixed(m) => put_wide(&mut *out, at, 2, m),
-            Source::Paced(n) => put_paced(&mut *out, at, 2, n),
-            Source::Swung(n, swing) => put_swung(&mut *out, at, n, swing),
-        },
-        Field::OfLink(l) => put_link(&mut *out, at, l),
+        Field::OfTask(e) => put_wide(out, at, 1, e),
+        Field::OfSource(Source::Fixed(m)) => put_wide(out, at, 2, m),
+        Field::OfSource(Source::Paced(n)) => put_paced(out, at, 2, n),
+        Field::OfSource(Source::Swung(n, swing)) => put_swung(out, at, n, swing),
+        Field::OfLink(l) => put_link(out, at, l),
     }
 }
 
@@ -78,34 +63,27 @@ fn file_length(d: Description) -> usize
     requires { (d.task_count ≤ 32) × (d.source_count ≤ 16) × (d.link_count ≤ 256) }
     ensures { result ≡ length (file_of d) }
 {
-    let count = d.task_count + d.source_count + d.link_count;
     let mut n: usize = 0;
-    let mut k: usize = 0;
-    while k < count {
-        let f = field_of(d, k);
-        n += field_length(f);
-        k += 1;
+    for k in 0..d.task_count + d.source_count + d.link_count {
+        n += field_length(field_of(d, k));
     }
     n
 }
 
 // A record's file into a lent buffer: all of it, or not one byte where the buffer is shorter.
-pub fn put_file(d: Description, out: &mut [u8]) -> Filled
+pub fn put_file(d: Description, out: &mut [u8]) -> Result<usize, Rejection>
     requires { (d.task_count ≤ 32) × (d.source_count ≤ 16) × (d.link_count ≤ 256) }
     ensures { (result ≡ fill_with (file_of d) out.old) × (out.new ≡ filled_by (file_of d) out.old) }
 {
     let n = file_length(d);
     if out.len() < n {
-        return Filled::Unfilled(Refusal::ShortPage, 0);
+        return Err(Refusal::ShortPage.at(0));
     }
-    let count = d.task_count + d.source_count + d.link_count;
     let mut at: usize = 0;
-    let mut k: usize = 0;
-    while k < count {
+    for k in 0..d.task_count + d.source_count + d.link_count {
         let f = field_of(d, k);
-        put_field(&mut *out, at, f);
+        put_field(out, at, f);
         at += field_length(f);
-        k += 1;
     }
-    Filled::Bytes(n)
+    Ok(n)
 }

@@ -9,8 +9,8 @@ use Rattle.model.specs.File.{parse_at}
 use Rattle.reading.proofs.Laws.{ReadsAs}
 use Rattle.reading.proofs.parse.Given as goal
 
-abbrev pub invariant-loop-f : goal.invariant-loop-f
-invariant-loop-f l = Counts l.p l.d × ((r : Reading) → ReadsAs l.s l.at l.p l.d r → r ≡ parse_at l.s l.start)
+abbrev pub invariant-loop-field : goal.invariant-loop-field
+invariant-loop-field l = Counts l.p l.d × ((r : Reading) → ReadsAs l.s l.at l.p l.d r → r ≡ parse_at l.s l.start)
 
-abbrev pub decreases-loop-f : goal.decreases-loop-f
-decreases-loop-f l = length l.s - l.at
+abbrev pub decreases-loop-field : goal.decreases-loop-field
+decreases-loop-field l = length l.s - l.at

@@ -11,12 +11,12 @@ use lib.Seq.{get_or-set_same, get_or-set_other}
 use lib.Dec.{ltb}
 use Rattle.model.specs.Basics.{sum_n}
 use Rattle.model.specs.Delays.{spacings, Settled, unchanged, reached, settle}
-use Rattle.lemmas.proofs.Tests.{Cmp, less, same, more, cmp, at_or_not, not_both}
+use Rattle.lemmas.proofs.Tests.{Cmp, less, same, more, cmp, at_or_not}
 use Rattle.theory.proofs.Levels.{reach_of}
 use Rattle.theory.proofs.Jumps.{flowing, counting, flow_below}
 use Rattle.theory.proofs.Rounds.{settle_fixed, settle_least, settle_finds, never_reached, spacings_some, spacings_mono}
 use Rattle.lemmas.proofs.Range.{sum_n-le, le_sum_n}
-use Rattle.rounds.specs.Level.{LevelOn, round_in, reach_in, end_of, Counted, more_by, CountsOn, LowerBound, RoundAt, ShareOf, Shares, OpenAt, ReachedBy}
+use Rattle.rounds.specs.Level.{LevelOn, round_in, reach_in, end_of, Counted, more_by, CountsOn, LowerBound, RoundAt, ShareOf, Shares}
 
 less_quotient : (q d m : ℕ) → 1 ≤ m → q * m ≤ d + (m - 1) → q ≤ d
 less_quotient q d m p h = go (cmp q (suc d))
@@ -104,6 +104,16 @@ end_moves p d m end o h e = omega (arith, e, add-mul (spacings p m) (more_by d e
 load_adds : (load p d m end : ℕ) → 1 ≤ m → p ≤ d → (0 < load → end ≡ spacings p m * m) → load * spacings p m + load * more_by d end m ≡ load * spacings d m
 load_adds zero p d m end o h e = omega (arith, zero-mul (spacings p m), zero-mul (more_by d end m), zero-mul (spacings d m))
 load_adds (suc load) p d m end o h e = sym (mul-add (suc load) (spacings p m) (more_by d end m)) ∙ ap (λ x. suc load * x) (counted_on p d m end o h (e (omega arith)))
+
+-- source u is counted on where its end is moved in the list of ends
+pub counted_at : (load gap d : ℕ) (ends : List ℕ) (u sum end r : ℕ) → end ≡ get_or ends u 0 + more_by d (get_or ends u 0) gap * gap → r ≡ load * more_by d (get_or ends u 0) gap → CountsOn load gap d ends u sum (set ends u end) (sum + r)
+counted_at load gap d ends u sum end r e f =
+    record {
+      total = ap (λ x. sum + x) f;
+      sized = length-set ends u end;
+      here = λ q. get_or-set_same ends u end 0 q ∙ e;
+      others = λ k ne. get_or-set_other ends u k end 0 ne;
+    }
 
 -- the loop of a round after one at p that came to a sum before: the first u sources are counted on to d
 pub record Halfway (loads gaps : List ℕ) (n p d before : ℕ) (ends : List ℕ) (u sum : ℕ) : Type 0 where
@@ -284,10 +294,3 @@ module _ (start : ℕ) (loads gaps : List ℕ) (n : ℕ) (ends shares : List ℕ
 pub level_any : (start : ℕ) (loads gaps : List ℕ) (n : ℕ) → LevelOn start loads gaps n → LevelOn 0 loads gaps n
 level_any start loads gaps n g =
     record { few = g.few; start_most = omega arith; load_most = g.load_most; gap_some = g.gap_some; gap_most = g.gap_most }
-
--- answers: settled, and open
-pub settled_at : (start : ℕ) (loads gaps : List ℕ) (n limit d : ℕ) → d ≡ reach_in start loads gaps n limit → ReachedBy start loads gaps n limit (record { place = d; settled = true })
-settled_at start loads gaps n limit d e = record { done = λ _. e; unsettled = λ f. absurd (not_both refl f) }
-
-pub open_at : (start : ℕ) (loads gaps : List ℕ) (n limit d : ℕ) → OpenAt start loads gaps n limit d → ReachedBy start loads gaps n limit (record { place = d; settled = false })
-open_at start loads gaps n limit d o = record { done = λ f. absurd (not_both f refl); unsettled = λ _. o }

@@ -242,8 +242,9 @@ part_level loads gaps wheels periods part n count k g s h p = (
   λ u q. let x = part_small loads gaps wheels periods n count k u s h q in (omega (arith, p.at u q, x.0), omega (arith, p.at u q, x.1)),
 )
 
-pub put_flow : (part gaps : List ℕ) (n flow flow' block entries place : ℕ) (table after : List ℕ) → flow ≡ flow' → PutWheel part gaps n flow block entries place table after → PutWheel part gaps n flow' block entries place table after
-put_flow part gaps n flow flow' block entries place table after e w = rw e at w
+-- a wheel that is put by equal numbers
+pub put_by : (part gaps : List ℕ) (n flow flow' block block' entries place place' : ℕ) (table after : List ℕ) → flow ≡ flow' → block ≡ block' → place ≡ place' → PutWheel part gaps n flow block entries place table after → PutWheel part gaps n flow' block' entries place' table after
+put_by part gaps n flow flow' block block' entries place place' table after e f g w = rw (e, f, g) at w
 
 pub built_by : (loads gaps wheels : List ℕ) (n : ℕ) (periods : List ℕ) (block block' : ℕ) (places table : List ℕ) (r : Built) → block ≡ block' → BuiltOn loads gaps wheels n periods block places table r → BuiltOn loads gaps wheels n periods block' places table r
 built_by loads gaps wheels n periods block block' places table r e b =

@@ -1,7 +1,8 @@
 // Sets of numbers below 256, as the bits of four words.
 
-ghost use Rattle.std.specs.Prelude.{◌≡◌, false, ◌||◌, ◌&&◌, not, ℕ};
 ghost use Rattle.sets.specs.Wide.{inside};
+
+use crate::Set;
 
 #[derive(Clone, Copy)]
 pub struct Wide {
@@ -11,50 +12,42 @@ pub struct Wide {
     pub w3: u64,
 }
 
-// The empty set.
-pub fn none() -> Wide
-    ensures { (l : ℕ) → inside result l ≡ false }
-{
-    Wide {
-        w0: 0,
-        w1: 0,
-        w2: 0,
-        w3: 0,
-    }
-}
+impl Set for Wide {
+    ghost holds = { inside };
 
-// The members of both sets together.
-pub fn union(x: Wide, y: Wide) -> Wide
-    ensures { (l : ℕ) → inside result l ≡ (inside x l || inside y l) }
-{
-    Wide {
-        w0: crate::union(x.w0, y.w0),
-        w1: crate::union(x.w1, y.w1),
-        w2: crate::union(x.w2, y.w2),
-        w3: crate::union(x.w3, y.w3),
+    fn none() -> Self {
+        Wide {
+            w0: 0,
+            w1: 0,
+            w2: 0,
+            w3: 0,
+        }
     }
-}
 
-// The members that both sets have.
-pub fn both(x: Wide, y: Wide) -> Wide
-    ensures { (l : ℕ) → inside result l ≡ (inside x l && inside y l) }
-{
-    Wide {
-        w0: crate::both(x.w0, y.w0),
-        w1: crate::both(x.w1, y.w1),
-        w2: crate::both(x.w2, y.w2),
-        w3: crate::both(x.w3, y.w3),
+    fn union(self, other: Self) -> Self {
+        Wide {
+            w0: self.w0.union(other.w0),
+            w1: self.w1.union(other.w1),
+            w2: self.w2.union(other.w2),
+            w3: self.w3.union(other.w3),
+        }
     }
-}
 
-// The members of x that are not in y.
-pub fn without(x: Wide, y: Wide) -> Wide
-    ensures { (l : ℕ) → inside result l ≡ (inside x l && not (inside y l)) }
-{
-    Wide {
-        w0: crate::without(x.w0, y.w0),
-        w1: crate::without(x.w1, y.w1),
-        w2: crate::without(x.w2, y.w2),
-        w3: crate::without(x.w3, y.w3),
+    fn both(self, other: Self) -> Self {
+        Wide {
+            w0: self.w0.both(other.w0),
+            w1: self.w1.both(other.w1),
+            w2: self.w2.both(other.w2),
+            w3: self.w3.both(other.w3),
+        }
+    }
+
+    fn without(self, other: Self) -> Self {
+        Wide {
+            w0: self.w0.without(other.w0),
+            w1: self.w1.without(other.w1),
+            w2: self.w2.without(other.w2),
+            w3: self.w3.without(other.w3),
+        }
     }
 }

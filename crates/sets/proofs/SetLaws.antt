@@ -6,12 +6,12 @@ use native.Mathlib.Omega.{arith}
 use native.Mathlib.Nat.{div-eq_of_lt, div-eq_of_lt-le, div-one, pow-suc, mod-lt, lt_of_lt_of_le}
 use native.Mathlib.Decide.{dec_lt}
 use lib.Dec.{eqb, ltb}
-use lib.Bits.{bit_or, bit_and, bit_xor, differ, or_step, or_shr, and_step, and_shr, and_self, xor_step, xor_shr, and_mask, shifted_even}
+use lib.Bits.{bit_or, bit_and, or_step, or_shr, and_step, and_shr, and_self, and_mask, shifted_even}
 use lib.Pow.{pow_pos, pow_mono, pow-lt, pow-add, shl-shr, shl_exact, shr-shr, field, mod-mod-pow}
 use lib.Count.{count_trailing_zeros, count_leading_zeros, under, leading_top}
 use borrow.Author.Tests.{eq-eqb, eqb-true, lt-ltb, le-ltb, ltb-true}
 use Rattle.lemmas.proofs.Tests.{Cmp, less, same, more, cmp, not_both, false_of, same_test, and_false_right}
-use Rattle.std.specs.Int.{bit_at, Width}
+use Rattle.std.specs.Int.{bit_at}
 use Rattle.std.specs.Int.Width.{w64}
 use Rattle.std.proofs.lemmas.Nat.{and_le_l}
 use Rattle.std.proofs.lemmas.Nat.Bits.{bit_at_and, bit_at_not, bit_at-lt}

@@ -24,6 +24,18 @@ empty (suc (suc zero)) k = member_none k
 empty (suc (suc (suc zero))) k = member_none k
 empty (suc (suc (suc (suc v)))) k = member_none k
 
+-- nothing is in a set of no words
+pub no_words : (l : ℕ) → inside (record { words = [] }) l ≡ false
+unfolding inside word_in
+no_words l = go (l / 64)
+  where
+    go : (v : ℕ) → member (word_in (record { words = [] }) v) (l % 64) ≡ false
+    go zero = member_none (l % 64)
+    go (suc zero) = member_none (l % 64)
+    go (suc (suc zero)) = member_none (l % 64)
+    go (suc (suc (suc zero))) = member_none (l % 64)
+    go (suc (suc (suc (suc v)))) = member_none (l % 64)
+
 -- what holds of the words holds of the sets; it holds of the words past the last, which are 0
 module _ (f : Bool → Bool → Bool) (off : f false false ≡ false) (x y : Wide) (a b c d : ℕ) where
   pub by_words : ((k : ℕ) → member a k ≡ f (member (get_or x.words 0 0) k) (member (get_or y.words 0 0) k)) → ((k : ℕ) → member b k ≡ f (member (get_or x.words 1 0) k) (member (get_or y.words 1 0) k)) → ((k : ℕ) → member c k ≡ f (member (get_or x.words 2 0) k) (member (get_or y.words 2 0) k)) → ((k : ℕ) → member d k ≡ f (member (get_or x.words 3 0) k) (member (get_or y.words 3 0) k)) → (l : ℕ) → inside (record { words = a ∷ b ∷ c ∷ d ∷ [] }) l ≡ f (inside x l) (inside y l)

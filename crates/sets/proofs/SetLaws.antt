@@ -6,11 +6,15 @@ use native.Mathlib.Omega.{arith}
 use native.Mathlib.Nat.{div-eq_of_lt, div-eq_of_lt-le, div-one, pow-suc, mod-lt, lt_of_lt_of_le}
 use native.Mathlib.Decide.{dec_lt}
 use lib.Dec.{eqb, ltb}
-use lib.Bits.{bit_or, bit_and, bit_xor, differ, or_step, or_shr, and_step, and_shr, and_self, xor_step, xor_shr, and_mask, shifted_even}
+use lib.Bits.{bit_or, bit_and, or_step, or_shr, and_step, and_shr, and_self, and_mask, shifted_even}
 use lib.Pow.{pow_pos, pow_mono, pow-lt, pow-add, shl-shr, shl_exact, shr-shr, field, mod-mod-pow}
 use lib.Count.{count_trailing_zeros, count_leading_zeros, under, leading_top}
 use borrow.Author.Tests.{eq-eqb, eqb-true, lt-ltb, le-ltb, ltb-true}
 use Rattle.lemmas.proofs.Tests.{Cmp, less, same, more, cmp, not_both, false_of, same_test, and_false_right}
+use Rattle.std.specs.Int.{bit_at}
+use Rattle.std.specs.Int.Width.{w64}
+use Rattle.std.proofs.lemmas.Nat.{and_le_l}
+use Rattle.std.proofs.lemmas.Nat.Bits.{bit_at_and, bit_at_not, bit_at-lt}
 use Rattle.sets.specs.Sets.{member}
 use Rattle.lemmas.proofs.Bools.{and_on}
 
@@ -167,25 +171,29 @@ member_and a b k =
     ∙ w.1
 
 -- the members of a that b does not have
-bit_less : (p q : ℕ) → p < 2 → q < 2 → (differ p (min p q) < 2) × (eqb (differ p (min p q)) 1 ≡ (eqb p 1 && not (eqb q 1)))
-bit_less zero zero h k = (omega arith, refl)
-bit_less zero (suc zero) h k = (omega arith, refl)
-bit_less (suc zero) zero h k = (omega arith, refl)
-bit_less (suc zero) (suc zero) h k = (omega arith, refl)
-bit_less (suc (suc p)) q h k = absurd (omega arith)
-bit_less zero (suc (suc q)) h k = absurd (omega arith)
-bit_less (suc zero) (suc (suc q)) h k = absurd (omega arith)
+less_lem : (p q : ℕ) → p < 2 → q < 2 → eqb (min p (1 - q)) 1 ≡ (eqb p 1 && not (eqb q 1))
+less_lem zero zero h k = refl
+less_lem zero (suc zero) h k = refl
+less_lem (suc zero) zero h k = refl
+less_lem (suc zero) (suc zero) h k = refl
+less_lem (suc (suc p)) q h k = absurd (omega arith)
+less_lem zero (suc (suc q)) h k = absurd (omega arith)
+less_lem (suc zero) (suc (suc q)) h k = absurd (omega arith)
 
-pub member_less : (a b k : ℕ) → member (bit_xor a (bit_and a b)) k ≡ (member a k && not (member b k))
+pub member_less : (a b k : ℕ) → a < 2 ^ 64 → b < 2 ^ 64 → member (bit_and a (2 ^ 64 - 1 - b)) k ≡ (member a k && not (member b k))
 unfolding member
-member_less a b k =
-    let x = a / 2 ^ k in
-    let y = b / 2 ^ k in
-    let w = bit_less (x % 2) (y % 2) (omega arith) (omega arith) in
-    let n : bit_and x y % 2 ≡ min (x % 2) (y % 2) = odd_of (bit_and x y) (bit_and (x / 2) (y / 2)) (min (x % 2) (y % 2)) (and_step x y) (bit_and_lem (x % 2) (y % 2) (omega arith) (omega arith)).0 in
-    ap (λ z. eqb (z % 2) 1) (xor_shr a (bit_and a b) k ∙ ap (bit_xor x) (and_shr a b k))
-    ∙ ap (λ z. eqb z 1) (odd_of (bit_xor x (bit_and x y)) (bit_xor (x / 2) (bit_and x y / 2)) (differ (x % 2) (min (x % 2) (y % 2))) (xor_step x (bit_and x y) ∙ ap (λ z. bit_xor (x / 2) (bit_and x y / 2) * 2 + differ (x % 2) z) n) w.0)
-    ∙ w.1
+member_less a b k p q = go (dec_lt k 64)
+  where
+    small : bit_and a (2 ^ 64 - 1 - b) < 2 ^ 64
+    small = omega (arith, and_le_l a (2 ^ 64 - 1 - b))
+
+    go : Dec (k < 64) → member (bit_and a (2 ^ 64 - 1 - b)) k ≡ (member a k && not (member b k))
+    go (yes h) =
+        ap (λ z. eqb z 1) (bit_at_and a (2 ^ 64 - 1 - b) k ∙ ap (min (bit_at a k)) (bit_at_not w64 b k q h))
+        ∙ less_lem (bit_at a k) (bit_at b k) (bit_at-lt a k) (bit_at-lt b k)
+    go (no h) =
+        member_past (bit_and a (2 ^ 64 - 1 - b)) 64 k small (omega arith)
+        ∙ ap (λ x. x && not (member b k)) (sym (member_past a 64 k p (omega arith)))
 
 -- the set of k alone, as a shift makes it
 pub member_alone : (k j : ℕ) → k < 64 → member (1 * 2 ^ k % 18446744073709551616) j ≡ eqb j k

@@ -21,14 +21,12 @@ use Rattle.lemmas.proofs.Tests.{same_test}
 use Rattle.lemmas.proofs.Range.{Found, any_at, any_found}
 use Rattle.lemmas.proofs.Table.{is_tab}
 use Rattle.theory.proofs.WellFormed.{Fielded}
-use Rattle.loads.specs.declared.Worked.{Worked}
 use Rattle.paths.specs.Rows.{SuccessorsOf, Closed, graph, self_in}
 use Rattle.works.specs.Works.{Ready, WorksOf, SetsOf, Scaled, load_by}
-use Rattle.loads.specs.Tables.{heavy_by, LoadsOf, SheetBy, RowsAre, WorkedOf, checked_loads}
+use Rattle.loads.specs.Tables.{heavy_by, LoadsOf, SheetBy, RowsAre, checked_loads}
 use Rattle.refusals.specs.Beside.{refused_sheet}
 use Rattle.paths.proofs.Tabled.{sets_cyclic, sets_load}
 use Rattle.works.proofs.Bringing.{self_cyclic, load_by_lem}
-use Rattle.lemmas.proofs.Outcomes.{refused_not}
 
 -- how the last checks end
 module _ (d : Description) where
@@ -48,10 +46,6 @@ module _ (d : Description) where
     pub ends_done : cyclic (system d) ≡ false → too_heavy (system d) ≡ false → last_checks d ≡ Done
     unfolding last_checks
     ends_done e f = rw (ne_eqb d.task_count 0 some, e, f)
-
--- a refusal comes with no works
-pub worked_refused : (d : Description) (r : Worked) (why : Refusal) → r.outcome ≡ Refused why 0 → last_checks d ≡ Refused why 0 → WorkedOf d r
-worked_refused d r why e f = record { judged = e ∙ sym f; worked = λ g. refused_not (sym f ∙ g) }
 
 -- sets and works that are found along a description's links give its loads
 module _ (d : Description) (F : Fielded d) (succ : List ℕ) (M : SuccessorsOf d succ) where

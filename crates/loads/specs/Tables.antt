@@ -1,7 +1,8 @@
 -- The tables of loads, and what each stands for.
-use Rattle.std.specs.Prelude.{ℕ, suc, ◌+◌, ◌≤◌, ◌<◌, ◌≡◌, Bool, List, [], length, get_or, ltb}
+use Rattle.std.specs.Prelude.{ℕ, suc, ◌+◌, ◌≤◌, ◌<◌, ◌≡◌, Bool, List, [], length, get_or, ltb, Result, Ok, Err}
 use Rattle.model.specs.declared.Description.{Description}
-use Rattle.model.specs.Refusals.{Done, on_done}
+use Rattle.model.specs.declared.Rejection.{Rejection}
+use Rattle.model.specs.Refusals.{Done, Refused, on_done}
 use Rattle.model.specs.declared.LoadSheet.{LoadSheet}
 use Rattle.model.specs.declared.Row.{Row}
 use Rattle.model.specs.Basics.{any_n, given}
@@ -43,9 +44,9 @@ abbrev pub RowsAre : List (List ℕ) → List Row → Type 0
 RowsAre t rows = (length rows ≡ 48) × ((k : ℕ) → k < 48 → get_or rows k no_row ≡ record { loads = get_or t k [] })
 
 -- "after the last field come 8, 9, 10", with sets and works of a description that passes
-pub record WorkedOf (d : Description) (r : Worked) : Type 0 where
-  pub judged : r.outcome ≡ last_checks d
-  pub worked : last_checks d ≡ Done → LoadsOf d r.brings r.works
+abbrev pub WorkedOf : Description → Result Worked Rejection → Type 0
+WorkedOf d (Ok r) = (last_checks d ≡ Done) × LoadsOf d r.brings r.works
+WorkedOf d (Err x) = last_checks d ≡ Refused x.why x.place
 
 -- the same with the load sheet
 unfoldable pub checked_loads : Description → LoadSheet

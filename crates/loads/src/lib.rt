@@ -1,7 +1,7 @@
 // Loads and cycles of a description whose fields have been checked: the checks 8, 9 and 10, and the load sheet.
 #![tactic(auto)]
 
-use model::{Description, LoadSheet, Outcome, Refusal, Row};
+use model::{Description, LoadSheet, Refusal, Rejection, Row};
 use refusals::refused_sheet;
 
 pub mod levels;
@@ -9,52 +9,35 @@ mod rows;
 
 ghost use Rattle.std.specs.Prelude.{◌≡◌};
 ghost use Rattle.theory.proofs.WellFormed.{Fielded};
-ghost use Rattle.model.specs.Refusals.{Refused};
 ghost use Rattle.loads.specs.Tables.{WorkedOf, RowsAre, checked_loads};
 
-// How the last checks end, and if they pass, for each node the tasks it brings in and for each task its work: all that loads are sums of.
+// Of a description that passes the last checks: for each node the tasks it brings in and for each task its work, all that loads are sums of.
 #[derive(Clone, Copy)]
 pub struct Worked {
-    pub outcome: Outcome,
     pub brings: [u64; 48],
     pub works: [u64; 32],
 }
 
-// Beside a refusal there are none.
-pub fn unworked(why: Refusal, place: usize) -> Worked
-    ensures { result.outcome ≡ Refused why place }
-{
-    Worked {
-        outcome: Outcome::Refused(why, place),
-        brings: [0u64; 48],
-        works: [0u64; 32],
-    }
-}
-
 // After the last field: no task, a loop, too heavy; else the work is done.
-pub fn work_out(d: Description) -> Worked
+pub fn work_out(d: Description) -> Result<Worked, Rejection>
     requires { Fielded d }
     ensures { WorkedOf d result }
 {
     let n = d.task_count;
     if n == 0 {
-        return unworked(Refusal::NoTask, 0);
+        return Err(Refusal::NoTask.at(0));
     }
     let succ = paths::successors(d);
     let rows = paths::closed(succ, n);
     if paths::brings_itself(&rows, n) {
-        return unworked(Refusal::Loop, 0);
+        return Err(Refusal::Loop.at(0));
     }
     let mut brings = [0u64; 48];
     let works = works::works_of(&succ, &d.runs, n, &mut brings);
     if rows::heavy(&brings, &works, n) {
-        return unworked(Refusal::TooHeavy, 0);
+        return Err(Refusal::TooHeavy.at(0));
     }
-    Worked {
-        outcome: Outcome::Done,
-        brings,
-        works,
-    }
+    Ok(Worked { brings, works })
 }
 
 // A sheet as rows of the public answer.
@@ -73,13 +56,14 @@ pub fn last_checks(d: Description) -> LoadSheet
     requires { Fielded d }
     ensures { result ≡ checked_loads d }
 {
-    let worked = work_out(d);
-    if let Outcome::Refused(why, place) = worked.outcome {
-        return refused_sheet(why, place);
-    }
-    let t = rows::load_rows(&worked.brings, &worked.works, d.task_count);
-    LoadSheet {
-        outcome: Outcome::Done,
-        rows: as_rows(t),
+    match work_out(d) {
+        Ok(worked) => {
+            let t = rows::load_rows(&worked.brings, &worked.works, d.task_count);
+            LoadSheet {
+                outcome: Ok(()),
+                rows: as_rows(t),
+            }
+        }
+        Err(rejection) => refused_sheet(rejection),
     }
 }

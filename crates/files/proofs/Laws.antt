@@ -1,12 +1,14 @@
 -- Judging and reading put together from the checks of the fields and the checks after the last field. Assumes nothing.
 use Prim.Native.Nat.{ℕ}
-use mathlib.Core.Path.{◌≡◌, refl, sym, ap, ◌∙◌}
+use Rattle.std.specs.Prelude.{Result, Ok, Err}
+use mathlib.Core.Path.{◌≡◌, refl, sym, ap, subst, ◌∙◌}
+use native.Mathlib.Omega.{arith}
 use mathlib.Core.Bool.{Bool, true, false, cond}
 use mathlib.Core.List.{List}
 use native.Mathlib.Nat.{sub-zero}
 use lib.ListN.{length}
 use Rattle.model.specs.declared.Description.{Description}
-use Rattle.model.specs.Refusals.{Done, Refused, blank, on_done}
+use Rattle.model.specs.Refusals.{Outcome, Done, Refused, on_done}
 use Rattle.model.specs.declared.Reading.{Reading}
 use Rattle.model.specs.declared.Refusal.{Refusal}
 use Rattle.model.specs.declared.Refusal.TheVariants.{TooMany}
@@ -20,12 +22,13 @@ use Rattle.theory.proofs.WellFormed.{WellFormed}
 use Rattle.refusals.specs.Beside.{refused_sheet}
 use Rattle.lemmas.proofs.Outcomes.{refused_not}
 use Rattle.model.specs.File.{parse_at}
-use Rattle.reading.specs.Steps.{record_checks}
+use Rattle.reading.specs.Steps.{as_result, record_checks}
+use Rattle.model.specs.declared.Rejection.{Rejection}
 use Rattle.loads.specs.declared.Worked.{Worked}
-use Rattle.loads.specs.Tables.{WorkedOf, checked_loads}
+use Rattle.loads.specs.Tables.{LoadsOf, WorkedOf, checked_loads}
 use Rattle.files.specs.declared.Judged.{Judged}
 use Rattle.model.specs.File.{read_from}
-use Rattle.files.specs.Answers.{ReadAs}
+use Rattle.files.specs.Answers.{JudgedOf, ReadAs}
 use Rattle.files.proofs.Places.{parsed_fielded_at}
 
 judge_is : (d : Description) → Widths d → judge d ≡ on_done (record_checks d) (last_checks d) Refused
@@ -82,45 +85,75 @@ pub read_start : (s : List ℕ) → read_from s 0 ≡ read_file s
 unfolding read_from read_file parse_file
 read_start s = rw (sub-zero (length s))
 
--- a refusal handed on, with nothing beside it
-pub refused_as_lem : (s : List ℕ) (at : ℕ) (r : Refusal) (p : ℕ) (j : Judged) → refused_reading r p ≡ read_from s at → j.outcome ≡ Refused r p → j.description ≡ blank → ReadAs (read_from s at) j
-refused_as_lem s at r p j e f g =
-    let o : Refused r p ≡ (read_from s at).outcome = ap (λ (x : Reading). x.outcome) e in
-    record {
-      judged = f ∙ o;
-      same = g ∙ ap (λ (x : Reading). x.description) e;
-      good = λ h. refused_not (o ∙ h);
-      worked = λ h. refused_not (o ∙ h);
-    }
+-- a reading by its description or its refusal
+pub result_refused : (r : Reading) (x : Rejection) → as_result r ≡ Err x → r.outcome ≡ Refused x.why x.place
+result_refused r x e = go r.outcome refl e
+  where
+    go : (o : Outcome) → r.outcome ≡ o → on_done o (Ok r.description) Refused ≡ Err x → r.outcome ≡ Refused x.why x.place
+    go (Ok tt) q f = absurd (let z : ◌≡◌ {A = ℕ} 0 1 = cc in omega arith)
+    go (Err y) q f = let z : y ≡ x = cc in q ∙ ap Err z
 
--- a file whose fields are accepted
-pub fields_good : (s : List ℕ) (at : ℕ) → Bytes s → (x : Reading) → x ≡ parse_at s at → x.outcome ≡ Done → Fielded x.description
-fields_good s at bytes x parsed fine =
-    rw parsed (parsed_fielded_at s at bytes (sym (ap (λ (y : Reading). y.outcome) parsed) ∙ fine))
+pub record ResultOf (r : Reading) (d : Description) : Type 0 where
+  pub fine : r.outcome ≡ Done
+  pub same : r.description ≡ d
 
--- and then its description by the last checks
-module _ (s : List ℕ) (at : ℕ) (x : Reading) (parsed : x ≡ parse_at s at) (w : Worked) (checked : WorkedOf x.description w) (fine : x.outcome ≡ Done) where
-  last_is : last_checks (parse_at s at).description ≡ w.outcome
-  last_is = sym (checked.judged ∙ ap (λ (y : Reading). last_checks y.description) parsed)
+pub result_done : (r : Reading) (d : Description) → as_result r ≡ Ok d → ResultOf r d
+result_done r d e = go r.outcome refl e
+  where
+    go : (o : Outcome) → r.outcome ≡ o → on_done o (Ok r.description) Refused ≡ Ok d → ResultOf r d
+    go (Ok tt) q f = let z : r.description ≡ d = cc in record { fine = q; same = z }
+    go (Err y) q f = absurd (let z : ◌≡◌ {A = ℕ} 0 1 = cc in omega arith)
 
-  parsed_fine : (parse_at s at).outcome ≡ Done
-  parsed_fine = sym (ap (λ (y : Reading). y.outcome) parsed) ∙ fine
+-- a file whose fields are refused
+pub fields_refused : (s : List ℕ) (at : ℕ) (x : Rejection) → as_result (parse_at s at) ≡ Err x → ReadAs (read_from s at) (Err x)
+fields_refused s at x e = sym (ap (λ (r : Reading). r.outcome) (read_refused s at x.why x.place (result_refused (parse_at s at) x e)))
 
-  pub unchecked_as : (r : Refusal) (p : ℕ) (j : Judged) → w.outcome ≡ Refused r p → j.outcome ≡ Refused r p → j.description ≡ blank → ReadAs (read_from s at) j
-  unchecked_as r p j e f g = refused_as_lem s at r p j (read_unchecked s at r p parsed_fine (last_is ∙ e)) f g
+-- a file whose fields are accepted, and then its description by the last checks
+module _ (s : List ℕ) (at : ℕ) (d : Description) (e : as_result (parse_at s at) ≡ Ok d) where
+  parsed : ResultOf (parse_at s at) d
+  parsed = result_done (parse_at s at) d e
 
-  pub checked_as : Bytes s → w.outcome ≡ Done → ReadAs (read_from s at) (record { outcome = Done; description = x.description; brings = w.brings; works = w.works })
-  checked_as b e =
-      let whole : x ≡ read_from s at = parsed ∙ read_checked s at parsed_fine (last_is ∙ e) in
-      let passes : last_checks x.description ≡ Done = sym checked.judged ∙ e in
-      let p : LastPasses x.description = last_passes x.description passes in
+  pub fields_good : Bytes s → Fielded d
+  fields_good b = subst Fielded parsed.same (parsed_fielded_at s at b parsed.fine)
+
+  pub unchecked_as : (x : Rejection) → last_checks d ≡ Refused x.why x.place → ReadAs (read_from s at) (Err x)
+  unchecked_as x f =
+      sym (ap (λ (r : Reading). r.outcome) (read_unchecked s at x.why x.place parsed.fine (ap last_checks parsed.same ∙ f)))
+
+  pub checked_as : Bytes s → (w : Worked) → last_checks d ≡ Done → LoadsOf d w.brings w.works → ReadAs (read_from s at) (Ok (record { description = d; worked = w }))
+  checked_as b w f l =
+      let whole : parse_at s at ≡ read_from s at = read_checked s at parsed.fine (ap last_checks parsed.same ∙ f) in
+      let p : LastPasses d = last_passes d f in
       record {
-        judged = sym fine ∙ ap (λ (y : Reading). y.outcome) whole;
-        same = ap (λ (y : Reading). y.description) whole;
-        good = λ _. record { fields = fields_good s at b x parsed fine; some_task = p.some; no_cycle = p.no_loop; not_heavy = p.light };
-        worked = λ _. checked.worked passes;
+        judged = sym (ap (λ (y : Reading). y.outcome) whole) ∙ parsed.fine;
+        same = sym parsed.same ∙ ap (λ (y : Reading). y.description) whole;
+        good = record { fields = fields_good b; some_task = p.some; no_cycle = p.no_loop; not_heavy = p.light };
+        worked = l;
       }
+
+-- the reading that an answer of judging tells of
+pub reading_of : (s : List ℕ) (at : ℕ) (j : Judged) → ReadAs (read_from s at) (Ok j) → record { outcome = Done; description = j.description } ≡ read_from s at
+reading_of s at j a = λ i. record { outcome = sym a.judged i; description = a.same i }
+
+pub refusal_of : (s : List ℕ) (at : ℕ) (x : Rejection) → ReadAs (read_from s at) (Err x) → refused_reading x.why x.place ≡ read_from s at
+unfolding read_from
+refusal_of s at x e = go (parse_at s at).outcome refl e
+  where
+    go : (o : Outcome) → (parse_at s at).outcome ≡ o → (on_done o (finished (parse_at s at).description) refused_reading).outcome ≡ Refused x.why x.place → refused_reading x.why x.place ≡ on_done (parse_at s at).outcome (finished (parse_at s at).description) refused_reading
+    go (Ok tt) q f = rw q (last (last_checks (parse_at s at).description) refl f)
+      where
+        last : (o : Outcome) → last_checks (parse_at s at).description ≡ o → (on_done o (record { outcome = Done; description = (parse_at s at).description }) refused_reading).outcome ≡ Refused x.why x.place → refused_reading x.why x.place ≡ on_done (last_checks (parse_at s at).description) (record { outcome = Done; description = (parse_at s at).description }) refused_reading
+        last (Ok tt) k g = absurd (let z : ◌≡◌ {A = ℕ} 0 1 = cc in omega arith)
+        last (Err y) k g = let z : y ≡ x = cc in rw (k, z) refl
+    go (Err y) q f = let z : y ≡ x = cc in rw (q, z) refl
 
 -- a description that is read is well formed
 pub read_good : (s : List ℕ) → Bytes s → Accepted s → WellFormed (read_file s).description
 read_good s b a = judge_well_formed (read_file s).description (read_whence s b a).widths (read_judged s b a)
+
+-- a record whose fields are accepted, by its last checks
+pub judged_by : (d : Description) → Widths d → record_checks d ≡ Done → (r : Result Worked Rejection) → WorkedOf d r → JudgedOf d r
+judged_by d w e (Ok r) h =
+    let j : judge d ≡ Done = judge_checked d w e ∙ h.0 in
+    record { judged = j; same = refl; good = judge_well_formed d w j; worked = h.1 }
+judged_by d w e (Err x) h = judge_checked d w e ∙ h

@@ -2,112 +2,75 @@
 #![tactic(auto)]
 
 ghost use Rattle.std.specs.Prelude.{◌≡◌};
-ghost use Rattle.model.specs.Refusals.{Refused, blank};
 ghost use Rattle.model.specs.File.{read_file, judge, load_sheet, written, page_after};
 ghost use Rattle.model.specs.File.{read_from};
 ghost use Rattle.files.specs.Answers.{JudgedOf, RecordAs, ReadAs};
 
 use loads::Worked;
-use model::{Description, Filled, LoadSheet, Outcome, Reading, Refusal};
-use refusals::{blank, refused_sheet};
+use model::{Description, LoadSheet, Reading, Rejection};
+use reader::Reader;
+use refusals::{refused_reading, refused_sheet};
 
 pub mod reader;
 
-// A file or a record judged: how that ends, and if it is accepted its description, for each node the tasks it brings in and for each task its work.
+// A description that is accepted, with what its loads are sums of.
 #[derive(Clone, Copy)]
 pub struct Judged {
-    pub outcome: Outcome,
     pub description: Description,
-    pub brings: [u64; 48],
-    pub works: [u64; 32],
+    pub worked: Worked,
 }
 
 // The load sheet of a record, or what its file would be refused for.
 pub fn load_sheet(d: Description) -> LoadSheet
     ensures { result ≡ load_sheet d }
 {
-    let fields = reading::check_record(d);
-    if let Outcome::Refused(why, place) = fields {
-        return refused_sheet(why, place);
+    if let Err(rejection) = reading::check_record(d) {
+        return refused_sheet(rejection);
     }
     loads::last_checks(d)
 }
 
 // A record judged as its file would be, with what its loads are sums of if it passes.
-fn work_out(d: Description) -> Worked
+fn work_out(d: Description) -> Result<Worked, Rejection>
     ensures { JudgedOf d result }
 {
-    let fields = reading::check_record(d);
-    if let Outcome::Refused(why, place) = fields {
-        return loads::unworked(why, place);
-    }
+    reading::check_record(d)?;
     loads::work_out(d)
 }
 
 // A record judged as its file would be.
-pub fn judge(d: Description) -> Outcome
+pub fn judge(d: Description) -> Result<(), Rejection>
     ensures { result ≡ judge d }
 {
-    let worked = work_out(d);
-    worked.outcome
+    work_out(d)?;
+    Ok(())
 }
 
-// The same beside the record.
-pub fn examine_record(d: Description) -> Judged
+// The same with what comes of it beside the record.
+pub fn examine_record(d: Description) -> Result<Judged, Rejection>
     ensures { RecordAs d result }
 {
-    let worked = work_out(d);
-    let outcome = worked.outcome;
-    let brings = worked.brings;
-    let works = worked.works;
-    Judged {
-        outcome,
+    let worked = work_out(d)?;
+    Ok(Judged {
         description: d,
-        brings,
-        works,
-    }
-}
-
-// Beside a refusal all is zeros.
-fn refused(why: Refusal, place: usize) -> Judged
-    ensures { (result.outcome ≡ Refused why place) × (result.description ≡ blank) }
-{
-    let none = blank();
-    Judged {
-        outcome: Outcome::Refused(why, place),
-        description: none,
-        brings: [0u64; 48],
-        works: [0u64; 32],
-    }
+        worked,
+    })
 }
 
 // The file that begins at a place of the bytes, judged.
-fn examine_at(s: &[u8], at: usize) -> Judged
+fn examine_at(s: &[u8], at: usize) -> Result<Judged, Rejection>
     ensures { ReadAs (read_from s.now at) result }
 {
-    let parsed = reading::parse(s, at);
-    let fields = parsed.outcome;
-    if let Outcome::Refused(why, place) = fields {
-        return refused(why, place);
-    }
-    let d = parsed.description;
-    let worked = loads::work_out(d);
-    let last = worked.outcome;
-    if let Outcome::Refused(why, place) = last {
-        return refused(why, place);
-    }
-    let brings = worked.brings;
-    let works = worked.works;
-    Judged {
-        outcome: Outcome::Done,
+    let d = reading::parse(s, at)?;
+    let worked = loads::work_out(d)?;
+    Ok(Judged {
         description: d,
-        brings,
-        works,
-    }
+        worked,
+    })
 }
 
 // A file judged, with its description and what its loads are sums of if it is accepted.
-pub fn examine(file: &[u8]) -> Judged
+pub fn examine(file: &[u8]) -> Result<Judged, Rejection>
     ensures { ReadAs (read_file file.now) result }
 {
     examine_at(file, 0)
@@ -117,12 +80,12 @@ pub fn examine(file: &[u8]) -> Judged
 fn read_at(s: &[u8], at: usize) -> Reading
     ensures { result ≡ read_from s.now at }
 {
-    let judged = examine_at(s, at);
-    let outcome = judged.outcome;
-    let description = judged.description;
-    Reading {
-        outcome,
-        description,
+    match examine_at(s, at) {
+        Ok(judged) => Reading {
+            outcome: Ok(()),
+            description: judged.description,
+        },
+        Err(rejection) => refused_reading(rejection),
     }
 }
 
@@ -130,16 +93,13 @@ fn read_at(s: &[u8], at: usize) -> Reading
 pub fn read(s: &[u8]) -> Reading
     ensures { result ≡ read_file s.now }
 {
-    reader::read_from(reader::new(s))
+    reader::read_from(Reader::new(s))
 }
 
 // A record's file into a lent buffer, or what the record is refused for; a refusal changes no byte.
-pub fn write(d: Description, out: &mut [u8]) -> Filled
+pub fn write(d: Description, out: &mut [u8]) -> Result<usize, Rejection>
     ensures { (result ≡ written d out.old) × (out.new ≡ page_after d out.old) }
 {
-    let judged = judge(d);
-    if let Outcome::Refused(why, place) = judged {
-        return Filled::Unfilled(why, place);
-    }
-    writing::put_file(d, &mut *out)
+    judge(d)?;
+    writing::put_file(d, out)
 }

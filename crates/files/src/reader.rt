@@ -4,7 +4,7 @@ ghost use Rattle.std.specs.Prelude.{◌≡◌};
 ghost use Rattle.model.specs.File.{read_from};
 
 use crate::read_at;
-pub use fields::reader::{Reader, new, next};
+pub use fields::reader::Reader;
 use model::Reading;
 
 // The description of the file that begins at the reading place, or what it is refused for.

@@ -1,21 +1,25 @@
-use mathlib.Core.Path.{sym, ap, ◌∙◌}
-use Rattle.model.specs.declared.Reading.{Reading}
-use Rattle.files.proofs.Laws.{read_refused, refused_as_lem, fields_good, unchecked_as, checked_as}
+use Rattle.std.proofs.Common.{rules}
+use Rattle.std.specs.Prelude.{Ok, Err}
+use mathlib.Core.Path.{◌≡◌, sym, ◌∙◌}
+use Rattle.loads.specs.Tables.{WorkedOf}
+use Rattle.files.proofs.Laws.{fields_refused, fields_good, unchecked_as, checked_as}
 use Rattle.files.proofs.examine_at.Goals as goal
 
-pub returns-in-Refused : goal.returns-in-Refused
-returns-in-Refused c =
-    let e = c.parse-parsed.ensures in
-    let told = c.in-Refused in
-    refused_as_lem c.args.s.now c.args.at told.why told.place c.refused.result (read_refused c.args.s.now c.args.at told.why told.place (sym (ap (λ (x : Reading). x.outcome) e) ∙ told.is)) c.refused.ensures.0 c.refused.ensures.1
+pub returns-in_err-d : goal.returns-in_err-d
+returns-in_err-d c =
+    let h : c.from_residual.result ≡ Err c.in_err-d.field-0.0 = search rules in
+    rw h (fields_refused c.args.s.now c.args.at c.in_err-d.field-0.0 (sym c.parse.ensures ∙ c.in_err-d.was))
 
-pub work_out-worked-requires : goal.work_out-worked-requires
-work_out-worked-requires c = fields_good c.args.s.now c.args.at (λ i. (c.type_inv.s i).fits) c.parse-parsed.result c.parse-parsed.ensures c.in_default.is
+pub work_out-requires : goal.work_out-requires
+work_out-requires c = fields_good c.args.s.now c.args.at c.in_ok-d.d (sym c.parse.ensures ∙ c.in_ok-d.was) (λ i. (c.type_inv.s i).fits)
 
-pub returns-in-Refused-last : goal.returns-in-Refused-last
-returns-in-Refused-last c =
-    let told = c.in-Refused-last in
-    unchecked_as c.args.s.now c.args.at c.parse-parsed.result c.parse-parsed.ensures c.work_out-worked.result c.work_out-worked.ensures c.in_default.is told.why told.place c.refused-in-Refused-last.result told.is c.refused-in-Refused-last.ensures.0 c.refused-in-Refused-last.ensures.1
+pub returns-in_err-worked : goal.returns-in_err-worked
+returns-in_err-worked c =
+    let x = c.in_err-worked.field-0.0 in
+    let h : c.from_residual-in_err-worked.result ≡ Err x = search rules in
+    rw h (unchecked_as c.args.s.now c.args.at c.in_ok-d.d (sym c.parse.ensures ∙ c.in_ok-d.was) x (rw c.in_err-worked.was at c.work_out.ensures))
 
 pub returns : goal.returns
-returns c = checked_as c.args.s.now c.args.at c.parse-parsed.result c.parse-parsed.ensures c.work_out-worked.result c.work_out-worked.ensures c.in_default.is (λ i. (c.type_inv.s i).fits) c.in_default-last.is
+returns c =
+    let w = rw c.in_ok-worked.was at c.work_out.ensures in
+    checked_as c.args.s.now c.args.at c.in_ok-d.d (sym c.parse.ensures ∙ c.in_ok-d.was) (λ i. (c.type_inv.s i).fits) c.in_ok-worked.worked w.0 w.1

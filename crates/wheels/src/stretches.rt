@@ -70,7 +70,7 @@ impl Wheeled<'_> {
         for k in 0..self.built.count {
             let turn = turns[k];
             let at = self.places[k] + self.block.of(turn) as usize;
-            sum += self.table[at] as u64;
+            sum += u64::from(self.table[at]);
             turns[k] = turned(turn, width, self.plan.periods[k]);
         }
         sum

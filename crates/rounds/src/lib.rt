@@ -1,7 +1,7 @@
 // The rounds that work out how long a task's level may stay busy.
 #![tactic(auto)]
 
-ghost use Rattle.std.specs.Prelude.{◌≡◌, cond, ◌+◌, ◌*◌, ◌/◌, ◌≤◌, ◌<◌, ltb, length};
+ghost use Rattle.std.specs.Prelude.{◌≡◌, ◌+◌, ◌*◌, ◌/◌, ◌≤◌, ◌<◌, length};
 ghost use Rattle.model.specs.Delays.{spacings};
 ghost use Rattle.rounds.specs.Level.{LevelOn, round_in, Counted, more_by, NextRound, RoundAt, ShareOf, Shares, FlowEnd, Jump, ReachedBy};
 
@@ -29,17 +29,17 @@ fn end_of(load: u64, count: u64, gap: u32) -> u64
     count * u64::from(gap)
 }
 
-// One source in a round: the firings that d needs beyond those counted are counted. What they bring.
-fn count_on(load: u64, gap: u32, d: u64, end: &mut u64) -> u64
-    requires { (load ≤ 1000000000) × (1 ≤ gap) × (gap ≤ 1000000000) × (d ≤ 1000000000) }
-    ensures { (end.new ≡ end.old + more_by d end.old gap * gap) × (result ≡ load * more_by d end.old gap) × (result ≤ 1000000000000000000) }
+// One source in a round: the firings that d needs beyond those counted are counted, and their load is added to the sum.
+fn count_on(load: u64, gap: u32, d: u64, end: &mut u64, sum: u64) -> u64
+    requires { (load ≤ 1000000000) × (1 ≤ gap) × (gap ≤ 1000000000) × (d ≤ 1000000000) × (sum ≤ 17000000000000000000) }
+    ensures { (end.new ≡ end.old + more_by d end.old gap * gap) × (result ≡ sum + load * more_by d end.old gap) × (result ≤ sum + 1000000000000000000) }
 {
     if d <= *end {
-        return 0;
+        return sum;
     }
     let count = spacings_in(d - *end, gap);
     *end += count * u64::from(gap);
-    load * count
+    sum + load * count
 }
 
 // A source's share of each tick in parts of 2^33, rounded down; all shares above a tick count alike.
@@ -51,23 +51,12 @@ fn share_of(load: u64, gap: u32) -> u64
     share.min(8589934593)
 }
 
-// A source as a flow: its share, if the firings counted end before a far place.
-fn flow_of(share: u64, end: u64, far: u64) -> u64
-    ensures { result ≡ cond (ltb end far) share 0 }
-{
-    if end < far { share } else { 0 }
-}
-
-// What the counted firings of a source bring, if it is not counted otherwise.
-pub fn rest_of(load: u64, gap: u32, end: u64, otherwise: bool) -> u64
+// What the counted firings of a source bring.
+pub fn brought(load: u64, gap: u32, end: u64) -> u64
     requires { (1 ≤ gap) × (load * (end / gap) ≤ 1000000000) }
-    ensures { result ≡ cond otherwise 0 (load * (end / gap)) }
+    ensures { result ≡ load * (end / gap) }
 {
-    if otherwise {
-        0
-    } else {
-        load * (end / u64::from(gap))
-    }
+    load * (end / u64::from(gap))
 }
 
 // The least length that holds a rest and a flow, 2^33 × rest / (2^33 - flow) rounded up; the limit where that is less, or no length does.
@@ -135,7 +124,7 @@ impl Level<'_> {
     {
         let mut sum = before;
         for u in 0..self.count {
-            sum += count_on(self.loads[u], self.gaps[u], d, &mut ends[u]);
+            sum = count_on(self.loads[u], self.gaps[u], d, &mut ends[u], sum);
         }
         sum
     }
@@ -159,13 +148,18 @@ impl Level<'_> {
         let mut flow = 0;
         for u in 0..self.count {
             let end = ends[u];
-            rest += rest_of(self.loads[u], self.gaps[u], end, end < far);
-            flow += flow_of(shares[u], end, far);
+            if end < far {
+                flow += shares[u];
+            } else {
+                rest += brought(self.loads[u], self.gaps[u], end);
+            }
         }
         flow_end(rest, flow, limit)
     }
 
     // Where the next round is worked out after a jump: at the sum of the last one, or at the best bound that a flow gives.
+    // A call of its own, so that the rounds between two jumps keep what they work with in registers.
+    #[inline(never)]
     pub fn jumped(&self, ends: &[u64; 16], shares: &[u64; 16], sum: u64, limit: u64) -> u64
         requires { RoundAt self.now.start self.now.loads.now self.now.gaps.now self.now.count ends.now × Shares self.now.loads.now self.now.gaps.now self.now.count shares.now × Jump self.now.start self.now.loads.now self.now.gaps.now self.now.count limit sum }
         ensures { Jump self.now.start self.now.loads.now self.now.gaps.now self.now.count limit result × (sum ≤ result) }

@@ -6,7 +6,7 @@ ghost use Rattle.wheels.specs.Wheel.{BuiltOn, Turned, waste_on, left_in, Passes}
 
 use crate::tables::Built;
 use periods::{Block, Plan};
-use rounds::{Level, rest_of};
+use rounds::{Level, brought};
 
 // A level with some of its sources on wheels: the plan, where the table of each wheel begins, and what is built of it.
 #[derive(Clone, Copy)]
@@ -44,12 +44,9 @@ impl Wheeled<'_> {
     {
         let mut rest = self.level.start;
         for u in 0..self.level.count {
-            rest += rest_of(
-                self.level.loads[u],
-                self.level.gaps[u],
-                ends[u],
-                self.plan.wheels[u] < self.built.count,
-            );
+            if self.built.count <= self.plan.wheels[u] {
+                rest += brought(self.level.loads[u], self.level.gaps[u], ends[u]);
+            }
         }
         rest
     }
@@ -73,7 +70,7 @@ impl Wheeled<'_> {
         for k in 0..self.built.count {
             let turn = turns[k];
             let at = self.places[k] + self.block.of(turn) as usize;
-            sum += self.table[at] as u64;
+            sum += u64::from(self.table[at]);
             turns[k] = turned(turn, width, self.plan.periods[k]);
         }
         sum

@@ -77,7 +77,7 @@ fn part_of(level: &Level, plan: &Plan, k: usize, part: &mut [u64; 16]) -> u64
     for u in 0..level.count {
         let load = on_wheel(level.loads[u], plan.wheels[u], k);
         part[u] = load;
-        flow += load * 4398046511104 / level.gaps[u] as u64;
+        flow += load * 4398046511104 / u64::from(level.gaps[u]);
     }
     flow
 }

@@ -1,5 +1,5 @@
 -- `count_on` meets its contract: nothing up to the end, else the firings beyond it. Assumes nothing.
-use Prim.Native.Nat.{◌*◌, ◌≤◌}
+use Prim.Native.Nat.{◌+◌, ◌*◌, ◌≤◌}
 use mathlib.Core.Path.{◌≡◌, ap, ◌∙◌}
 use native.Mathlib.Omega.{arith}
 use native.Mathlib.Nat.{mul-le-mul, mul-zero, zero-mul}
@@ -32,9 +32,15 @@ overflow_mul-result c =
     let part : c.args.load * c.spacings_in-count.result ≤ 1000000000000000000 = rw beyond (mul-le-mul c.requires.0 (more_most c.args.d c.args.end.now c.args.gap c.requires.1 c.requires.3)) in
     omega (arith, part)
 
+pub overflow_add-result : goal.overflow_add-result
+overflow_add-result c =
+    let beyond : c.spacings_in-count.result ≡ more_by c.args.d c.args.end.now c.args.gap = c.spacings_in-count.ensures ∙ more_some c.args.d c.args.end.now c.args.gap c.requires.1 c.if-d-end.false in
+    let part : c.args.load * c.spacings_in-count.result ≤ 1000000000000000000 = rw beyond (mul-le-mul c.requires.0 (more_most c.args.d c.args.end.now c.args.gap c.requires.1 c.requires.3)) in
+    omega (arith, part)
+
 pub returns : goal.returns
 returns c =
     let a = c.args in
     let beyond : c.spacings_in-count.result ≡ more_by a.d a.end.now a.gap = c.spacings_in-count.ensures ∙ more_some a.d a.end.now a.gap c.requires.1 c.if-d-end.false in
     let part : a.load * c.spacings_in-count.result ≤ 1000000000000000000 = rw beyond (mul-le-mul c.requires.0 (more_most a.d a.end.now a.gap c.requires.1 c.requires.3)) in
-    (omega (arith, ap (λ x. x * a.gap) beyond, ap (λ x. c.spacings_in-count.result * x) c.from.ensures), ap (λ x. a.load * x) beyond, part)
+    (omega (arith, ap (λ x. x * a.gap) beyond, ap (λ x. c.spacings_in-count.result * x) c.from.ensures), ap (λ x. a.sum + a.load * x) beyond, omega (arith, part))

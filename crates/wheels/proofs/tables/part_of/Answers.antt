@@ -29,11 +29,12 @@ loop-u-preserved c =
     let r = c.on_wheel-load.result in
     let e : r ≡ part_at a.level.now.loads.now a.plan.now.wheels a.k L.u = load_is in
     let f : ℕ → ℕ = λ v. part_at a.level.now.loads.now a.plan.now.wheels a.k v * 4398046511104 / get_or a.level.now.gaps.now v 0 in
+    let share : r * 4398046511104 / c.from.result ≡ r * 4398046511104 / get_or a.level.now.gaps.now L.u 0 = ap (λ g. r * 4398046511104 / g) c.from.ensures in
     let x = load-small in (
       length-set L.part L.u r ∙ L.invariant.0,
       stored (λ v x. x ≡ part_at a.level.now.loads.now a.plan.now.wheels a.k v) 0 L.part L.u r (omega (arith, a.level.now.on_scale.few, L.invariant.0)) L.invariant.1 e,
-      omega (arith, L.invariant.2, sum_more f L.u, ap (λ z. z * 4398046511104 / get_or a.level.now.gaps.now L.u 0) e),
-      omega (arith, L.invariant.3, share_most r (get_or a.level.now.gaps.now L.u 0) (a.level.now.on_scale.gap_some L.u (omega arith)) x.1),
+      omega (arith, L.invariant.2, sum_more f L.u, share, ap (λ z. z * 4398046511104 / get_or a.level.now.gaps.now L.u 0) e),
+      omega (arith, L.invariant.3, share, share_most r (get_or a.level.now.gaps.now L.u 0) (a.level.now.on_scale.gap_some L.u (omega arith)) x.1),
     )
 
 pub returns : goal.returns

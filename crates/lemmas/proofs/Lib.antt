@@ -3,6 +3,7 @@ pub mod Tests
 pub mod Bools
 pub mod Range
 pub mod Table
+pub mod Front
 pub mod Pigeonhole
 pub mod Outcomes
 pub mod Decimal

@@ -4,8 +4,7 @@ use mathlib.Core.Path.{◌≡◌, refl, sym, ◌∙◌}
 use mathlib.Core.Bool.{true}
 use mathlib.Core.List.{List}
 use native.Mathlib.Omega.{arith}
-use lib.ListN.{length, get_or, set, length-set}
-use lib.Seq.{get_or-set_same, get_or-set_other}
+use lib.ListN.{length, get_or, set, replicate, length-set}
 use borrow.Author.Tests.{ne_eqb}
 use Rattle.model.specs.declared.Source.{Source}
 use Rattle.model.specs.declared.Source.TheVariants.{Fixed, Paced, Swung}
@@ -14,9 +13,10 @@ use Rattle.model.specs.declared.Field.TheVariants.{OfSource}
 use Rattle.model.specs.Refusals.{no_source}
 use Rattle.model.specs.Field.{on_scale}
 use Rattle.model.specs.Delays.{spacing}
-use Rattle.lemmas.proofs.Tests.{Cmp, less, same, more, cmp}
+use Rattle.lemmas.proofs.Table.{stored}
 use Rattle.theory.proofs.Spacing.{paced_scale, swung_scale}
-use Rattle.spacings.specs.Sources.{ticks_in, pulses_in, ticks_at, pulses_at, spacing_by, PlainOf}
+use Rattle.spacings.specs.declared.Pace.{Pace}
+use Rattle.spacings.specs.Sources.{no_pace, ticks_in, pulses_in, ticks_at, pulses_at, spacing_by, PlainOf}
 
 -- the spacing of a source from its plain numbers
 source_spacing : (x : Source) (t : ℕ) → on_scale (OfSource x) ≡ true → spacing x t ≡ spacing_by (ticks_in x) (pulses_in x) t
@@ -38,20 +38,16 @@ module _ {x : Source} {ticks pulses : ℕ} (k : PlainOf x ticks pulses) where
   plain_pulses = rw k.pulses_are (source_pulses x k.on)
 
 -- the first n sources
-pub record SourcesTo (d : Description) (paces : List ℕ) (n : ℕ) : Type 0 where
-  pub sized : length paces ≡ 32
+pub record SourcesTo (d : Description) (paces : List Pace) (n : ℕ) : Type 0 where
+  pub sized : length paces ≡ 16
   pub at : (u : ℕ) → u < n → PlainOf (get_or d.sources u no_source).source (ticks_at paces u) (pulses_at paces u)
 
-pub sources_more : (d : Description) (paces : List ℕ) (n a b : ℕ) → n < 16 → PlainOf (get_or d.sources n no_source).source a b → SourcesTo d paces n → SourcesTo d (set (set paces n a) (16 + n) b) (n + 1)
-sources_more d paces n a b h k r =
+pub sources_none : (d : Description) → SourcesTo d (replicate 16 no_pace) 0
+sources_none d = record { sized = refl; at = λ u p. absurd (omega arith) }
+
+pub sources_more : (d : Description) (paces : List Pace) (n : ℕ) (x : Pace) → n < 16 → PlainOf (get_or d.sources n no_source).source x.ticks x.pulses → SourcesTo d paces n → SourcesTo d (set paces n x) (n + 1)
+sources_more d paces n x h k r =
     record {
-      sized = length-set (set paces n a) (16 + n) b ∙ length-set paces n a ∙ r.sized;
-      at = λ u q. go u q (cmp u n);
+      sized = length-set paces n x ∙ r.sized;
+      at = stored (λ i y. PlainOf (get_or d.sources i no_source).source y.ticks y.pulses) no_pace paces n x (omega (arith, r.sized)) r.at k;
     }
-  where
-    go : (u : ℕ) → u < n + 1 → Cmp u n → PlainOf (get_or d.sources u no_source).source (ticks_at (set (set paces n a) (16 + n) b) u) (pulses_at (set (set paces n a) (16 + n) b) u)
-    go u q (less x) =
-        rw (get_or-set_other (set paces n a) (16 + n) u b 0 (λ e. omega arith), get_or-set_other paces n u a 0 (λ e. omega arith), get_or-set_other (set paces n a) (16 + n) (16 + u) b 0 (λ e. omega arith), get_or-set_other paces n (16 + u) a 0 (λ e. omega arith)) (r.at u x)
-    go u q (same x) =
-        rw (x, get_or-set_other (set paces n a) (16 + n) n b 0 (λ e. omega arith), get_or-set_same paces n a 0 (omega (arith, r.sized)), get_or-set_same (set paces n a) (16 + n) b 0 (omega (arith, length-set paces n a, r.sized))) k
-    go u q (more x) = absurd (omega arith)

@@ -1,11 +1,12 @@
 -- A description's sources in plain numbers, from which their spacings are worked out.
-use Rattle.std.specs.Prelude.{ℕ, ◌+◌, ◌-◌, ◌*◌, ◌/◌, ◌≤◌, ◌<◌, ◌≡◌, true, cond, List, eqb, get_or}
+use Rattle.std.specs.Prelude.{ℕ, ◌-◌, ◌*◌, ◌/◌, ◌≤◌, ◌<◌, ◌≡◌, true, cond, List, eqb, get_or}
 use Rattle.model.specs.declared.Source.{Source}
 use Rattle.model.specs.declared.Source.TheVariants.{Fixed, Paced, Swung}
 use Rattle.model.specs.declared.Description.{Description}
 use Rattle.model.specs.declared.Field.TheVariants.{OfSource}
 use Rattle.model.specs.Refusals.{no_source}
 use Rattle.model.specs.Field.{on_scale}
+use Rattle.spacings.specs.declared.Pace.{Pace}
 use Rattle.spacings.specs.declared.Sources.{Sources}
 
 -- a source's ticks: of a paced one what tempo and pulses divide
@@ -27,14 +28,17 @@ pulses_in (Swung p swing) = p
 abbrev pub spacing_by : ℕ → ℕ → ℕ → ℕ
 spacing_by ticks pulses t = cond (eqb pulses 0) ticks (ticks / (t * pulses))
 
--- those of source 33 + u in a row: its ticks, its pulses 16 places on, and its spacing at a tempo
-abbrev pub ticks_at : List ℕ → ℕ → ℕ
-ticks_at paces u = get_or paces u 0
+-- those of source 33 + u: its ticks, its pulses, and its spacing at a tempo
+abbrev pub no_pace : Pace
+no_pace = record { ticks = 0; pulses = 0 }
 
-abbrev pub pulses_at : List ℕ → ℕ → ℕ
-pulses_at paces u = get_or paces (16 + u) 0
+abbrev pub ticks_at : List Pace → ℕ → ℕ
+ticks_at paces u = (get_or paces u no_pace).ticks
 
-abbrev pub spacing_at : List ℕ → ℕ → ℕ → ℕ
+abbrev pub pulses_at : List Pace → ℕ → ℕ
+pulses_at paces u = (get_or paces u no_pace).pulses
+
+abbrev pub spacing_at : List Pace → ℕ → ℕ → ℕ
 spacing_at paces u t = spacing_by (ticks_at paces u) (pulses_at paces u) t
 
 -- they are those of a source on the scale
@@ -42,10 +46,6 @@ pub record PlainOf (x : Source) (ticks pulses : ℕ) : Type 0 where
   pub on : on_scale (OfSource x) ≡ true
   pub ticks_are : ticks ≡ ticks_in x
   pub pulses_are : pulses ≡ pulses_in x
-
--- the sources with these numbers, as they are lent
-abbrev pub sources_with : ℕ → List ℕ → Sources
-sources_with m paces = record { count = m; paces = paces }
 
 -- they are the sources of a description
 pub record SourcesOf (d : Description) (s : Sources) : Type 0 where

@@ -6,17 +6,24 @@ ghost use Rattle.model.specs.declared.Field.TheVariants.{OfSource};
 ghost use Rattle.model.specs.Field.{on_scale};
 ghost use Rattle.model.specs.Verdicts.{on_knob};
 ghost use Rattle.theory.proofs.WellFormed.{WellFormed};
-ghost use Rattle.spacings.specs.Sources.{paced_ticks, ticks_in, pulses_in, spacing_by, sources_with, SourcesOf, Scaled};
+ghost use Rattle.spacings.specs.Sources.{paced_ticks, ticks_in, pulses_in, spacing_by, SourcesOf, Scaled};
 ghost use Rattle.spacings.specs.Gaps.{Room, GapsBy, GapsOf};
 
 use model::{Description, Source};
 
-// The sources of a description in plain numbers, as one row that can be lent: the ticks of source 33 + u at place u, its pulses at 16 + u. A paced
-// one has pulses, and its spacing is its ticks divided by tempo and pulses; of a fixed one the pulses are 0, and its spacing is its ticks.
+// A source in plain numbers. A paced one has pulses, and its spacing is its ticks divided by tempo and pulses; of a fixed one the
+// pulses are 0, and its spacing is its ticks.
+#[derive(Clone, Copy)]
+pub struct Pace {
+    pub ticks: u32,
+    pub pulses: u32,
+}
+
+// The sources of a description in plain numbers: source 33 + u at place u.
 #[derive(Clone, Copy)]
 pub struct Sources {
     pub count: usize,
-    pub paces: [u32; 32],
+    pub paces: [Pace; 16],
 }
 
 // Whether a tempo is on the knob (11).
@@ -31,7 +38,7 @@ fn paced_ticks(swing: u8) -> u32
     requires { swing ≤ 100 }
     ensures { result ≡ paced_ticks swing }
 {
-    12000000 * (100 - swing as u32)
+    12000000 * (100 - u32::from(swing))
 }
 
 // A source's ticks.
@@ -52,8 +59,7 @@ fn pulses_in(source: Source) -> u32
 {
     match source {
         Source::Fixed(_) => 0,
-        Source::Paced(p) => p as u32,
-        Source::Swung(p, _) => p as u32,
+        Source::Paced(p) | Source::Swung(p, _) => u32::from(p),
     }
 }
 
@@ -62,14 +68,15 @@ pub fn sources_of(d: Description) -> Sources
     requires { WellFormed d }
     ensures { SourcesOf d result }
 {
-    let mut paces = [0u32; 32];
-    let mut u: usize = 0;
-    while u < d.source_count {
-        let slot = d.sources[u];
-        let source = slot.source;
-        paces[u] = ticks_in(source);
-        paces[16 + u] = pulses_in(source);
-        u += 1;
+    let mut paces = [Pace {
+        ticks: 0,
+        pulses: 0,
+    }; 16];
+    for (u, slot) in d.sources[..d.source_count].iter().enumerate() {
+        paces[u] = Pace {
+            ticks: ticks_in(slot.source),
+            pulses: pulses_in(slot.source),
+        };
     }
     Sources {
         count: d.source_count,
@@ -88,25 +95,23 @@ pub fn spacing_by(ticks: u32, pulses: u32, t: u32) -> u32
     ticks / (t * pulses)
 }
 
-// Fills a lent table with the spacing of each of m sources at tempo t, from their plain numbers.
-pub fn fill_gaps(paces: &[u32; 32], m: usize, t: u32, gaps: &mut [u32; 16])
-    requires { Scaled (sources_with m paces.now) × (200 ≤ t) × (t ≤ 3000) × Room gaps.old }
-    ensures { GapsBy (sources_with m paces.now) t gaps.new × Room gaps.new }
+// Fills a lent table with the spacing of each source at tempo t.
+pub fn fill_gaps(s: &Sources, t: u32, gaps: &mut [u32; 16])
+    requires { Scaled s.now × (200 ≤ t) × (t ≤ 3000) × Room gaps.old }
+    ensures { GapsBy s.now t gaps.new × Room gaps.new }
 {
-    let mut u: usize = 0;
-    while u < m {
-        gaps[u] = spacing_by(paces[u], paces[16 + u], t);
-        u += 1;
+    for (u, pace) in s.paces[..s.count].iter().enumerate() {
+        gaps[u] = spacing_by(pace.ticks, pace.pulses, t);
     }
 }
 
 // The same in a new table.
-pub fn gaps_by(paces: &[u32; 32], m: usize, t: u32) -> [u32; 16]
-    requires { Scaled (sources_with m paces.now) × (200 ≤ t) × (t ≤ 3000) }
-    ensures { GapsBy (sources_with m paces.now) t result }
+pub fn gaps_by(s: &Sources, t: u32) -> [u32; 16]
+    requires { Scaled s.now × (200 ≤ t) × (t ≤ 3000) }
+    ensures { GapsBy s.now t result }
 {
     let mut gaps = [0u32; 16];
-    fill_gaps(paces, m, t, &mut gaps);
+    fill_gaps(s, t, &mut gaps);
     gaps
 }
 
@@ -115,6 +120,5 @@ pub fn gaps_of(d: Description, t: u32) -> [u32; 16]
     requires { WellFormed d × (200 ≤ t) × (t ≤ 3000) }
     ensures { GapsOf d t result }
 {
-    let s = sources_of(d);
-    gaps_by(&s.paces, s.count, t)
+    gaps_by(&sources_of(d), t)
 }

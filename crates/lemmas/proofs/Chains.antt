@@ -1,7 +1,7 @@
--- Chains over a range of numbers and over a list: what `any` and `sum` answer there. Assumes nothing.
+-- Chains over a range of numbers and over a list: what `any`, `all` and `sum` answer there. Assumes nothing.
 use Prim.Native.Nat.{ℕ, zero, suc, ◌+◌, ◌≤◌, ◌<◌}
 use mathlib.Core.Path.{◌≡◌, refl, sym, ap, ◌∙◌}
-use mathlib.Core.Bool.{Bool, true, false, ◌||◌}
+use mathlib.Core.Bool.{Bool, true, false, ◌||◌, ◌&&◌}
 use mathlib.Core.List.{List}
 use native.Mathlib.Omega.{arith}
 use native.Mathlib.Nat.{add-zero}
@@ -9,8 +9,8 @@ use lib.ListN.{length, get_or, take, drop}
 use Rattle.std.proofs.Math.Seq.{drop-cons}
 use Rattle.std.proofs.lemmas.List.{drop_all}
 use Rattle.std.proofs.lemmas.List.Sums.{sum_by_more}
-use Rattle.std.specs.List.{range_with_len, list_any, sum}
-use Rattle.model.specs.Basics.{any_n, sum_n}
+use Rattle.std.specs.List.{range_with_len, list_any, list_all, sum}
+use Rattle.model.specs.Basics.{any_n, all_n, sum_n}
 
 any_first : (p : ℕ → Bool) (a n : ℕ) → any_n p a (suc n) ≡ (p a || any_n p (a + 1) n)
 unfolding any_n
@@ -30,6 +30,25 @@ any_first p a (suc n) =
 pub any_range : (p : ℕ → Bool) (a n : ℕ) → list_any p (range_with_len a n) ≡ any_n p a n
 any_range p a zero = unfold any_n in refl
 any_range p a (suc n) = ap (λ x. p a || x) (any_range p (a + 1) n) ∙ sym (any_first p a n)
+
+all_first : (p : ℕ → Bool) (a n : ℕ) → all_n p a (suc n) ≡ (p a && all_n p (a + 1) n)
+unfolding all_n
+all_first p a zero = rw add-zero (from_none (p a))
+  where
+    from_none : (x : Bool) → (true && x) ≡ (x && true)
+    from_none true = refl
+    from_none false = refl
+all_first p a (suc n) =
+    let e : a + 1 + n ≡ a + suc n = omega arith in
+    ap (λ x. x && p (a + suc n)) (all_first p a n) ∙ (turn (p a) (all_n p (a + 1) n) (p (a + suc n)) ∙ ap (λ k. p a && (all_n p (a + 1) n && p k)) (sym e))
+  where
+    turn : (x y z : Bool) → ((x && y) && z) ≡ (x && (y && z))
+    turn true y z = refl
+    turn false y z = refl
+
+pub all_range : (p : ℕ → Bool) (a n : ℕ) → list_all p (range_with_len a n) ≡ all_n p a n
+all_range p a zero = unfold all_n in refl
+all_range p a (suc n) = ap (λ x. p a && x) (all_range p (a + 1) n) ∙ sym (all_first p a n)
 
 -- the same over a list, by place
 any_list_from : {A : Type 0} (p : A → Bool) (xs : List A) (d : A) (a n : ℕ) → a + n ≡ length xs → list_any p (drop a xs) ≡ any_n (λ k. p (get_or xs k d)) a n

@@ -4,28 +4,16 @@ use mathlib.Core.Path.{◌≡◌, refl, sym, ap, ◌∙◌}
 use mathlib.Core.Bool.{Bool, true, false}
 use mathlib.Core.List.{List, ◌++◌}
 use native.Mathlib.Omega.{arith}
-use native.Mathlib.Nat.{zero-add}
+use native.Mathlib.Nat.{zero-add, add-zero}
 use lib.ListN.{length, get_or, set, take, drop, length-set}
 use lib.Seq.{take_all}
 use mir.Val.{bool_byte}
-use borrow.Author.Tests.{lt-ltb, le-ltb, eq-eqb, ne_eqb}
+use borrow.Author.Tests.{lt-ltb, le-ltb}
 use Rattle.model.specs.declared.Machine.{Machine}
 use Rattle.lemmas.proofs.Table.{length-tab, get_d_tab, store_more}
 use Rattle.layout.specs.Layout.{record_length, bit, byte_in, record_byte, record_bytes, Puts}
 
--- a number's four bytes
-pub byte_0 : (n k : ℕ) → k ≡ 0 → n / 16777216 % 256 ≡ byte_in n k
-byte_0 n k e = rw (eq-eqb k 0 e) refl
-
-pub byte_1 : (n k : ℕ) → (k ≡ 0 → ⊥) → k ≡ 1 → n / 65536 % 256 ≡ byte_in n k
-byte_1 n k a e = rw (ne_eqb k 0 a, eq-eqb k 1 e) refl
-
-pub byte_2 : (n k : ℕ) → (k ≡ 0 → ⊥) → (k ≡ 1 → ⊥) → k ≡ 2 → n / 256 % 256 ≡ byte_in n k
-byte_2 n k a b e = rw (ne_eqb k 0 a, ne_eqb k 1 b, eq-eqb k 2 e) refl
-
-pub byte_3 : (n k : ℕ) → (k ≡ 0 → ⊥) → (k ≡ 1 → ⊥) → (k ≡ 2 → ⊥) → n % 256 ≡ byte_in n k
-byte_3 n k a b c = rw (ne_eqb k 0 a, ne_eqb k 1 b, ne_eqb k 2 c) refl
-
+-- a mark as a byte
 pub bool_byte_lem : (b : Bool) → bool_byte b ≡ bit b
 bool_byte_lem true = refl
 bool_byte_lem false = refl
@@ -92,7 +80,7 @@ module _ (m : Machine) where
   marks at k = omega arith
 
   module _ (out a₁ a₂ a₃ a₄ a₅ a₆ a₇ a₈ : List ℕ) (h : record_length ≤ length out) (n₁ n₂ n₃ n₄ n₅ n₆ n₇ n₈ : ℕ) (e₁ : n₁ ≡ 32) (e₂ : n₂ ≡ 32) (e₃ : n₃ ≡ 256) (e₄ : n₄ ≡ 256) (e₅ : n₅ ≡ 16) (e₆ : n₆ ≡ 16) (e₇ : n₇ ≡ 32) (e₈ : n₈ ≡ 256) where
-    pub record_put : Puts n₁ (λ k. bit (get_or m.awake k false)) 0 out a₁ → Puts (4 * n₂) (λ k. byte_in (get_or m.used (k / 4) 0) (k % 4)) 32 a₁ a₂ → Puts n₃ (λ k. bit (get_or m.waiting k false)) 160 a₂ a₃ → Puts n₄ (λ k. bit (get_or m.dropped k false)) 416 a₃ a₄ → Puts (4 * n₅) (λ k. byte_in (get_or m.ages (k / 4) 0) (k % 4)) 672 a₄ a₅ → Puts (2 * n₆) (λ k. byte_in (get_or m.fastest (k / 2) 0) (k % 2 + 2)) 736 a₅ a₆ → Puts n₇ (λ k. bit (get_or m.again k false)) 768 a₆ a₇ → Puts n₈ (λ k. bit (get_or m.late k false)) 800 a₇ a₈ → a₈ ≡ record_bytes m ++ drop record_length out
+    pub record_put : Puts n₁ (λ k. bit (get_or m.awake k false)) 0 out a₁ → Puts (4 * n₂) (λ k. byte_in (get_or m.used (k / 4) 0) (k % 4 + 0)) 32 a₁ a₂ → Puts n₃ (λ k. bit (get_or m.waiting k false)) 160 a₂ a₃ → Puts n₄ (λ k. bit (get_or m.dropped k false)) 416 a₃ a₄ → Puts (4 * n₅) (λ k. byte_in (get_or m.ages (k / 4) 0) (k % 4 + 0)) 672 a₄ a₅ → Puts (2 * n₆) (λ k. byte_in (get_or m.fastest (k / 2) 0) (k % 2 + 2)) 736 a₅ a₆ → Puts n₇ (λ k. bit (get_or m.again k false)) 768 a₆ a₇ → Puts n₈ (λ k. bit (get_or m.late k false)) 800 a₇ a₈ → a₈ ≡ record_bytes m ++ drop record_length out
     record_put p₁ p₂ p₃ p₄ p₅ p₆ p₇ p₈ =
         let l = record_length_lem m in
         let q₁ : 0 + n₁ ≡ 32 = omega arith in
@@ -104,10 +92,10 @@ module _ (m : Machine) where
         let q₇ : 768 + n₇ ≡ 800 = omega arith in
         let q₈ : 800 + n₈ ≡ record_length = omega arith in
         let b₁ : a₁ ≡ take 32 (record_bytes m) ++ drop 32 out = p₁.bytes (record_bytes m) out (omega arith) (omega arith) (λ k j. at_byte (0 + k) (omega arith) ∙ sym (byte_awake m (0 + k) (omega arith)) ∙ ap (λ i. bit (get_or m.awake i false)) (zero-add k)) refl ∙ ap up q₁ in
-        let b₂ : a₂ ≡ take 160 (record_bytes m) ++ drop 160 out = p₂.bytes (record_bytes m) out (omega arith) (omega arith) (λ k j. at_byte (32 + k) (omega arith) ∙ sym (byte_used m (32 + k) (omega arith) (omega arith)) ∙ ap (λ i. byte_in (get_or m.used (i / 4) 0) (i % 4)) (marks 32 k)) b₁ ∙ ap up q₂ in
+        let b₂ : a₂ ≡ take 160 (record_bytes m) ++ drop 160 out = p₂.bytes (record_bytes m) out (omega arith) (omega arith) (λ k j. at_byte (32 + k) (omega arith) ∙ sym (byte_used m (32 + k) (omega arith) (omega arith)) ∙ ap (λ i. byte_in (get_or m.used (i / 4) 0) (i % 4)) (marks 32 k) ∙ ap (byte_in (get_or m.used (k / 4) 0)) (sym (add-zero (k % 4)))) b₁ ∙ ap up q₂ in
         let b₃ : a₃ ≡ take 416 (record_bytes m) ++ drop 416 out = p₃.bytes (record_bytes m) out (omega arith) (omega arith) (λ k j. at_byte (160 + k) (omega arith) ∙ sym (byte_waiting m (160 + k) (omega arith) (omega arith)) ∙ ap (λ i. bit (get_or m.waiting i false)) (marks 160 k)) b₂ ∙ ap up q₃ in
         let b₄ : a₄ ≡ take 672 (record_bytes m) ++ drop 672 out = p₄.bytes (record_bytes m) out (omega arith) (omega arith) (λ k j. at_byte (416 + k) (omega arith) ∙ sym (byte_dropped m (416 + k) (omega arith) (omega arith)) ∙ ap (λ i. bit (get_or m.dropped i false)) (marks 416 k)) b₃ ∙ ap up q₄ in
-        let b₅ : a₅ ≡ take 736 (record_bytes m) ++ drop 736 out = p₅.bytes (record_bytes m) out (omega arith) (omega arith) (λ k j. at_byte (672 + k) (omega arith) ∙ sym (byte_ages m (672 + k) (omega arith) (omega arith)) ∙ ap (λ i. byte_in (get_or m.ages (i / 4) 0) (i % 4)) (marks 672 k)) b₄ ∙ ap up q₅ in
+        let b₅ : a₅ ≡ take 736 (record_bytes m) ++ drop 736 out = p₅.bytes (record_bytes m) out (omega arith) (omega arith) (λ k j. at_byte (672 + k) (omega arith) ∙ sym (byte_ages m (672 + k) (omega arith) (omega arith)) ∙ ap (λ i. byte_in (get_or m.ages (i / 4) 0) (i % 4)) (marks 672 k) ∙ ap (byte_in (get_or m.ages (k / 4) 0)) (sym (add-zero (k % 4)))) b₄ ∙ ap up q₅ in
         let b₆ : a₆ ≡ take 768 (record_bytes m) ++ drop 768 out = p₆.bytes (record_bytes m) out (omega arith) (omega arith) (λ k j. at_byte (736 + k) (omega arith) ∙ sym (byte_fastest m (736 + k) (omega arith) (omega arith)) ∙ ap (λ i. byte_in (get_or m.fastest (i / 2) 0) (i % 2 + 2)) (marks 736 k)) b₅ ∙ ap up q₆ in
         let b₇ : a₇ ≡ take 800 (record_bytes m) ++ drop 800 out = p₇.bytes (record_bytes m) out (omega arith) (omega arith) (λ k j. at_byte (768 + k) (omega arith) ∙ sym (byte_again m (768 + k) (omega arith) (omega arith)) ∙ ap (λ i. bit (get_or m.again i false)) (marks 768 k)) b₆ ∙ ap up q₇ in
         let b₈ : a₈ ≡ take record_length (record_bytes m) ++ drop record_length out = p₈.bytes (record_bytes m) out (omega arith) (omega arith) (λ k j. at_byte (800 + k) (omega arith) ∙ sym (byte_late m (800 + k) (omega arith)) ∙ ap (λ i. bit (get_or m.late i false)) (marks 800 k)) b₇ ∙ ap up q₈ in

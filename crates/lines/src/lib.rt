@@ -5,7 +5,7 @@ ghost use Rattle.std.specs.Prelude.{◌+◌, ◌<◌, ◌≤◌, length};
 ghost use Rattle.model.specs.Report.{policy_line, tempo_text, tempo_line, verdict_text, link_line, refused_line};
 ghost use Rattle.text.specs.Page.{Put};
 
-use model::{Link, Policy, Quote, Refusal, Verdict};
+use model::{Link, Policy, Rejection, Verdict};
 use refusals::number_of;
 use text::{put_byte, put_decimal, put_numbered, put_word};
 
@@ -16,7 +16,7 @@ pub fn policy_line(page: &mut [u8], at: usize, p: Policy) -> usize
 {
     match p {
         Policy::Preemptive => at,
-        Policy::HoldOn => put_word(&mut *page, at, b"hold\n"),
+        Policy::HoldOn => put_word(page, at, b"hold\n"),
     }
 }
 
@@ -25,22 +25,22 @@ pub fn put_tempo(page: &mut [u8], at: usize, t: u32) -> usize
     requires { at + length (tempo_text t) ≤ length page.old }
     ensures { Put page.old at (tempo_text t) page.new result }
 {
-    let whole = put_decimal(&mut *page, at, (t / 10) as usize);
-    put_numbered(&mut *page, whole, b".", (t % 10) as usize)
+    let whole = put_decimal(page, at, (t / 10) as usize);
+    put_numbered(page, whole, b".", (t % 10) as usize)
 }
 
 // `tempo 178.3`, or `tempo none`.
-pub fn tempo_line(page: &mut [u8], at: usize, q: Quote) -> usize
+pub fn tempo_line(page: &mut [u8], at: usize, q: Result<u32, Rejection>) -> usize
     requires { at + length (tempo_line q) ≤ length page.old }
     ensures { Put page.old at (tempo_line q) page.new result }
 {
     match q {
-        Quote::Tempo(t) => {
-            let whole = put_numbered(&mut *page, at, b"tempo ", (t / 10) as usize);
-            let tenth = put_numbered(&mut *page, whole, b".", (t % 10) as usize);
-            put_byte(&mut *page, tenth, b'\n')
+        Ok(t) => {
+            let whole = put_numbered(page, at, b"tempo ", (t / 10) as usize);
+            let tenth = put_numbered(page, whole, b".", (t % 10) as usize);
+            put_byte(page, tenth, b'\n')
         }
-        Quote::Unquoted(_, _) => put_word(&mut *page, at, b"tempo none\n"),
+        Err(_) => put_word(page, at, b"tempo none\n"),
     }
 }
 
@@ -50,14 +50,14 @@ fn put_verdict(page: &mut [u8], at: usize, v: Verdict) -> usize
     ensures { Put page.old at (verdict_text v) page.new result }
 {
     match v {
-        Verdict::Free => put_word(&mut *page, at, b" free"),
-        Verdict::HeldOrder => put_word(&mut *page, at, b" held order"),
-        Verdict::DoubtOrder => put_word(&mut *page, at, b" doubt order"),
+        Verdict::Free => put_word(page, at, b" free"),
+        Verdict::HeldOrder => put_word(page, at, b" held order"),
+        Verdict::DoubtOrder => put_word(page, at, b" doubt order"),
         Verdict::Held(delay, spacing) => {
-            let held = put_numbered(&mut *page, at, b" held ", delay as usize);
-            put_numbered(&mut *page, held, b" of ", spacing as usize)
+            let held = put_numbered(page, at, b" held ", delay as usize);
+            put_numbered(page, held, b" of ", spacing as usize)
         }
-        Verdict::Doubt(spacing) => put_numbered(&mut *page, at, b" doubt of ", spacing as usize),
+        Verdict::Doubt(spacing) => put_numbered(page, at, b" doubt of ", spacing as usize),
     }
 }
 
@@ -66,20 +66,20 @@ pub fn link_line(page: &mut [u8], at: usize, l: usize, e: Link, v: Verdict) -> u
     requires { (l < 256) × (at + length (link_line l e v) ≤ length page.old) }
     ensures { Put page.old at (link_line l e v) page.new result }
 {
-    let place = put_numbered(&mut *page, at, b"link ", l + 1);
-    let from = put_numbered(&mut *page, place, b" ", e.from as usize);
-    let to = put_numbered(&mut *page, from, b">", e.to as usize);
-    let verdict = put_verdict(&mut *page, to, v);
-    put_byte(&mut *page, verdict, b'\n')
+    let place = put_numbered(page, at, b"link ", l + 1);
+    let from = put_numbered(page, place, b" ", e.from as usize);
+    let to = put_numbered(page, from, b">", e.to as usize);
+    let verdict = put_verdict(page, to, v);
+    put_byte(page, verdict, b'\n')
 }
 
 // `refused 4 at 26`.
-pub fn refused_line(page: &mut [u8], at: usize, why: Refusal, place: usize) -> usize
-    requires { at + length (refused_line why place) ≤ length page.old }
-    ensures { Put page.old at (refused_line why place) page.new result }
+pub fn refused_line(page: &mut [u8], at: usize, rejection: Rejection) -> usize
+    requires { at + length (refused_line rejection.why rejection.place) ≤ length page.old }
+    ensures { Put page.old at (refused_line rejection.why rejection.place) page.new result }
 {
-    let number = number_of(why);
-    let given = put_numbered(&mut *page, at, b"refused ", number);
-    let end = put_numbered(&mut *page, given, b" at ", place);
-    put_byte(&mut *page, end, b'\n')
+    let number = number_of(rejection.why);
+    let given = put_numbered(page, at, b"refused ", number);
+    let end = put_numbered(page, given, b" at ", rejection.place);
+    put_byte(page, end, b'\n')
 }

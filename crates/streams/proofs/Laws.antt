@@ -5,15 +5,13 @@ use mathlib.Core.Bool.{Bool, true, false}
 use native.Mathlib.Omega.{arith}
 use lib.Dec.{ltb, eqb}
 use borrow.Author.Tests.{ltb-true, ltb-false, eqb-false}
-use Rattle.std.specs.Prelude.{Result, Ok, Err, IfOk}
+use Rattle.std.specs.Prelude.{Option, Result, Ok, Err, IfOk, Some, None}
 use Rattle.std.specs.declared.io.Error.{Error as IoError}
 use Rattle.std.specs.declared.io.ErrorKind.{ErrorKind}
 use Rattle.std.specs.declared.io.ErrorKind.TheVariants.{Interrupted as Signalled}
 use Rattle.std.specs.IoError.{error_kind}
 use Rattle.streams.specs.declared.Answer.{Answer}
 use Rattle.streams.specs.declared.Answer.TheVariants.{Bytes, Interrupted, Error}
-use Rattle.streams.specs.declared.Transfer.{Transfer}
-use Rattle.streams.specs.declared.Transfer.TheVariants.{Whole, Failed}
 use Rattle.streams.specs.declared.Progress.{Progress}
 use Rattle.streams.specs.declared.Progress.TheVariants.{Going, Ended}
 use Rattle.streams.specs.Transfers.{cause_of, told_by, standing_at, interrupted_at, after_call, ended_by, Bounded, Moves, MovesAll, Within, Entire}
@@ -28,16 +26,16 @@ told_bounded room (Ok n) m = m
 told_bounded room (Err e) m = cause_bounded room (error_kind e)
 
 -- What a transfer stands for is what its caller is told.
-pub ended_within : (size : ℕ) (t : Transfer) (reason : IoError) → Moves size t → Within size (ended_by t reason)
-ended_within size (Whole n) reason h = h
-ended_within size Failed reason h = tt
+pub ended_within : (size : ℕ) (t : Option ℕ) (reason : IoError) → Moves size t → Within size (ended_by t reason)
+ended_within size (Some n) reason h = h
+ended_within size None reason h = tt
 
-pub ended_entire : (size : ℕ) (t : Transfer) (reason : IoError) → MovesAll size t → Entire size (ended_by t reason)
-ended_entire size (Whole n) reason h = h
-ended_entire size Failed reason h = tt
+pub ended_entire : (size : ℕ) (t : Option ℕ) (reason : IoError) → MovesAll size t → Entire size (ended_by t reason)
+ended_entire size (Some n) reason h = h
+ended_entire size None reason h = tt
 
 -- A transfer within a size: what is moved leaves a byte, or the end is one that is wanted.
-abbrev pub Stands : (Transfer → Type 0) → ℕ → Progress → Type 0
+abbrev pub Stands : (Option ℕ → Type 0) → ℕ → Progress → Type 0
 Stands P size (Going done spare) = done < size
 Stands P size (Ended transfer) = P transfer
 
@@ -47,7 +45,7 @@ left size (Going done spare) = suc (size - done + spare)
 left size (Ended transfer) = 0
 
 -- Where all bytes and a failure are wanted ends, a transfer stands, and a call leaves it so.
-module _ (P : Transfer → Type 0) (size : ℕ) (all : P (Whole size)) where
+module _ (P : Option ℕ → Type 0) (size : ℕ) (all : P (Some size)) where
   pub standing_stands : (done spare : ℕ) → done ≤ size → Stands P size (standing_at size done spare)
   standing_stands done spare h = go (ltb done size) refl
     where
@@ -55,7 +53,7 @@ module _ (P : Transfer → Type 0) (size : ℕ) (all : P (Whole size)) where
       go true q = rw q (ltb-true done size q)
       go false q = let e : size ≡ done = omega (arith, ltb-false done size q) in rw q (rw e at all)
 
-  pub after_stands : P Failed → (done spare : ℕ) (answer : Answer) (none : Transfer) → P none → done < size → Bounded (size - done) answer → Stands P size (after_call size done spare answer none)
+  pub after_stands : P None → (done spare : ℕ) (answer : Answer) (none : Option ℕ) → P none → done < size → Bounded (size - done) answer → Stands P size (after_call size done spare answer none)
   after_stands f done spare (Bytes n) none p h b = go (eqb n 0) refl
     where
       go : (t : Bool) → eqb n 0 ≡ t → Stands P size (after_call size done spare (Bytes n) none)
@@ -69,7 +67,7 @@ module _ (P : Transfer → Type 0) (size : ℕ) (all : P (Whole size)) where
   after_stands f done spare Error none p h b = f
 
 -- A call leaves less to do.
-pub after_less : (size done spare : ℕ) (answer : Answer) (none : Transfer) → done < size → Bounded (size - done) answer → left size (after_call size done spare answer none) < left size (Going done spare)
+pub after_less : (size done spare : ℕ) (answer : Answer) (none : Option ℕ) → done < size → Bounded (size - done) answer → left size (after_call size done spare answer none) < left size (Going done spare)
 after_less size done spare (Bytes n) none h b = go (eqb n 0) refl (ltb (done + n) size) refl
   where
     go : (t : Bool) → eqb n 0 ≡ t → (u : Bool) → ltb (done + n) size ≡ u → left size (after_call size done spare (Bytes n) none) < left size (Going done spare)

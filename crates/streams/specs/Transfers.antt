@@ -1,13 +1,11 @@
 -- How a transfer follows from what its calls of the system answered. Of the bytes that come or go nothing is said.
-use Rattle.std.specs.Prelude.{ℕ, ◌+◌, ◌-◌, ◌≤◌, ◌≡◌, cond, ltb, eqb, Result, Ok, Err}
+use Rattle.std.specs.Prelude.{ℕ, ◌+◌, ◌-◌, ◌≤◌, ◌≡◌, cond, ltb, eqb, Option, Some, None, Result, Ok, Err}
 use Rattle.std.specs.declared.io.Error.{Error as IoError}
 use Rattle.std.specs.declared.io.ErrorKind.{ErrorKind}
 use Rattle.std.specs.declared.io.ErrorKind.TheVariants.{Interrupted as Signalled}
 use Rattle.std.specs.IoError.{error_kind}
 use Rattle.streams.specs.declared.Answer.{Answer}
 use Rattle.streams.specs.declared.Answer.TheVariants.{Bytes, Interrupted, Error}
-use Rattle.streams.specs.declared.Transfer.{Transfer}
-use Rattle.streams.specs.declared.Transfer.TheVariants.{Whole, Failed}
 use Rattle.streams.specs.declared.Progress.{Progress}
 use Rattle.streams.specs.declared.Progress.TheVariants.{Going, Ended}
 
@@ -23,25 +21,25 @@ told_by (Err e) = cause_of (error_kind e)
 
 -- A transfer goes on while a byte of its size is left.
 abbrev pub standing_at : ℕ → ℕ → ℕ → Progress
-standing_at size done spare = cond (ltb done size) (Going done spare) (Ended (Whole done))
+standing_at size done spare = cond (ltb done size) (Going done spare) (Ended (Some done))
 
 -- An interrupted call is made again while interruptions are left.
 abbrev pub interrupted_at : ℕ → ℕ → Progress
-interrupted_at done spare = cond (ltb 0 spare) (Going done (spare - 1)) (Ended Failed)
+interrupted_at done spare = cond (ltb 0 spare) (Going done (spare - 1)) (Ended None)
 
 -- An error ends the transfer as failed, whatever was moved before.
-abbrev pub after_call : ℕ → ℕ → ℕ → Answer → Transfer → Progress
+abbrev pub after_call : ℕ → ℕ → ℕ → Answer → Option ℕ → Progress
 after_call size done spare (Bytes n) none = cond (eqb n 0) (Ended none) (standing_at size (done + n) spare)
 after_call size done spare Interrupted none = interrupted_at done spare
-after_call size done spare Error none = Ended Failed
+after_call size done spare Error none = Ended None
 
 -- A read that moved no byte has met the end of the input.
 abbrev pub after_read : ℕ → ℕ → ℕ → Answer → Progress
-after_read size done spare answer = after_call size done spare answer (Whole done)
+after_read size done spare answer = after_call size done spare answer (Some done)
 
 -- A write that moved no byte has failed.
 abbrev pub after_write : ℕ → ℕ → ℕ → Answer → Progress
-after_write size done spare answer = after_call size done spare answer Failed
+after_write size done spare answer = after_call size done spare answer None
 
 -- A call moves no more bytes than it is handed.
 abbrev pub Bounded : ℕ → Answer → Type 0
@@ -50,18 +48,18 @@ Bounded room Interrupted = Unit {0}
 Bounded room Error = Unit {0}
 
 -- What the caller is told of a transfer.
-abbrev pub ended_by : Transfer → IoError → Result ℕ IoError
-ended_by (Whole n) reason = Ok n
-ended_by Failed reason = Err reason
+abbrev pub ended_by : Option ℕ → IoError → Result ℕ IoError
+ended_by (Some n) reason = Ok n
+ended_by None reason = Err reason
 
 -- A transfer that is whole has at most, or exactly, the bytes of its buffer.
-abbrev pub Moves : ℕ → Transfer → Type 0
-Moves size (Whole n) = n ≤ size
-Moves size Failed = Unit {0}
+abbrev pub Moves : ℕ → Option ℕ → Type 0
+Moves size (Some n) = n ≤ size
+Moves size None = Unit {0}
 
-abbrev pub MovesAll : ℕ → Transfer → Type 0
-MovesAll size (Whole n) = n ≡ size
-MovesAll size Failed = Unit {0}
+abbrev pub MovesAll : ℕ → Option ℕ → Type 0
+MovesAll size (Some n) = n ≡ size
+MovesAll size None = Unit {0}
 
 -- What was read has at most the bytes of its buffer.
 abbrev pub Within : ℕ → Result ℕ IoError → Type 0

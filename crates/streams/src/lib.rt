@@ -19,18 +19,11 @@ enum Answer {
     Error,
 }
 
-// How a transfer ended: it is whole and has so many bytes, or a call failed.
-#[derive(Clone, Copy)]
-pub enum Transfer {
-    Whole(usize),
-    Failed,
-}
-
-// Where a transfer stands: so many bytes are moved and so many interruptions are left, or it has ended.
+// Where a transfer stands: so many bytes are moved and so many interruptions are left; or it has ended, and is whole with so many bytes, or a call failed.
 #[derive(Clone, Copy)]
 enum Progress {
     Going(usize, u64),
-    Ended(Transfer),
+    Ended(Option<usize>),
 }
 
 // Where a transfer stands with `done` of its `size` bytes moved.
@@ -40,7 +33,7 @@ fn standing(size: usize, done: usize, spare: u64) -> Progress
     if done < size {
         Progress::Going(done, spare)
     } else {
-        Progress::Ended(Transfer::Whole(done))
+        Progress::Ended(Some(done))
     }
 }
 
@@ -51,7 +44,7 @@ fn interrupted(done: usize, spare: u64) -> Progress
     if 0 < spare {
         Progress::Going(done, spare - 1)
     } else {
-        Progress::Ended(Transfer::Failed)
+        Progress::Ended(None)
     }
 }
 
@@ -69,7 +62,7 @@ fn told(got: io::Result<usize>) -> Answer
 }
 
 // Where a transfer stands after a call; `none` is how it ends if the call moved no byte.
-fn after(size: usize, done: usize, spare: u64, answer: Answer, none: Transfer) -> Progress
+fn after(size: usize, done: usize, spare: u64, answer: Answer, none: Option<usize>) -> Progress
     requires { (done ≤ size) × Bounded (size - done) answer }
     ensures { result ≡ after_call size done spare answer none }
 {
@@ -82,7 +75,7 @@ fn after(size: usize, done: usize, spare: u64, answer: Answer, none: Transfer) -
             }
         }
         Answer::Interrupted => interrupted(done, spare),
-        Answer::Error => Progress::Ended(Transfer::Failed),
+        Answer::Error => Progress::Ended(None),
     }
 }
 
@@ -91,7 +84,7 @@ fn after_read(size: usize, done: usize, spare: u64, answer: Answer) -> Progress
     requires { (done ≤ size) × Bounded (size - done) answer }
     ensures { result ≡ after_read size done spare answer }
 {
-    after(size, done, spare, answer, Transfer::Whole(done))
+    after(size, done, spare, answer, Some(done))
 }
 
 // Where a writing stands after a write: one that moved no byte has failed.
@@ -99,25 +92,14 @@ fn after_write(size: usize, done: usize, spare: u64, answer: Answer) -> Progress
     requires { (done ≤ size) × Bounded (size - done) answer }
     ensures { result ≡ after_write size done spare answer }
 {
-    after(size, done, spare, answer, Transfer::Failed)
+    after(size, done, spare, answer, None)
 }
 
 // What the caller is told of a transfer: the number of its bytes, or the reason why a call failed.
-fn ended(transfer: Transfer, reason: Error) -> io::Result<usize>
+fn ended(transfer: Option<usize>, reason: Error) -> io::Result<usize>
     ensures { result ≡ ended_by transfer reason }
 {
-    match transfer {
-        Transfer::Whole(count) => Ok(count),
-        Transfer::Failed => Err(reason),
-    }
-}
-
-// The reason that the last call gave, if it gave one.
-fn reason_of(got: io::Result<usize>, before: Error) -> Error {
-    match got {
-        Ok(_) => before,
-        Err(e) => e,
-    }
+    transfer.ok_or(reason)
 }
 
 // Reads until `buf` is full or the input ends, and answers the number of bytes; or that a read failed.
@@ -132,7 +114,7 @@ pub fn read_input<R: Read>(input: &mut R, buf: &mut [u8]) -> io::Result<usize>
             Progress::Ended(transfer) => return ended(transfer, reason),
             Progress::Going(done, spare) => {
                 let got = input.read(&mut buf[done..]);
-                reason = reason_of(got, reason);
+                reason = got.err().unwrap_or(reason);
                 progress = after_read(size, done, spare, told(got));
             }
         }
@@ -151,7 +133,7 @@ pub fn write_output<W: Write>(output: &mut W, buf: &[u8]) -> io::Result<usize>
             Progress::Ended(transfer) => return ended(transfer, reason),
             Progress::Going(done, spare) => {
                 let got = output.write(&buf[done..]);
-                reason = reason_of(got, reason);
+                reason = got.err().unwrap_or(reason);
                 progress = after_write(size, done, spare, told(got));
             }
         }

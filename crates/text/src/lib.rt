@@ -6,7 +6,7 @@ ghost use Rattle.model.specs.File.{fill_with, filled_by};
 ghost use Rattle.model.specs.Report.{decimal};
 ghost use Rattle.text.specs.Page.{Put};
 
-use model::{Filled, Refusal};
+use model::{Refusal, Rejection};
 
 // One byte more on the page.
 pub fn put_byte(page: &mut [u8], at: usize, b: u8) -> usize
@@ -24,10 +24,9 @@ pub fn put_decimal(page: &mut [u8], at: usize, n: usize) -> usize
 {
     let mut p = at;
     if 10 <= n {
-        p = put_decimal(&mut *page, at, n / 10);
+        p = put_decimal(page, at, n / 10);
     }
-    let digit = (n % 10) as u8;
-    put_byte(&mut *page, p, 48 + digit)
+    put_byte(page, p, b'0' + (n % 10) as u8)
 }
 
 // A word.
@@ -35,12 +34,9 @@ pub fn put_word(page: &mut [u8], at: usize, word: &[u8]) -> usize
     requires { at + length word.now ≤ length page.old }
     ensures { Put page.old at word.now page.new result }
 {
-    let mut i: usize = 0;
-    while i < word.len() {
-        put_byte(&mut *page, at + i, word[i]);
-        i += 1;
-    }
-    at + word.len()
+    let end = at + word.len();
+    page[at..end].copy_from_slice(word);
+    end
 }
 
 // A word and a number behind it.
@@ -48,22 +44,18 @@ pub fn put_numbered(page: &mut [u8], at: usize, word: &[u8], n: usize) -> usize
     requires { at + length (word.now ++ decimal n) ≤ length page.old }
     ensures { Put page.old at (word.now ++ decimal n) page.new result }
 {
-    let behind = put_word(&mut *page, at, word);
-    put_decimal(&mut *page, behind, n)
+    let behind = put_word(page, at, word);
+    put_decimal(page, behind, n)
 }
 
 // The first n bytes of a page into a lent buffer: all of them, or not one byte where the buffer is shorter.
-pub fn copy_out(page: &[u8], n: usize, out: &mut [u8]) -> Filled
+pub fn copy_out(page: &[u8], n: usize, out: &mut [u8]) -> Result<usize, Rejection>
     requires { n ≤ length page.now }
     ensures { (result ≡ fill_with (take n page.now) out.old) × (out.new ≡ filled_by (take n page.now) out.old) }
 {
     if out.len() < n {
-        return Filled::Unfilled(Refusal::ShortPage, 0);
+        return Err(Refusal::ShortPage.at(0));
     }
-    let mut i: usize = 0;
-    while i < n {
-        out[i] = page[i];
-        i += 1;
-    }
-    Filled::Bytes(n)
+    out[..n].copy_from_slice(&page[..n]);
+    Ok(n)
 }

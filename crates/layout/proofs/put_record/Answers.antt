@@ -16,4 +16,4 @@ returns c =
     let fastest-length : length c.args.m.fastest ≡ 16 = search rules in
     let again-length : length c.args.m.again ≡ 32 = search rules in
     let late-length : length c.args.m.late ≡ 256 = search rules in
-    record_put c.args.m c.args.out.now _ _ _ _ _ _ _ _ c.requires _ _ _ _ _ _ _ _ awake-length used-length waiting-length dropped-length ages-length fastest-length again-length late-length c.put_marks.ensures c.put_numbers.ensures c.put_marks-2.ensures c.put_marks-3.ensures c.put_numbers-2.ensures c.put_tempos.ensures c.put_marks-4.ensures c.put_marks-5.ensures
+    record_put c.args.m c.args.out.now _ _ _ _ _ _ _ _ c.requires _ _ _ _ _ _ _ _ awake-length used-length waiting-length dropped-length ages-length fastest-length again-length late-length c.put_marks.ensures c.put_numbers.ensures c.put_marks-2.ensures c.put_marks-3.ensures c.put_numbers-2.ensures c.put_numbers-3.ensures c.put_marks-4.ensures c.put_marks-5.ensures

@@ -23,7 +23,7 @@ pub overflow_add-end : goal.overflow_add-end
 overflow_add-end c =
     let a = c.args in
     omega
-    (arith, counts_far a.d a.end.now a.gap c.spacings_in-count.result c.requires.1 c.if-d-end.false c.spacings_in-count.ensures, ap (λ x. c.spacings_in-count.result * x) c.from.ensures, c.requires)
+    (arith, c.requires, counts_far a.d a.end.now a.gap c.spacings_in-count.result c.requires.1 c.if-d-end.false c.spacings_in-count.ensures, ap (λ x. c.spacings_in-count.result * x) c.from.ensures)
 
 pub overflow_mul-result : goal.overflow_mul-result
 overflow_mul-result c =
@@ -35,7 +35,7 @@ pub overflow_add-result : goal.overflow_add-result
 overflow_add-result c =
     let a = c.args in
     omega
-    (arith, counts_most a.load a.d a.end.now a.gap c.spacings_in-count.result c.requires.0 c.requires.1 c.requires.3 c.if-d-end.false c.spacings_in-count.ensures)
+    (arith, c.requires, counts_most a.load a.d a.end.now a.gap c.spacings_in-count.result c.requires.0 c.requires.1 c.requires.3 c.if-d-end.false c.spacings_in-count.ensures)
 
 pub returns : goal.returns
 returns c =

@@ -35,7 +35,8 @@ impl Block {
     }
 }
 
-// The wheel of each source, 16 for none; the period of each wheel; and how many wheels there are.
+// The wheel of each source, 16 for none; the period of each wheel; and how many wheels there are. A wheel is a number,
+// since `Sifted` and `left_in` of the crate `wheels` ask which are below a count.
 #[derive(Clone, Copy)]
 pub struct Plan {
     pub wheels: [usize; 16],

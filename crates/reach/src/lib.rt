@@ -25,8 +25,8 @@ fn jumps(block: Block, rounds: u64, last: u64) -> bool {
 
 // Rounds from a place on, between stretches that are passed: settled, or given up where stretches of this size are passed too seldom.
 fn rounds_between(wheels: &Wheeled, limit: u64, from: u64) -> Reached
-    requires { (limit ≤ 1000000000) × OpenAt wheels.now.level.now.start wheels.now.level.now.loads.now wheels.now.level.now.gaps.now wheels.now.level.now.count limit from }
-    ensures { ReachedBy wheels.now.level.now.start wheels.now.level.now.loads.now wheels.now.level.now.gaps.now wheels.now.level.now.count limit result × OpenOver wheels.now.block.shift result }
+    requires { let level = wheels.now.level.now in (limit ≤ 1000000000) × OpenAt level.start level.loads.now level.gaps.now level.count limit from }
+    ensures { let level = wheels.now.level.now in ReachedBy level.start level.loads.now level.gaps.now level.count limit result × OpenOver wheels.now.block.shift result }
 {
     let level = wheels.level;
     let mut ends = [0; 16];
@@ -60,8 +60,8 @@ fn rounds_between(wheels: &Wheeled, limit: u64, from: u64) -> Reached
 
 // Puts sources on wheels with blocks of a size, and makes rounds between their stretches.
 fn attempt(level: &Level, limit: u64, from: u64, block: Block) -> Reached
-    requires { (limit ≤ 1000000000) × OpenAt level.now.start level.now.loads.now level.now.gaps.now level.now.count limit from }
-    ensures { ReachedBy level.now.start level.now.loads.now level.now.gaps.now level.now.count limit result × OpenOver block.shift result }
+    requires { let its = level.now in (limit ≤ 1000000000) × OpenAt its.start its.loads.now its.gaps.now its.count limit from }
+    ensures { let its = level.now in ReachedBy its.start its.loads.now its.gaps.now its.count limit result × OpenOver block.shift result }
 {
     let mut places = [0; 16];
     let mut table = [65535; 65536];
@@ -103,11 +103,11 @@ fn first_shift(level: &Level) -> u32
 
 // Where the rounds come to, from a place on: stretches half as long, where they are passed too seldom.
 fn far_reach(level: &Level, limit: u64, from: u64) -> u64
-    requires { (limit ≤ 1000000000) × OpenAt level.now.start level.now.loads.now level.now.gaps.now level.now.count limit from }
-    ensures { result ≡ reach_in level.now.start level.now.loads.now level.now.gaps.now level.now.count limit }
+    requires { let its = level.now in (limit ≤ 1000000000) × OpenAt its.start its.loads.now its.gaps.now its.count limit from }
+    ensures { let its = level.now in result ≡ reach_in its.start its.loads.now its.gaps.now its.count limit }
 {
     let mut place = from;
-    for shift in (1..first_shift(level) + 1).rev() {
+    for shift in (1..=first_shift(level)).rev() {
         match attempt(level, limit, place, Block { shift }) {
             Reached::Settled(d) => return d,
             Reached::Open(next) => place = next,
@@ -121,7 +121,7 @@ fn far_reach(level: &Level, limit: u64, from: u64) -> u64
 // Where the rounds come to below a limit: the least d that one leaves unchanged, or else the limit.
 pub fn level_reach(level: &Level, limit: u64) -> u64
     requires { limit ≤ 1000000000 }
-    ensures { result ≡ reach_in level.now.start level.now.loads.now level.now.gaps.now level.now.count limit }
+    ensures { let its = level.now in result ≡ reach_in its.start its.loads.now its.gaps.now its.count limit }
 {
     match level.few_rounds(limit) {
         Reached::Settled(d) => d,

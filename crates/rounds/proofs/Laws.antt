@@ -68,13 +68,22 @@ unfolding more_by spacings
 more_some d end m p h = omega (arith, (le-div_iff_mul-le {k = m} {x = 1} {y = d - end + (m - 1)} p).1 (omega arith))
 
 -- they reach less than a spacing beyond d
-pub more_reach : (d end m : ℕ) → 1 ≤ m → end < d → end + more_by d end m * m ≤ d + m
+more_reach : (d end m : ℕ) → 1 ≤ m → end < d → end + more_by d end m * m ≤ d + m
 unfolding more_by
 more_reach d end m p h = omega (arith, div-mul-le_self (d - end + (m - 1)) m)
 
-pub more_most : (d end m : ℕ) → 1 ≤ m → d ≤ 1000000000 → more_by d end m ≤ 1000000000
+more_most : (d end m : ℕ) → 1 ≤ m → d ≤ 1000000000 → more_by d end m ≤ 1000000000
 unfolding more_by spacings
 more_most d end m p h = omega (arith, spacings_most (d - end) m p (omega arith))
+
+-- the firings beyond an end, as they are worked out: how many, how far they reach, and what they add
+pub counts_far : (d end m r : ℕ) → 1 ≤ m → end < d → r ≡ spacings (d - end) m → end + r * m ≤ d + m
+counts_far d end m r p h e =
+    omega (arith, more_reach d end m p h, ap (λ x. x * m) (e ∙ more_some d end m p h))
+
+pub counts_most : (load d end m r : ℕ) → load ≤ 1000000000 → 1 ≤ m → d ≤ 1000000000 → end < d → r ≡ spacings (d - end) m → load * r ≤ 1000000000000000000
+counts_most load d end m r l p q h e =
+    omega (arith, mul-le-mul l (more_most d end m p q), ap (λ x. load * x) (e ∙ more_some d end m p h))
 
 more_near : (c d m : ℕ) → 1 ≤ m → c ≤ spacings d m → 1 ≤ c → d ≤ c * m → c + more_by d (c * m) m ≡ spacings d m
 unfolding spacings

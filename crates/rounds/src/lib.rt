@@ -5,7 +5,8 @@ ghost use Rattle.std.specs.Prelude.{◌≡◌, ◌+◌, ◌*◌, ◌/◌, ◌≤
 ghost use Rattle.model.specs.Delays.{spacings};
 ghost use Rattle.rounds.specs.Level.{LevelOn, round_in, Counted, more_by, NextRound, RoundAt, ShareOf, Shares, FlowEnd, Jump, ReachedBy};
 
-// How many spacings of m ticks a stretch of d ticks holds: rounded up, and at least 1.
+// How many spacings of m ticks a stretch of d ticks holds: rounded up, and at least 1. The quotient is of 32 bits, whose
+// division is faster.
 pub fn spacings_in(d: u64, m: u32) -> u64
     requires { (1 ≤ m) × (m ≤ 1000000000) × (d ≤ 1000000000) }
     ensures { result ≡ spacings d m }
@@ -89,8 +90,8 @@ pub enum Reached {
     Open(u64),
 }
 
-// The level of a task: a start, and for each of the first few sources its load and its spacing. Loads and spacings are
-// lent, since one table of spacings serves all levels.
+// The level of a task: a start, and for each of the first few sources its load and its spacing. They are two lists, and
+// lent, since one list of spacings serves all levels at a tempo.
 #[derive(Clone, Copy)]
 pub struct Level<'a> {
     pub start: u64,
@@ -104,7 +105,7 @@ impl Level<'_> {
     // A round at d: what the level may bring in a stretch of d ticks, with the firings of every source counted.
     pub fn round_at(&self, d: u64, ends: &mut [u64; 16]) -> u64
         requires { (length ends.old ≡ 16) × (d ≤ 1000000000) }
-        ensures { (result ≡ round_in self.now.start self.now.loads.now self.now.gaps.now self.now.count d) × Counted self.now.loads.now self.now.gaps.now self.now.count d ends.new }
+        ensures { let level = self.now in (result ≡ round_in level.start level.loads.now level.gaps.now level.count d) × Counted level.loads.now level.gaps.now level.count d ends.new }
     {
         let mut sum = self.start;
         for u in 0..self.count {
@@ -140,9 +141,10 @@ impl Level<'_> {
     }
 
     // A lower bound of the level's fixed points: the sources whose firings end before a far place taken as a steady flow.
+    // Ends and shares stay two lists: a round writes ends alone, and would have to say of both that shares stay.
     fn flow_bound(&self, ends: &[u64; 16], shares: &[u64; 16], far: u64, limit: u64) -> u64
-        requires { RoundAt self.now.start self.now.loads.now self.now.gaps.now self.now.count ends.now × Shares self.now.loads.now self.now.gaps.now self.now.count shares.now }
-        ensures { Jump self.now.start self.now.loads.now self.now.gaps.now self.now.count limit result }
+        requires { let level = self.now in RoundAt level.start level.loads.now level.gaps.now level.count ends.now × Shares level.loads.now level.gaps.now level.count shares.now }
+        ensures { let level = self.now in Jump level.start level.loads.now level.gaps.now level.count limit result }
     {
         let mut rest = self.start;
         let mut flow = 0;
@@ -161,8 +163,8 @@ impl Level<'_> {
     // A call of its own, so that the rounds between two jumps keep what they work with in registers.
     #[inline(never)]
     pub fn jumped(&self, ends: &[u64; 16], shares: &[u64; 16], sum: u64, limit: u64) -> u64
-        requires { RoundAt self.now.start self.now.loads.now self.now.gaps.now self.now.count ends.now × Shares self.now.loads.now self.now.gaps.now self.now.count shares.now × Jump self.now.start self.now.loads.now self.now.gaps.now self.now.count limit sum }
-        ensures { Jump self.now.start self.now.loads.now self.now.gaps.now self.now.count limit result × (sum ≤ result) }
+        requires { let level = self.now in RoundAt level.start level.loads.now level.gaps.now level.count ends.now × Shares level.loads.now level.gaps.now level.count shares.now × Jump level.start level.loads.now level.gaps.now level.count limit sum }
+        ensures { let level = self.now in Jump level.start level.loads.now level.gaps.now level.count limit result × (sum ≤ result) }
     {
         let mut far = sum;
         loop {
@@ -177,7 +179,7 @@ impl Level<'_> {
     // Where the first rounds below a limit come to; most levels settle in them.
     pub fn few_rounds(&self, limit: u64) -> Reached
         requires { limit ≤ 1000000000 }
-        ensures { ReachedBy self.now.start self.now.loads.now self.now.gaps.now self.now.count limit result }
+        ensures { let level = self.now in ReachedBy level.start level.loads.now level.gaps.now level.count limit result }
     {
         if limit <= self.start {
             return Reached::Settled(limit);

@@ -39,8 +39,8 @@ fn turned(turn: u64, width: u64, period: u64) -> u64
 impl Wheeled<'_> {
     // What the start and the counted firings of all sources on no wheel bring.
     pub fn left_of(&self, ends: &[u64; 16]) -> u64
-        requires { RoundAt self.now.level.now.start self.now.level.now.loads.now self.now.level.now.gaps.now self.now.level.now.count ends.now }
-        ensures { (p : ℕ) → Counted self.now.level.now.loads.now self.now.level.now.gaps.now self.now.level.now.count p ends.now → result ≡ left_in self.now.level.now.start self.now.level.now.loads.now self.now.level.now.gaps.now self.now.plan.now.wheels self.now.level.now.count self.now.built.count p }
+        requires { let level = self.now.level.now in RoundAt level.start level.loads.now level.gaps.now level.count ends.now }
+        ensures { let level = self.now.level.now in (p : ℕ) → Counted level.loads.now level.gaps.now level.count p ends.now → result ≡ left_in level.start level.loads.now level.gaps.now self.now.plan.now.wheels level.count self.now.built.count p }
     {
         let mut rest = self.level.start;
         for u in 0..self.level.count {
@@ -63,8 +63,8 @@ impl Wheeled<'_> {
 
     // The least waste of all wheels together in the stretch from where they stand; then each is turned some ticks on.
     fn waste_passed(&self, width: u64, turns: &mut [u64; 16]) -> u64
-        requires { (width ≤ 1000000000) × ((k : ℕ) → k < self.now.built.count → get_or turns.old k 0 ≤ 1000000000) × ((k : ℕ) → k < self.now.built.count → get_or self.now.places.now k 0 + get_or turns.old k 0 / 2 ^ self.now.block.shift < 65536) × (length turns.old ≡ 16) }
-        ensures { (result ≡ waste_on (2 ^ self.now.block.shift) self.now.places.now self.now.table.now turns.old self.now.built.count) × (result ≤ 1048560) × ((d : ℕ) → 1 ≤ d → Turned self.now.plan.now.periods self.now.built.count d turns.old → Turned self.now.plan.now.periods self.now.built.count (d + width) turns.new) }
+        requires { let wheels = self.now in (width ≤ 1000000000) × ((k : ℕ) → k < wheels.built.count → get_or turns.old k 0 ≤ 1000000000) × ((k : ℕ) → k < wheels.built.count → get_or wheels.places.now k 0 + get_or turns.old k 0 / 2 ^ wheels.block.shift < 65536) × (length turns.old ≡ 16) }
+        ensures { let wheels = self.now in (result ≡ waste_on (2 ^ wheels.block.shift) wheels.places.now wheels.table.now turns.old wheels.built.count) × (result ≤ 1048560) × ((d : ℕ) → 1 ≤ d → Turned wheels.plan.now.periods wheels.built.count d turns.old → Turned wheels.plan.now.periods wheels.built.count (d + width) turns.new) }
     {
         let mut sum = 0;
         for k in 0..self.built.count {
@@ -79,7 +79,7 @@ impl Wheeled<'_> {
     // Goes on from a place, stretch by stretch, 128 at most, as long as no stretch can have a fixed point.
     pub fn pass(&self, rest: u64, from: u64, limit: u64) -> u64
         requires { (rest ≤ 1000000000) × (1 ≤ from) × (from ≤ limit) × (limit ≤ 1000000000) }
-        ensures { Passes self.now.plan.now.periods self.now.places.now self.now.table.now (2 ^ self.now.block.shift) self.now.built.count self.now.built.slope rest from result × (from ≤ result) × (result ≤ limit) }
+        ensures { let wheels = self.now in Passes wheels.plan.now.periods wheels.places.now wheels.table.now (2 ^ wheels.block.shift) wheels.built.count wheels.built.slope rest from result × (from ≤ result) × (result ≤ limit) }
     {
         let width = self.block.stretch();
         let mut turns = [0; 16];

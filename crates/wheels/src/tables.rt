@@ -14,7 +14,8 @@ pub struct Built {
     pub slope: u64,
 }
 
-// The entries of one wheel in the table: so many from a place on, each for a block of so many ticks.
+// The entries of one wheel in the table: so many from a place on, each for a block of so many ticks. The table is lent
+// whole and not in slices, since `Filled` and `Lowered` speak of all of it.
 #[derive(Clone, Copy)]
 pub struct Row {
     pub place: usize,
@@ -52,7 +53,7 @@ fn kept(wheel: usize, count: usize, load: u64, gap: u32, period: u64) -> usize
 
 // Takes the sources off a wheel that may not be on it.
 pub fn sift(level: &Level, plan: &mut Plan)
-    ensures { Sifted level.now.loads.now level.now.gaps.now plan.new.wheels plan.new.periods level.now.count plan.new.count }
+    ensures { let its = level.now in Sifted its.loads.now its.gaps.now plan.new.wheels plan.new.periods its.count plan.new.count }
 {
     for u in 0..level.count {
         let wheel = plan.wheels[u];
@@ -70,8 +71,8 @@ fn on_wheel(load: u64, wheel: usize, k: usize) -> u64
 
 // The loads of the sources of wheel k, and their flow.
 fn part_of(level: &Level, plan: &Plan, k: usize, part: &mut [u64; 16]) -> u64
-    requires { Sifted level.now.loads.now level.now.gaps.now plan.now.wheels plan.now.periods level.now.count plan.now.count × (k < plan.now.count) × (length part.old ≡ 16) }
-    ensures { PartOf level.now.loads.now plan.now.wheels level.now.count k part.new × (result ≡ part_flow level.now.loads.now level.now.gaps.now plan.now.wheels level.now.count k) × (result ≤ 70368744177664) }
+    requires { let its = level.now in Sifted its.loads.now its.gaps.now plan.now.wheels plan.now.periods its.count plan.now.count × (k < plan.now.count) × (length part.old ≡ 16) }
+    ensures { let its = level.now in PartOf its.loads.now plan.now.wheels its.count k part.new × (result ≡ part_flow its.loads.now its.gaps.now plan.now.wheels its.count k) × (result ≤ 70368744177664) }
 {
     let mut flow = 0;
     for u in 0..level.count {
@@ -111,8 +112,8 @@ fn quiet_end(ends: &[u64; 16], n: usize, place: u64, end: u64) -> u64
 // Fills the entries of a wheel: for each block, the least waste of its sources there. A place is passed to where a source
 // fires anew, and by a 32nd of a block at least, so that a very narrow spacing does not make the places many.
 fn fill(part: &Level, flow: u64, row: Row, table: &mut [u16; 65536])
-    requires { (part.now.start ≡ 0) × Light part.now.loads.now part.now.gaps.now part.now.count × (length table.old ≡ 65536) }
-    ensures { Filled part.now.loads.now part.now.gaps.now part.now.count flow row.block row.entries row.place table.old table.new }
+    requires { let its = part.now in (its.start ≡ 0) × Light its.loads.now its.gaps.now its.count × (length table.old ≡ 65536) }
+    ensures { let its = part.now in Filled its.loads.now its.gaps.now its.count flow row.block row.entries row.place table.old table.new }
 {
     let mut ends = [0; 16];
     let mut sum = part.round_at(0, &mut ends);
@@ -172,7 +173,7 @@ fn slope_of(flow: u64) -> u64
 
 // Puts one wheel's table at its entries, for the loads of its sources: the waste in each block, then in two, in four, in eight.
 fn put_wheel(level: &Level, part: &[u64; 16], flow: u64, row: Row, table: &mut [u16; 65536])
-    requires { LevelOn 0 part.now level.now.gaps.now level.now.count × Light part.now level.now.gaps.now level.now.count × (length table.old ≡ 65536) }
+    requires { let its = level.now in LevelOn 0 part.now its.gaps.now its.count × Light part.now its.gaps.now its.count × (length table.old ≡ 65536) }
     ensures { PutWheel part.now level.now.gaps.now level.now.count flow row.block row.entries row.place table.old table.new }
 {
     let part = Level {
@@ -195,8 +196,8 @@ pub fn build(
     places: &mut [usize; 16],
     table: &mut [u16; 65536],
 ) -> Built
-    requires { Sifted level.now.loads.now level.now.gaps.now plan.now.wheels plan.now.periods level.now.count plan.now.count × (1 ≤ block) × (block ≤ 65536) × (length places.old ≡ 16) × (length table.old ≡ 65536) }
-    ensures { BuiltOn level.now.loads.now level.now.gaps.now plan.now.wheels level.now.count plan.now.periods block places.new table.new result }
+    requires { let its = level.now in Sifted its.loads.now its.gaps.now plan.now.wheels plan.now.periods its.count plan.now.count × (1 ≤ block) × (block ≤ 65536) × (length places.old ≡ 16) × (length table.old ≡ 65536) }
+    ensures { let its = level.now in BuiltOn its.loads.now its.gaps.now plan.now.wheels its.count plan.now.periods block places.new table.new result }
 {
     let mut part = [0; 16];
     let mut place = 0;

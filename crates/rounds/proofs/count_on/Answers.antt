@@ -1,10 +1,10 @@
 -- `count_on` meets its contract: nothing up to the end, else the firings beyond it. Assumes nothing.
-use Prim.Native.Nat.{◌+◌, ◌*◌, ◌≤◌}
+use Prim.Native.Nat.{◌+◌, ◌*◌}
 use mathlib.Core.Path.{◌≡◌, ap, ◌∙◌}
 use native.Mathlib.Omega.{arith}
-use native.Mathlib.Nat.{mul-le-mul, mul-zero, zero-mul}
+use native.Mathlib.Nat.{mul-zero, zero-mul}
 use Rattle.rounds.specs.Level.{more_by}
-use Rattle.rounds.proofs.Laws.{more_none, more_some, more_reach, more_most}
+use Rattle.rounds.proofs.Laws.{more_none, more_some, counts_far, counts_most}
 use Rattle.rounds.proofs.count_on.Goals as goal
 
 pub returns-then-d-end : goal.returns-then-d-end
@@ -15,32 +15,30 @@ returns-then-d-end c =
 
 pub overflow_mul-end : goal.overflow_mul-end
 overflow_mul-end c =
-    -- the firings beyond the end, and how far they reach
-    let beyond : c.spacings_in-count.result ≡ more_by c.args.d c.args.end.now c.args.gap = c.spacings_in-count.ensures ∙ more_some c.args.d c.args.end.now c.args.gap c.requires.1 c.if-d-end.false in
+    let a = c.args in
     omega
-    (arith, more_reach c.args.d c.args.end.now c.args.gap c.requires.1 c.if-d-end.false, ap (λ x. x * c.args.gap) beyond, ap (λ x. c.spacings_in-count.result * x) c.from.ensures, c.requires)
+    (arith, counts_far a.d a.end.now a.gap c.spacings_in-count.result c.requires.1 c.if-d-end.false c.spacings_in-count.ensures, ap (λ x. c.spacings_in-count.result * x) c.from.ensures, c.requires)
 
 pub overflow_add-end : goal.overflow_add-end
 overflow_add-end c =
-    let beyond : c.spacings_in-count.result ≡ more_by c.args.d c.args.end.now c.args.gap = c.spacings_in-count.ensures ∙ more_some c.args.d c.args.end.now c.args.gap c.requires.1 c.if-d-end.false in
+    let a = c.args in
     omega
-    (arith, more_reach c.args.d c.args.end.now c.args.gap c.requires.1 c.if-d-end.false, ap (λ x. x * c.args.gap) beyond, ap (λ x. c.spacings_in-count.result * x) c.from.ensures, c.requires)
+    (arith, c.requires, counts_far a.d a.end.now a.gap c.spacings_in-count.result c.requires.1 c.if-d-end.false c.spacings_in-count.ensures, ap (λ x. c.spacings_in-count.result * x) c.from.ensures)
 
 pub overflow_mul-result : goal.overflow_mul-result
 overflow_mul-result c =
-    let beyond : c.spacings_in-count.result ≡ more_by c.args.d c.args.end.now c.args.gap = c.spacings_in-count.ensures ∙ more_some c.args.d c.args.end.now c.args.gap c.requires.1 c.if-d-end.false in
-    let part : c.args.load * c.spacings_in-count.result ≤ 1000000000000000000 = rw beyond (mul-le-mul c.requires.0 (more_most c.args.d c.args.end.now c.args.gap c.requires.1 c.requires.3)) in
-    omega (arith, part)
+    let a = c.args in
+    omega
+    (arith, counts_most a.load a.d a.end.now a.gap c.spacings_in-count.result c.requires.0 c.requires.1 c.requires.3 c.if-d-end.false c.spacings_in-count.ensures)
 
 pub overflow_add-result : goal.overflow_add-result
 overflow_add-result c =
-    let beyond : c.spacings_in-count.result ≡ more_by c.args.d c.args.end.now c.args.gap = c.spacings_in-count.ensures ∙ more_some c.args.d c.args.end.now c.args.gap c.requires.1 c.if-d-end.false in
-    let part : c.args.load * c.spacings_in-count.result ≤ 1000000000000000000 = rw beyond (mul-le-mul c.requires.0 (more_most c.args.d c.args.end.now c.args.gap c.requires.1 c.requires.3)) in
-    omega (arith, part)
+    let a = c.args in
+    omega
+    (arith, c.requires, counts_most a.load a.d a.end.now a.gap c.spacings_in-count.result c.requires.0 c.requires.1 c.requires.3 c.if-d-end.false c.spacings_in-count.ensures)
 
 pub returns : goal.returns
 returns c =
     let a = c.args in
     let beyond : c.spacings_in-count.result ≡ more_by a.d a.end.now a.gap = c.spacings_in-count.ensures ∙ more_some a.d a.end.now a.gap c.requires.1 c.if-d-end.false in
-    let part : a.load * c.spacings_in-count.result ≤ 1000000000000000000 = rw beyond (mul-le-mul c.requires.0 (more_most a.d a.end.now a.gap c.requires.1 c.requires.3)) in
-    (omega (arith, ap (λ x. x * a.gap) beyond, ap (λ x. c.spacings_in-count.result * x) c.from.ensures), ap (λ x. a.sum + a.load * x) beyond, omega (arith, part))
+    (omega (arith, ap (λ x. x * a.gap) beyond, ap (λ x. c.spacings_in-count.result * x) c.from.ensures), ap (λ x. a.sum + a.load * x) beyond, omega (arith, counts_most a.load a.d a.end.now a.gap c.spacings_in-count.result c.requires.0 c.requires.1 c.requires.3 c.if-d-end.false c.spacings_in-count.ensures))

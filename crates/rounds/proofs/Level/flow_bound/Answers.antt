@@ -1,7 +1,5 @@
-use Prim.Native.Nat.{◌≤◌, ◌*◌, ◌/◌}
 use mathlib.Core.Path.{◌≡◌, ap, ◌∙◌}
 use native.Mathlib.Omega.{arith}
-use lib.ListN.{get_or}
 use Rattle.rounds.proofs.Laws.{flow_to, rest_to, flow_none_yet, rest_none_yet, flow_taken, flow_left, rest_taken, rest_left, rest_most, flow_lower, counted_part, part_most, lower_round}
 use Rattle.rounds.proofs.Level.flow_bound.Goals as goal
 use Rattle.rounds.proofs.Level.flow_bound.Goals.{then-end-far, else-end-far}

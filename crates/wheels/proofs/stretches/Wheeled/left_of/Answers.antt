@@ -1,4 +1,4 @@
-use mathlib.Core.Path.{◌≡◌, ◌∙◌}
+use mathlib.Core.Path.{◌∙◌}
 use native.Mathlib.Omega.{arith}
 use Rattle.rounds.proofs.Laws.{counted_part, part_most}
 use Rattle.wheels.proofs.Steps.{left_none, left_on, left_off}

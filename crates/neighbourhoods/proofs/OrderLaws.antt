@@ -10,7 +10,7 @@ use Rattle.model.specs.declared.Link.{Link}
 use Rattle.model.specs.declared.Description.{Description}
 use Rattle.model.specs.Graph.{system, link_at}
 use Rattle.model.specs.Order.{in_order}
-use Rattle.lemmas.proofs.Tests.{and_left, and_right}
+use Rattle.lemmas.proofs.Tests.{and_left, and_right, both}
 use Rattle.lemmas.proofs.Range.{all_cong}
 use native.Mathlib.Omega.{arith}
 use Rattle.model.specs.Basics.{all_n}
@@ -20,7 +20,10 @@ use Rattle.theory.proofs.Walk.{in_order-alike}
 use Rattle.neighbourhoods.specs.Into.{into_system, IntoOf}
 use Rattle.neighbourhoods.specs.Orders.{between_tasks, order_by, OrdersOf, order_held, orders_held}
 
-is_between : (k : Link) → between_tasks k ≡ true → (k.critical ≡ 1) × (k.from < 33)
+pub between_is : (k : Link) → k.critical ≡ 1 → k.from < 33 → between_tasks k ≡ true
+between_is k e h = both (eqb k.critical 1) (ltb k.from 33) (eq-eqb k.critical 1 e) (lt-ltb k.from 33 h)
+
+pub is_between : (k : Link) → between_tasks k ≡ true → (k.critical ≡ 1) × (k.from < 33)
 is_between k e =
     (eqb-true k.critical 1 (and_left (eqb k.critical 1) (ltb k.from 33) e), ltb-true k.from 33 (and_right (eqb k.critical 1) (ltb k.from 33) e))
 

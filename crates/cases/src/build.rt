@@ -36,9 +36,7 @@ fn byte_at(tasks: usize, sources: usize, k: usize) -> u8
 pub fn fill(page: &mut [u8], tasks: usize, sources: usize)
     requires { (tasks ≤ 33) × (sources ≤ 17) × (length page.old ≤ 2048) }
 {
-    let mut k: usize = 0;
-    while k < page.len() {
+    for k in 0..page.len() {
         page[k] = byte_at(tasks, sources, k);
-        k += 1;
     }
 }

@@ -2,7 +2,7 @@
 // comparison of a call's answer with what a document says.
 #![tactic(auto)]
 
-use model::{Outcome, Policy};
+use model::{Policy, Rejection};
 use refusals::number_of;
 use std::io;
 
@@ -32,11 +32,7 @@ pub fn none() -> Tally {
 
 // The tally with further figures on a model.
 pub fn on(policy: Policy, t: Tally) -> Tally {
-    Tally {
-        policy,
-        cases: t.cases,
-        agree: t.agree,
-    }
+    Tally { policy, ..t }
 }
 
 // No figure yet; the first is run on the hold-on model.
@@ -46,24 +42,24 @@ pub fn hold() -> Tally {
 
 // The tally with one figure more.
 pub fn counted(t: Tally, agree: bool) -> Tally {
-    let one: u64 = if agree { 1 } else { 0 };
-    let policy = t.policy;
     Tally {
-        policy,
         cases: t.cases.wrapping_add(1),
-        agree: t.agree.wrapping_add(one),
+        agree: t.agree.wrapping_add(u64::from(agree)),
+        ..t
+    }
+}
+
+// An answer is a value, number 0, or refused with a number and a place.
+pub fn tells(answer: Result<usize, Rejection>, number: usize, value: usize) -> bool {
+    match answer {
+        Ok(n) => number == 0 && n == value,
+        Err(rejection) => number_of(rejection.why) == number && rejection.place == value,
     }
 }
 
 // An outcome is done, number 0, or refused with a number and a place.
-pub fn is_outcome(outcome: Outcome, number: usize, place: usize) -> bool {
-    match outcome {
-        Outcome::Done => number == 0,
-        Outcome::Refused(why, at) => {
-            let n = number_of(why);
-            n == number && at == place
-        }
-    }
+pub fn is_outcome(outcome: Result<(), Rejection>, number: usize, place: usize) -> bool {
+    tells(outcome.map(|_| place), number, place)
 }
 
 // The line of a group of figures: how many of them agree.

@@ -8,39 +8,30 @@ use model::{Arrivals, Description, Machine, Policy};
 // awake.
 pub fn starts(t: Tally, d: Description, number: usize, age: u32) -> Tally {
     let s = ticks::start(d);
-    let outcome = s.outcome;
     let m = s.machine;
     let asleep = !m.awake[0] & !m.awake[1];
     counted(
         t,
-        is_outcome(outcome, number, 0) & (m.ages[0] == age) & (m.fastest[0] == 0) & asleep,
+        is_outcome(s.outcome, number, 0) & (m.ages[0] == age) & (m.fastest[0] == 0) & asleep,
     )
 }
 
 // The record after a start.
 pub fn idle(d: Description) -> Machine {
-    let s = ticks::start(d);
-    s.machine
+    ticks::start(d).machine
 }
 
 // A run of calls whose outcomes go to a buffer is done, number 0, or refused with a number.
 pub fn runs(t: Tally, d: Description, calls: &[u8], outcomes: &mut [u8], number: usize) -> Tally {
-    let p = t.policy;
-    let ran = ticks::run(p, d, calls, outcomes);
-    let outcome = ran.outcome;
-    counted(t, is_outcome(outcome, number, 0))
+    let ran = ticks::run(t.policy, d, calls, outcomes);
+    counted(t, is_outcome(ran.outcome, number, 0))
 }
 
 // In a run of calls the call at a place counted from 0 is a tick, number 0, or refused with a number.
 pub fn call_is(t: Tally, file: &[u8], calls: &[u8], k: usize, number: u8) -> Tally {
-    let d = described(file);
     let mut outcomes = [255u8; 64];
-    let p = t.policy;
-    ticks::run(p, d, calls, &mut outcomes);
-    if 64 <= k {
-        return counted(t, false);
-    }
-    counted(t, outcomes[k] == number)
+    ticks::run(t.policy, described(file), calls, &mut outcomes);
+    counted(t, outcomes.get(k) == Some(&number))
 }
 
 // Arrivals of sources 33 and 34.
@@ -60,10 +51,8 @@ pub fn ticks_once(
     a: Arrivals,
     number: usize,
 ) -> Tally {
-    let p = t.policy;
-    let r = ticks::advanced(p, d, tempo, m, a, false);
-    let outcome = r.outcome;
-    counted(t, is_outcome(outcome, number, 0))
+    let r = ticks::advanced(t.policy, d, tempo, m, a, false);
+    counted(t, is_outcome(r.outcome, number, 0))
 }
 
 // A tick without arrivals at 20.0.
@@ -80,8 +69,7 @@ pub fn later_on(
     a: Arrivals,
     finish: bool,
 ) -> Machine {
-    let r = ticks::advanced(p, d, tempo, m, a, finish);
-    r.machine
+    ticks::advanced(p, d, tempo, m, a, finish).machine
 }
 
 // A record after a tick at 20.0 in which source 33 comes, or source 34.

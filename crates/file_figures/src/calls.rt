@@ -4,46 +4,29 @@
 ghost use Rattle.std.specs.Prelude.{◌≤◌};
 
 use cases::file::reads;
-use cases::{Tally, build, counted};
-use model::{Description, Filled, Found};
+use cases::{Tally, build, counted, tells};
+use model::Description;
 use refusals::number_of;
 
 // At an offset of a file the reader is refused with a number and a place, and stays.
 pub fn takes_refusal(t: Tally, file: &[u8], at: usize, number: usize) -> Tally {
     let step = fields::reader::next_at(file, at);
-    let found = step.found;
-    let Found::Unread(why, place) = found else {
+    let Err(rejection) = step.found else {
         return counted(t, false);
     };
-    let n = number_of(why);
-    counted(t, (n == number) & (place == at) & (step.at == at))
+    let n = number_of(rejection.why);
+    counted(t, (n == number) & (rejection.place == at) & (step.at == at))
 }
 
 // At an offset of a file the reader finds the end, and stays.
 pub fn takes_end(t: Tally, file: &[u8], at: usize) -> Tally {
     let step = fields::reader::next_at(file, at);
-    let found = step.found;
-    let Found::Nothing = found else {
-        return counted(t, false);
-    };
-    counted(t, step.at == at)
-}
-
-// The number of an answer about a filled buffer, and the bytes filled or the place.
-fn told(filled: Filled, number: usize, value: usize) -> bool {
-    match filled {
-        Filled::Bytes(n) => number == 0 && n == value,
-        Filled::Unfilled(why, place) => {
-            let n = number_of(why);
-            n == number && place == value
-        }
-    }
+    counted(t, matches!(step.found, Ok(None)) && step.at == at)
 }
 
 // A record is written into a buffer: as many bytes, number 0, or refused with a number and a place.
 pub fn writes(t: Tally, d: Description, page: &mut [u8], number: usize, value: usize) -> Tally {
-    let filled = files::write(d, page);
-    counted(t, told(filled, number, value))
+    counted(t, tells(files::write(d, page), number, value))
 }
 
 // The first n bytes of a page as a file.

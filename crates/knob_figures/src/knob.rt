@@ -79,23 +79,17 @@ fn fill(page: &mut [u8], rule: Rule, n: usize) {
     if page.len() / 6 < n {
         return;
     }
-    let end = 6 * n;
-    let mut k: usize = 0;
-    while k < end {
+    for k in 0..6 * n {
         page[k] = byte_at(rule, k);
-        k += 1;
     }
 }
 
 // The record after the first n calls of a page, and their codes in a buffer; a blank one where the page has fewer.
 fn played(p: Policy, file: &[u8], page: &[u8], n: usize, codes: &mut [u8]) -> Machine {
-    let r = files::read(file);
-    let d = r.description;
     if page.len() / 6 < n {
         return refusals::blank_machine();
     }
-    let ran = ticks::run(p, d, &page[..6 * n], codes);
-    ran.machine
+    ticks::run(p, files::read(file).description, &page[..6 * n], codes).machine
 }
 
 // The code of a call of a turned run, of which the turned call and the last one have their own.
@@ -111,18 +105,10 @@ fn code_of(turn: Turn, at_turn: u8, at_last: u8, i: usize) -> u8 {
 
 // Whether a buffer begins with the codes of a turned run.
 fn same_codes(codes: &[u8], turn: Turn, at_turn: u8, at_last: u8) -> bool {
-    let last = turn.last;
-    if codes.len() <= last {
+    if codes.len() <= turn.last {
         return false;
     }
-    let mut i: usize = 0;
-    while i <= last {
-        if codes[i] != code_of(turn, at_turn, at_last, i) {
-            return false;
-        }
-        i += 1;
-    }
-    true
+    (0..turn.last + 1).all(|i| codes[i] == code_of(turn, at_turn, at_last, i))
 }
 
 // The turned call and the last one of a run have these codes, all others 0.
@@ -140,23 +126,13 @@ pub fn codes(t: Tally, file: &[u8], turn: Turn, at_turn: u8, at_last: u8) -> Tal
     counted(t, agree)
 }
 
-// The count with call i, if that is at a place of its round and done.
-fn with_call(done: u64, place: usize, i: usize, code: u8) -> u64 {
-    if i % 3 == place && code == 0 {
-        return done.wrapping_add(1);
-    }
-    done
-}
-
 // How many calls at a place of their rounds are done.
 fn done_in(codes: &[u8], place: usize) -> u64 {
-    let mut done: u64 = 0;
-    let mut i: usize = 0;
-    while i < codes.len() {
-        done = with_call(done, place, i, codes[i]);
-        i += 1;
-    }
-    done
+    codes
+        .iter()
+        .enumerate()
+        .filter(|(i, code)| i % 3 == place && **code == 0)
+        .count() as u64
 }
 
 // Rounds played: the record after them, and how often sources 33 and 34 came and the third call was done.

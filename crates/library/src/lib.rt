@@ -2,49 +2,34 @@
 // preemptive model and one for the hold-on model; the MIDI clock is the same on both.
 #![tactic(auto)]
 
-ghost use Rattle.std.specs.Prelude.{◌≡◌, ◌≤◌, pos, neg_ℤ};
+ghost use Rattle.std.specs.Prelude.{◌≡◌, ◌≤◌};
 ghost use Rattle.model.specs.declared.Policy.TheVariants.{Preemptive, HoldOn};
 ghost use Rattle.model.specs.Refusals.{refusal};
 ghost use Rattle.library.specs.Replies.{reply, ReportReplied, QuoteReplied, RunReplied, ClockReplied};
 
 use clock_table::clock_spacing;
 use layout::put_record;
-use model::{Filled, Outcome, Policy, Quote, Refusal};
+use model::{Policy, Refusal, Rejection};
 use refusals::number_of;
 use spacings::on_knob;
 use ticks::run_accepted;
 
-// x itself.
-fn positive(x: u32) -> i64
-    ensures { result ≡ pos x }
+// A refusal's number and place in one number, below 0.
+fn refusal_code(rejection: Rejection) -> i64
+    requires { rejection.place ≤ 2128 }
+    ensures { result ≡ reply (refusal rejection.why rejection.place) }
 {
-    x as i64
-}
-
-// x below 0.
-fn negative(x: u32) -> i64
-    ensures { result ≡ neg_ℤ (pos x) }
-{
-    0 - positive(x)
-}
-
-// A refusal's number and place in one number.
-fn refusal_code(why: Refusal, place: usize) -> i64
-    requires { place ≤ 2128 }
-    ensures { result ≡ reply (refusal why place) }
-{
-    let number = number_of(why);
-    negative((10000 * number + place) as u32)
+    let number = number_of(rejection.why);
+    -i64::from((10000 * number + rejection.place) as u32)
 }
 
 // The report of a file into a buffer, on one model: its length, or the refusal 13 and no byte changed.
 fn report_file(p: Policy, file: &[u8], out: &mut [u8]) -> i64
     ensures { ReportReplied p file.now out.old out.new result }
 {
-    let filled = report::report(p, file, &mut *out);
-    match filled {
-        Filled::Bytes(n) => positive(n as u32),
-        Filled::Unfilled(why, place) => refusal_code(why, place),
+    match report::report(p, file, out) {
+        Ok(n) => i64::from(n as u32),
+        Err(rejection) => refusal_code(rejection),
     }
 }
 
@@ -66,10 +51,9 @@ pub extern "C" fn bench_hold_report(file: &[u8], out: &mut [u8]) -> i64
 fn quote_file(p: Policy, file: &[u8]) -> i64
     ensures { QuoteReplied p file.now result }
 {
-    let quote = quotes::quote_file(p, file);
-    match quote {
-        Quote::Tempo(t) => positive(t),
-        Quote::Unquoted(why, place) => refusal_code(why, place),
+    match quotes::quote_file(p, file) {
+        Ok(t) => i64::from(t),
+        Err(rejection) => refusal_code(rejection),
     }
 }
 
@@ -92,19 +76,17 @@ fn run_file(p: Policy, file: &[u8], calls: &[u8], outcomes: &mut [u8], state: &m
     ensures { RunReplied p file.now calls.now outcomes.old state.old outcomes.new state.new result }
 {
     let read = files::read(file);
-    let judged = read.outcome;
-    if let Outcome::Refused(why, place) = judged {
-        return refusal_code(why, place);
+    if let Err(rejection) = read.outcome {
+        return refusal_code(rejection);
     }
-    let d = read.description;
     if state.len() < layout::RECORD {
-        return refusal_code(Refusal::ShortPage, 0);
+        return refusal_code(Refusal::ShortPage.at(0));
     }
     if outcomes.len() < calls.len() / 6 {
-        return refusal_code(Refusal::ShortPage, 0);
+        return refusal_code(Refusal::ShortPage.at(0));
     }
-    let ran = run_accepted(p, d, calls, &mut *outcomes);
-    put_record(ran.machine, &mut *state);
+    let ran = run_accepted(p, read.description, calls, outcomes);
+    put_record(ran.machine, state);
     0
 }
 
@@ -133,8 +115,7 @@ pub extern "C" fn bench_clock(tempo: u32) -> i64
     ensures { ClockReplied tempo result }
 {
     if on_knob(tempo) {
-        let spacing = clock_spacing(tempo);
-        return positive(spacing);
+        return i64::from(clock_spacing(tempo));
     }
-    refusal_code(Refusal::OffKnob, 0)
+    refusal_code(Refusal::OffKnob.at(0))
 }

@@ -6,7 +6,7 @@ ghost use Rattle.steps.specs.Steps.{Workable};
 ghost use Rattle.machine.specs.Calls.{TimedAt, due_by, Timed, SoonIs, Hearing, Hears, RunsOn, Going, Advances};
 
 use arrivals::{arrive, at_tempos};
-use model::{Outcome, Policy, Refusal};
+use model::{Policy, Refusal, Rejection};
 use spacings::{Sources, on_knob, spacing_by};
 use steps::{pass, work};
 use wiring::Wiring;
@@ -20,10 +20,10 @@ pub struct Call {
     pub finish: bool,
 }
 
-// A call's end, and the words it leaves.
+// A call's end, and the words it leaves, in both ways.
 #[derive(Clone, Copy)]
 pub struct Advanced {
-    pub outcome: Outcome,
+    pub outcome: Result<(), Rejection>,
     pub words: Words,
 }
 
@@ -81,7 +81,7 @@ fn refused(why: Refusal, words: Words) -> Advanced
     ensures { result ≡ record { outcome = Refused why 0; words = words } }
 {
     Advanced {
-        outcome: Outcome::Refused(why, 0),
+        outcome: Err(why.at(0)),
         words,
     }
 }
@@ -91,7 +91,7 @@ fn admitted(words: Words) -> Advanced
     ensures { result ≡ record { outcome = Done; words = words } }
 {
     Advanced {
-        outcome: Outcome::Done,
+        outcome: Ok(()),
         words,
     }
 }
@@ -137,7 +137,7 @@ fn run_on(p: Policy, wiring: &Wiring, finish: bool, w: Words, used: &mut [u32; 3
 {
     let worked = work(p, wiring, finish, w, used);
     Advanced {
-        outcome: Outcome::Done,
+        outcome: Ok(()),
         words: pass(worked),
     }
 }
@@ -157,9 +157,8 @@ pub fn advance(
     ensures { Advances p wiring.now s.now call w used.old since.old fastest.old result used.new since.new fastest.new }
 {
     let heard = hear(wiring, s, call, w, since, fastest);
-    let outcome = heard.outcome;
-    let Outcome::Done = outcome else {
+    if heard.outcome.is_err() {
         return heard;
-    };
+    }
     run_on(p, wiring, call.finish, heard.words, used)
 }

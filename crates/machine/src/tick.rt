@@ -8,7 +8,7 @@ ghost use Rattle.machine.specs.Calls.{Accepted, TickIs};
 
 use crate::call::{Call, advance};
 use arrivals::raise;
-use model::{Arrivals, Machine, Outcome, Policy, Refusal, Ticked};
+use model::{Arrivals, Machine, Policy, Refusal, Ticked};
 use records::{marked_from, pack, unpack};
 use rules::lawful;
 use spacings::Sources;
@@ -26,7 +26,7 @@ pub fn refused(why: Refusal, m: Machine) -> Ticked
     ensures { result ≡ record { outcome = Refused why 0; machine = m } }
 {
     Ticked {
-        outcome: Outcome::Refused(why, 0),
+        outcome: Err(why.at(0)),
         machine: m,
     }
 }

@@ -7,17 +7,17 @@ ghost use Rattle.model.specs.Refusals.{of_outcome};
 ghost use Rattle.passing.specs.Passing.{Head, Skips, later_by};
 
 use headers::half_at;
-use model::Outcome;
+use model::Rejection;
 use refusals::number_of;
 use words::Words;
 
 // A call's end as a byte: the refusal's number, or 0.
-pub fn code(end: Outcome) -> u8
+pub fn code(end: Result<(), Rejection>) -> u8
     ensures { result ≡ (of_outcome end).number }
 {
     match end {
-        Outcome::Done => 0,
-        Outcome::Refused(why, _) => number_of(why) as u8,
+        Ok(()) => 0,
+        Err(rejection) => number_of(rejection.why) as u8,
     }
 }
 

@@ -10,9 +10,7 @@ use borrow.Author.Tests.{ne_eqb}
 use Rattle.model.specs.declared.Description.{Description}
 use Rattle.model.specs.declared.Policy.{Policy}
 use Rattle.model.specs.declared.Machine.{Machine}
-use Rattle.model.specs.declared.Outcome.{Outcome}
-use Rattle.model.specs.declared.Outcome.TheVariants.{Done}
-use Rattle.model.specs.Refusals.{of_outcome}
+use Rattle.model.specs.Refusals.{Outcome, Done, of_outcome}
 use Rattle.model.specs.Header.{number_in}
 use Rattle.model.specs.Graph.{run_of}
 use Rattle.model.specs.File.{judge}

@@ -2,7 +2,7 @@
 #![tactic(auto)]
 
 ghost use Rattle.std.specs.Prelude.{◌≡◌, ◌-◌, ◌≤◌, ◌<◌, get_or};
-ghost use Rattle.model.specs.declared.Outcome.TheVariants.{Done};
+ghost use Rattle.model.specs.Refusals.{Done};
 ghost use Rattle.model.specs.File.{judge};
 ghost use Rattle.theory.proofs.WellFormed.{WellFormed};
 ghost use Rattle.machine.specs.Calls.{Accepted};
@@ -12,7 +12,7 @@ ghost use Rattle.runs.specs.Run.{RoomOf, RunIs, RunOf};
 use arrivals::raise;
 use machine::call::{Call, advance};
 use machine::tick::refused;
-use model::{Description, Outcome, Policy, Refusal, Ticked};
+use model::{Description, Policy, Refusal, Ticked};
 use passing::{code, later, mask_in, peek, reach, room, skip, tempo_in};
 use records::{begin, since_of, unpack};
 use refusals::blank_machine;
@@ -101,7 +101,7 @@ pub fn run_wired(
     }
     raise(words.peak, &mut fastest);
     Ticked {
-        outcome: Outcome::Done,
+        outcome: Ok(()),
         machine: unpack(&w.rows, &longest, w.sources, words, used, &since, fastest),
     }
 }

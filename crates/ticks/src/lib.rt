@@ -13,7 +13,7 @@ ghost use Rattle.runs.specs.Run.{RunOf};
 ghost use Rattle.ticks.specs.Calls.{untouched};
 
 use machine::tick::tick_judged;
-use model::{Arrivals, Description, Machine, Outcome, Policy, Refusal, Ticked};
+use model::{Arrivals, Description, Machine, Policy, Refusal, Rejection, Ticked};
 use records::{ages_of, since_of};
 use refusals::blank_machine;
 use runs::run_judged;
@@ -21,36 +21,33 @@ use spacings::{gaps_by, gaps_of, on_knob, sources_of};
 use wiring::wiring_of;
 
 // Refusals 1 to 10 as judged, then 11.
-fn judge_at(d: Description, t: u32) -> Outcome
+fn judge_at(d: Description, t: u32) -> Result<(), Rejection>
     ensures { result ≡ judge_at d t }
 {
-    let judged = files::judge(d);
-    let Outcome::Done = judged else {
-        return judged;
-    };
-    if !on_knob(t) {
-        return Outcome::Refused(Refusal::OffKnob, 0);
+    files::judge(d)?;
+    if on_knob(t) {
+        Ok(())
+    } else {
+        Err(Refusal::OffKnob.at(0))
     }
-    Outcome::Done
 }
 
 // Beside a refused start the record is all zeros.
-fn refused_start(why: Refusal, place: usize) -> Ticked
-    ensures { result ≡ unstarted why place }
+fn refused_start(rejection: Rejection) -> Ticked
+    ensures { result ≡ unstarted rejection.why rejection.place }
 {
-    let none = blank_machine();
     Ticked {
-        outcome: Outcome::Refused(why, place),
-        machine: none,
+        outcome: Err(rejection),
+        machine: blank_machine(),
     }
 }
 
 // A refused tick leaves the record as it was.
-fn refused_tick(why: Refusal, place: usize, m: Machine) -> Ticked
-    ensures { result ≡ untouched why place m }
+fn refused_tick(rejection: Rejection, m: Machine) -> Ticked
+    ensures { result ≡ untouched rejection.why rejection.place m }
 {
     Ticked {
-        outcome: Outcome::Refused(why, place),
+        outcome: Err(rejection),
         machine: m,
     }
 }
@@ -59,33 +56,18 @@ fn refused_tick(why: Refusal, place: usize, m: Machine) -> Ticked
 pub fn start(d: Description) -> Ticked
     ensures { StartMeets d result }
 {
-    let judged = files::judge(d);
-    if let Outcome::Refused(why, place) = judged {
-        return refused_start(why, place);
+    if let Err(rejection) = files::judge(d) {
+        return refused_start(rejection);
     }
     let longest = gaps_of(d, 200);
     let since = since_of(&longest);
     let ages = ages_of(&longest, d.source_count, &since, 4294967296);
-    let awake = [false; 32];
-    let used = [0u32; 32];
-    let waiting = [false; 256];
-    let dropped = [false; 256];
-    let fastest = [0u32; 16];
-    let again = [false; 32];
-    let late = [false; 256];
-    let machine = Machine {
-        awake,
-        used,
-        waiting,
-        dropped,
-        ages,
-        fastest,
-        again,
-        late,
-    };
     Ticked {
-        outcome: Outcome::Done,
-        machine,
+        outcome: Ok(()),
+        machine: Machine {
+            ages,
+            ..blank_machine()
+        },
     }
 }
 
@@ -93,12 +75,11 @@ pub fn start(d: Description) -> Ticked
 fn tick_value(p: Policy, d: Description, t: u32, m: Machine, a: Arrivals, finish: bool) -> Ticked
     ensures { result ≡ plain_tick p d t m a finish }
 {
-    let judged = judge_at(d, t);
-    if let Outcome::Refused(why, place) = judged {
-        return refused_tick(why, place, m);
+    if let Err(rejection) = judge_at(d, t) {
+        return refused_tick(rejection, m);
     }
     let s = sources_of(d);
-    let longest = gaps_by(&s.paces, s.count, 200);
+    let longest = gaps_by(&s, 200);
     tick_judged(p, wiring_of(d), s, longest, t, m, a, finish)
 }
 
@@ -116,9 +97,8 @@ pub fn run_accepted(p: Policy, d: Description, calls: &[u8], outcomes: &mut [u8]
 pub fn run(p: Policy, d: Description, calls: &[u8], outcomes: &mut [u8]) -> Ticked
     ensures { RunMeets p d (calls_in calls.now) outcomes.old outcomes.new result }
 {
-    let judged = files::judge(d);
-    if let Outcome::Refused(why, place) = judged {
-        return refused_start(why, place);
+    if let Err(rejection) = files::judge(d) {
+        return refused_start(rejection);
     }
     run_accepted(p, d, calls, outcomes)
 }
@@ -131,7 +111,7 @@ pub fn tick(
     m: &mut Machine,
     a: Arrivals,
     finish: bool,
-) -> Outcome
+) -> Result<(), Rejection>
     ensures { TickMeets p d t m.old a finish result m.new }
 {
     let r = tick_value(p, d, t, *m, a, finish);
@@ -143,10 +123,7 @@ pub fn tick(
 pub fn advanced(p: Policy, d: Description, t: u32, m: Machine, a: Arrivals, finish: bool) -> Ticked
     ensures { TickMeets p d t m a finish result.outcome result.machine }
 {
-    let mut x = m;
-    let o = tick(p, d, t, &mut x, a, finish);
-    Ticked {
-        outcome: o,
-        machine: x,
-    }
+    let mut machine = m;
+    let outcome = tick(p, d, t, &mut machine, a, finish);
+    Ticked { outcome, machine }
 }

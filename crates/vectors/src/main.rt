@@ -29,66 +29,53 @@ fn print_tally(rt: &HostRuntime, t: Tally, what: &str) -> io::Result<()> {
     Ok(())
 }
 
-// What the cases of a data file are, and the model that they are of.
-#[derive(Clone, Copy)]
-enum Cases {
-    Reports(Policy),
-    Runs(Policy),
-}
-
-fn compare_all(s: &[u8], cases: Cases) -> Tally {
-    match cases {
-        Cases::Reports(p) => reports::compare_all(p, s),
-        Cases::Runs(p) => run_cases::compare_all(p, s),
-    }
-}
-
 // Compares the cases of a data file.
-fn compare_file(rt: &HostRuntime, path: &str, cases: Cases, what: &str) -> io::Result<()> {
+fn compare_file<F: FnOnce(&[u8]) -> Tally>(
+    rt: &HostRuntime,
+    path: &str,
+    compare: F,
+    what: &str,
+) -> io::Result<()>
+    requires { F.IsAlwaysCallable compare }
+{
     let mut data = [0u8; 294912];
     let n = read_data(rt, path, &mut data)?;
-    print_tally(rt, compare_all(&data[..n], cases), what)
+    print_tally(rt, compare(&data[..n]), what)
+}
+
+// The reports of a data file on a model, and its runs.
+fn compare_reports(rt: &HostRuntime, path: &str, p: Policy, what: &str) -> io::Result<()> {
+    compare_file(rt, path, |s| reports::compare_all(p, s), what)
+}
+
+fn compare_runs(rt: &HostRuntime, path: &str, p: Policy, what: &str) -> io::Result<()> {
+    compare_file(rt, path, |s| run_cases::compare_all(p, s), what)
 }
 
 fn main(rt: HostRuntime) -> io::Result<()> {
     let plain = Policy::Preemptive;
     let hold = Policy::HoldOn;
-    compare_file(&rt, "reports.bin", Cases::Reports(plain), "reports agree")?;
-    compare_file(
-        &rt,
-        "swing.bin",
-        Cases::Reports(plain),
-        "reports with swing agree",
-    )?;
-    compare_file(&rt, "latched-runs.bin", Cases::Runs(plain), "runs agree")?;
-    compare_file(
-        &rt,
-        "knob-runs.bin",
-        Cases::Runs(plain),
-        "runs from before C-15 agree",
-    )?;
-    compare_file(
-        &rt,
-        "steady-runs.bin",
-        Cases::Runs(plain),
-        "runs at one tempo agree",
-    )?;
-    compare_file(
+    compare_reports(&rt, "reports.bin", plain, "reports agree")?;
+    compare_reports(&rt, "swing.bin", plain, "reports with swing agree")?;
+    compare_runs(&rt, "latched-runs.bin", plain, "runs agree")?;
+    compare_runs(&rt, "knob-runs.bin", plain, "runs from before C-15 agree")?;
+    compare_runs(&rt, "steady-runs.bin", plain, "runs at one tempo agree")?;
+    compare_reports(
         &rt,
         "hold-reports.bin",
-        Cases::Reports(hold),
+        hold,
         "reports of the hold-on model agree",
     )?;
-    compare_file(
+    compare_runs(
         &rt,
         "latched-hold-runs.bin",
-        Cases::Runs(hold),
+        hold,
         "runs of the hold-on model agree",
     )?;
-    compare_file(
+    compare_runs(
         &rt,
         "hold-runs.bin",
-        Cases::Runs(hold),
+        hold,
         "runs of the hold-on model from before C-15 agree",
     )
 }

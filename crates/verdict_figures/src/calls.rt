@@ -3,8 +3,8 @@
 use cases::file::described;
 use cases::page::begins;
 use cases::verdict::verdict_of;
-use cases::{Tally, build, counted, is_outcome};
-use model::{Description, Filled, Policy, Quote, Verdict};
+use cases::{Tally, build, counted, is_outcome, tells};
+use model::{Description, Policy, Verdict};
 use refusals::number_of;
 
 // The number of the refusal of a report into a part of a page, or 0.
@@ -12,19 +12,16 @@ fn refusal(p: Policy, file: &[u8], page: &mut [u8], size: usize) -> usize {
     if page.len() < size {
         return 0;
     }
-    let filled = report::report(p, file, &mut page[..size]);
-    match filled {
-        Filled::Bytes(_) => 0,
-        Filled::Unfilled(why, _) => number_of(why),
+    match report::report(p, file, &mut page[..size]) {
+        Ok(_) => 0,
+        Err(rejection) => number_of(rejection.why),
     }
 }
 
 // The report of a file fills a buffer of `size` bytes, number 0, or is refused with a number.
 pub fn fills(t: Tally, file: &[u8], size: usize, number: usize) -> Tally {
     let mut page = [0u8; report::LONGEST];
-    let p = t.policy;
-    let told = refusal(p, file, &mut page, size);
-    counted(t, told == number)
+    counted(t, refusal(t.policy, file, &mut page, size) == number)
 }
 
 fn fills_front(t: Tally, page: &[u8], n: usize, size: usize, number: usize) -> Tally {
@@ -43,30 +40,22 @@ pub fn longest(t: Tally, size: usize, number: usize) -> Tally {
 
 // A file is read and written back byte for byte.
 pub fn writes_back(t: Tally, file: &[u8]) -> Tally {
-    let d = described(file);
     let mut page = [0u8; 1872];
-    let filled = files::write(d, &mut page);
-    let Filled::Bytes(n) = filled else {
+    let Ok(n) = files::write(described(file), &mut page) else {
         return counted(t, false);
     };
-    let agree = begins(&page, n, file);
-    counted(t, agree)
+    counted(t, begins(&page, n, file))
 }
 
 // The verdict call at tempo T is done, number 0, or refused with a number.
 pub fn judged_at(t: Tally, file: &[u8], tempo: u32, number: usize) -> Tally {
-    let d = described(file);
-    let p = t.policy;
-    let v = verdicts::verdicts(p, d, tempo);
-    let outcome = v.outcome;
-    counted(t, is_outcome(outcome, number, 0))
+    let v = verdicts::verdicts(t.policy, described(file), tempo);
+    counted(t, is_outcome(v.outcome, number, 0))
 }
 
 // The link at a place counted from 1 is in doubt at a tempo, with a spacing.
 pub fn doubtful(t: Tally, file: &[u8], tempo: u32, place: usize, spacing: u32) -> Tally {
-    let p = t.policy;
-    let v = verdict_of(p, file, tempo, place);
-    let Verdict::Doubt(m) = v else {
+    let Verdict::Doubt(m) = verdict_of(t.policy, file, tempo, place) else {
         return counted(t, false);
     };
     counted(t, m == spacing)
@@ -74,15 +63,8 @@ pub fn doubtful(t: Tally, file: &[u8], tempo: u32, place: usize, spacing: u32) -
 
 // The quote of a record is a tempo, number 0, or refused with a number and a place.
 pub fn quotes(t: Tally, d: Description, number: usize, value: u32) -> Tally {
-    let p = t.policy;
-    let quote = quotes::quote(p, d);
-    match quote {
-        Quote::Tempo(q) => counted(t, (number == 0) & (q == value)),
-        Quote::Unquoted(why, place) => {
-            let n = number_of(why);
-            counted(t, (n == number) & (place == value as usize))
-        }
-    }
+    let quote = quotes::quote(t.policy, d).map(|q| q as usize);
+    counted(t, tells(quote, number, value as usize))
 }
 
 // The quote of a file's record.

@@ -4,7 +4,7 @@
 
 use level::{Level, critical_of};
 use loads::levels::{hold_starts_of, levels_of, starts_of};
-use model::{Description, Outcome, Policy, Refusal, Verdict, VerdictSlot, Verdicts};
+use model::{Description, Policy, Refusal, Rejection, Verdict, VerdictSlot, Verdicts};
 use neighbourhoods::{orders_held, orders_of};
 use slots::slots_at;
 use spacings::{Sources, gaps_by, on_knob, sources_of};
@@ -109,11 +109,11 @@ pub fn tables_of(p: Policy, d: Description, brings: &[u64; 48], works: &[u64; 32
 }
 
 // Beside a refusal every verdict is free.
-fn refused(why: Refusal, place: usize) -> Verdicts
-    ensures { result ≡ refused_verdicts why place }
+fn refused(rejection: Rejection) -> Verdicts
+    ensures { result ≡ refused_verdicts rejection.why rejection.place }
 {
     Verdicts {
-        outcome: Outcome::Refused(why, place),
+        outcome: Err(rejection),
         slots: [VerdictSlot {
             verdict: Verdict::Free,
         }; 256],
@@ -124,17 +124,17 @@ fn refused(why: Refusal, place: usize) -> Verdicts
 pub fn verdicts(p: Policy, d: Description, t: u32) -> Verdicts
     ensures { result ≡ verdicts p d t }
 {
-    let judged = files::examine_record(d);
-    if let Outcome::Refused(why, place) = judged.outcome {
-        return refused(why, place);
-    }
+    let judged = match files::examine_record(d) {
+        Ok(judged) => judged,
+        Err(rejection) => return refused(rejection),
+    };
     if !on_knob(t) {
-        return refused(Refusal::OffKnob, 0);
+        return refused(Refusal::OffKnob.at(0));
     }
-    let tables = tables_of(p, d, &judged.brings, &judged.works);
+    let tables = tables_of(p, d, &judged.worked.brings, &judged.worked.works);
     let gaps = gaps_by(&tables.sources, t);
     Verdicts {
-        outcome: Outcome::Done,
+        outcome: Ok(()),
         slots: slots_at(d, &tables, &gaps),
     }
 }

@@ -16,6 +16,6 @@ returns-then-on_knob c =
     -- the tempo is on the knob
     let on : on_knob c.args.tempo ≡ true = sym c.on_knob.ensures ∙ c.if-on_knob.true in
     let t = c.args.tempo in
-    let spacing : c.clock_spacing-spacing.result ≡ clock_spacing t = c.clock_spacing-spacing.ensures in
-    to_z-of_z w64 c.positive.result (record { sfits = c.positive.type_inv }) ∙ c.positive.ensures ∙ reply_done c.clock_spacing-spacing.result ∙ ap (λ x. reply (accepted x)) spacing
+    let spacing : c.clock_spacing.result ≡ clock_spacing t = c.clock_spacing.ensures in
+    to_z-of_z w64 c.from.result (record { sfits = c.from.type_inv }) ∙ c.from.ensures ∙ reply_done c.clock_spacing.result ∙ ap (λ x. reply (accepted x)) spacing
     ∙ ap (λ (b : Bool). reply (cond b (accepted (clock_spacing t)) (refusal OffKnob 0))) (sym on)

@@ -9,7 +9,7 @@ use Rattle.library.specs.Replies.{reply}
 use Rattle.library.proofs.quote_file.Goals as goal
 
 pub refusal_code-requires : goal.refusal_code-requires
-refusal_code-requires c = quoted_place c.args.p c.args.file.now c.quote_file-quote.result c.in-Unquoted.why c.in-Unquoted.place (λ i. search rules) c.quote_file-quote.ensures c.in-Unquoted.is
+refusal_code-requires c = quoted_place c.args.p c.args.file.now c.quote_file.result c.in-Err.rejection.why c.in-Err.rejection.place (λ i. search rules) c.quote_file.ensures c.in-Err.is
 
-pub returns-in-Tempo : goal.returns-in-Tempo
-returns-in-Tempo c = to_z-of_z w64 c.positive.result (record { sfits = c.positive.type_inv }) ∙ c.positive.ensures ∙ reply_done c.in-Tempo.t ∙ ap (λ (q : Quote). reply (of_quote q)) (sym c.in-Tempo.is ∙ c.quote_file-quote.ensures)
+pub returns-in-Ok : goal.returns-in-Ok
+returns-in-Ok c = to_z-of_z w64 c.from.result (record { sfits = c.from.type_inv }) ∙ c.from.ensures ∙ reply_done c.in-Ok.t ∙ ap (λ (q : Quote). reply (of_quote q)) (sym c.in-Ok.is ∙ c.quote_file.ensures)

@@ -11,10 +11,10 @@ use Rattle.library.specs.Replies.{reply}
 use Rattle.library.proofs.report_file.Goals as goal
 
 pub overflow_cast-n : goal.overflow_cast-n
-overflow_cast-n c = omega (arith, filled_most c.args.p c.args.file.now c.args.out.now c.report-filled.result c.in-Bytes.n (report_length c.args.p c.args.file.now (λ i. search rules)) c.report-filled.ensures.0 c.in-Bytes.is)
+overflow_cast-n c = omega (arith, filled_most c.args.p c.args.file.now c.args.out.now c.report.result c.in-Ok.n (report_length c.args.p c.args.file.now (λ i. search rules)) c.report.ensures.0 c.in-Ok.is)
 
 pub refusal_code-requires : goal.refusal_code-requires
-refusal_code-requires c = filled_place c.args.p c.args.file.now c.args.out.now c.report-filled.result c.in-Unfilled.why c.in-Unfilled.place c.report-filled.ensures.0 c.in-Unfilled.is
+refusal_code-requires c = filled_place c.args.p c.args.file.now c.args.out.now c.report.result c.in-Err.rejection.why c.in-Err.rejection.place c.report.ensures.0 c.in-Err.is
 
-pub returns-in-Bytes : goal.returns-in-Bytes
-returns-in-Bytes c = (to_z-of_z w64 c.positive.result (record { sfits = c.positive.type_inv }) ∙ c.positive.ensures ∙ reply_done c.in-Bytes.n ∙ ap (λ (f : Filled). reply (of_filled f)) (sym c.in-Bytes.is ∙ c.report-filled.ensures.0), c.report-filled.ensures.1)
+pub returns-in-Ok : goal.returns-in-Ok
+returns-in-Ok c = (to_z-of_z w64 c.from.result (record { sfits = c.from.type_inv }) ∙ c.from.ensures ∙ reply_done c.in-Ok.n ∙ ap (λ (f : Filled). reply (of_filled f)) (sym c.in-Ok.is ∙ c.report.ensures.0), c.report.ensures.1)

@@ -9,12 +9,12 @@ use Rattle.library.proofs.RunLaws.{read_most, read_done, run_unread, run_short_r
 use Rattle.library.proofs.run_file.Goals as goal
 
 pub refusal_code-requires : goal.refusal_code-requires
-refusal_code-requires c = let a = c.args in read_most a.file.now c.read-read.result c.read-read.ensures c.in-Refused.why c.in-Refused.place c.in-Refused.is
+refusal_code-requires c = let a = c.args in read_most a.file.now c.read-read.result c.read-read.ensures c.in-Err.rejection.why c.in-Err.rejection.place c.in-Err.is
 
-pub returns-in-Refused : goal.returns-in-Refused
-returns-in-Refused c =
+pub returns-in-Err : goal.returns-in-Err
+returns-in-Err c =
     let a = c.args in
-    let y = run_refused a.file.now c.read-read.result c.read-read.ensures a.calls.now a.outcomes.now a.state.now a.p (read_file a.file.now).description c.in-Refused.why c.in-Refused.place (run_unread a.file.now c.read-read.result c.read-read.ensures a.calls.now a.outcomes.now a.state.now c.in-Refused.why c.in-Refused.place c.in-Refused.is) in
+    let y = run_refused a.file.now c.read-read.result c.read-read.ensures a.calls.now a.outcomes.now a.state.now a.p (read_file a.file.now).description c.in-Err.rejection.why c.in-Err.rejection.place (run_unread a.file.now c.read-read.result c.read-read.ensures a.calls.now a.outcomes.now a.state.now c.in-Err.rejection.why c.in-Err.rejection.place c.in-Err.is) in
     record { answer = to_z-of_z w64 c.refusal_code.result (record { sfits = c.refusal_code.type_inv }) ∙ c.refusal_code.ensures ∙ y.0; codes = y.1; bytes = y.2 }
 
 pub returns-then-state-lt-RECORD : goal.returns-then-state-lt-RECORD

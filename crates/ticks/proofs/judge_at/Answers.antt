@@ -1,12 +1,17 @@
-use mathlib.Core.Path.{sym, ◌∙◌}
+use Rattle.std.proofs.Common.{rules}
+use Rattle.std.specs.Prelude.{Err}
+use mathlib.Core.Path.{◌≡◌, sym, ◌∙◌}
 use Rattle.ticks.proofs.Laws.{at_refused, at_off, at_done}
 use Rattle.ticks.proofs.judge_at.Goals as goal
 
-pub returns-in_default : goal.returns-in_default
-returns-in_default c = let a = c.args in let told = c.in_default in told.is ∙ at_refused a.d a.t told.field-0 told.field-1 (sym c.judge-judged.ensures ∙ told.is)
+pub returns-in_err-judge : goal.returns-in_err-judge
+returns-in_err-judge c =
+    let x = c.in_err-judge.field-0.0 in
+    let h : c.from_residual.result ≡ Err x = search rules in
+    h ∙ at_refused c.args.d c.args.t x.why x.place (sym c.judge.ensures ∙ c.in_err-judge.was)
 
-pub returns-then-not-on_knob : goal.returns-then-not-on_knob
-returns-then-not-on_knob c = let a = c.args in at_off a.d a.t (sym c.judge-judged.ensures ∙ c.in-Done.is) (sym c.on_knob.ensures ∙ c.if-not-on_knob.true)
+pub returns-then-on_knob : goal.returns-then-on_knob
+returns-then-on_knob c = at_done c.args.d c.args.t (sym c.judge.ensures ∙ c.in_ok-judge.was) (sym c.on_knob.ensures ∙ c.if-on_knob.true)
 
-pub returns : goal.returns
-returns c = let a = c.args in at_done a.d a.t (sym c.judge-judged.ensures ∙ c.in-Done.is) (sym c.on_knob.ensures ∙ c.if-not-on_knob.false)
+pub returns-else-on_knob : goal.returns-else-on_knob
+returns-else-on_knob c = rw (c.at.ensures) (at_off c.args.d c.args.t (sym c.judge.ensures ∙ c.in_ok-judge.was) (sym c.on_knob.ensures ∙ c.if-on_knob.false))

@@ -7,13 +7,13 @@ use Rattle.theory.proofs.FileLaws.{judge_well_formed}
 use Rattle.ticks.proofs.Laws.{start_refused, start_done}
 use Rattle.ticks.proofs.start.Goals as goal
 
-pub returns-in-Refused : goal.returns-in-Refused
-returns-in-Refused c = let told = c.in-Refused in c.refused_start.ensures ∙ start_refused c.args.d told.why told.place (sym c.judge-judged.ensures ∙ told.is)
+pub returns-in-Err : goal.returns-in-Err
+returns-in-Err c = let told = c.in-Err in c.refused_start.ensures ∙ start_refused c.args.d told.rejection.why told.rejection.place (sym c.judge.ensures ∙ told.is)
 
 pub gaps_of-longest-requires : goal.gaps_of-longest-requires
-gaps_of-longest-requires c = (judge_well_formed c.args.d (typed_widths c.args.d _ c.well_formed.0) (sym c.judge-judged.ensures ∙ c.in_default.is), omega arith, omega arith)
+gaps_of-longest-requires c = (judge_well_formed c.args.d (typed_widths c.args.d _ c.well_formed.0) (sym c.judge.ensures ∙ c.in_default.is), omega arith, omega arith)
 
 pub returns : goal.returns
 returns c =
     let d = c.args.d in
-    start_done d _ (sym c.judge-judged.ensures ∙ c.in_default.is) (idle_aged d c.gaps_of-longest.result c.since_of-since.result c.ages_of-ages.result (judge_well_formed c.args.d (typed_widths c.args.d _ c.well_formed.0) (sym c.judge-judged.ensures ∙ c.in_default.is)) c.gaps_of-longest.ensures c.since_of-since.ensures c.ages_of-ages.ensures)
+    start_done d _ (sym c.judge.ensures ∙ c.in_default.is) (idle_aged d c.gaps_of-longest.result c.since_of-since.result c.ages_of-ages.result (judge_well_formed c.args.d (typed_widths c.args.d _ c.well_formed.0) (sym c.judge.ensures ∙ c.in_default.is)) c.gaps_of-longest.ensures c.since_of-since.ensures c.ages_of-ages.ensures)

@@ -1,7 +1,7 @@
 // Which sources of a level go together on a wheel, and each wheel's period: a common multiple of their spacings.
 #![tactic(auto)]
 
-ghost use Rattle.std.specs.Prelude.{◌≡◌, ◌*◌, ◌/◌, ◌≤◌, ◌<◌, ◌^◌, IfSome, length};
+ghost use Rattle.std.specs.Prelude.{◌≡◌, ◌*◌, ◌/◌, ◌≤◌, ◌<◌, ◌^◌, IfSome};
 
 use rounds::Level;
 
@@ -106,8 +106,8 @@ fn choice(level: &Level, wheels: &[usize; 16], period: u64, most: u64) -> Option
 
 // One wheel: as long as a source can join it, the best one does. Its period, if that is more than 1.
 fn fill(level: &Level, k: usize, most: u64, wheels: &mut [usize; 16]) -> Option<u64>
-    requires { (most ≤ 1048576) × (length wheels.old ≡ 16) }
-    ensures { IfSome result (λ period. period ≤ most) × (length wheels.new ≡ 16) }
+    requires { most ≤ 1048576 }
+    ensures { IfSome result (λ period. period ≤ most) }
 {
     let mut period = 1;
     for _ in 0..level.count {

@@ -1,7 +1,7 @@
 // The rounds that work out how long a task's level may stay busy.
 #![tactic(auto)]
 
-ghost use Rattle.std.specs.Prelude.{◌≡◌, ◌+◌, ◌*◌, ◌/◌, ◌≤◌, ◌<◌, length};
+ghost use Rattle.std.specs.Prelude.{◌≡◌, ◌+◌, ◌*◌, ◌/◌, ◌≤◌, ◌<◌};
 ghost use Rattle.model.specs.Delays.{spacings};
 ghost use Rattle.rounds.specs.Level.{LevelOn, round_in, Counted, more_by, NextRound, RoundAt, ShareOf, Shares, FlowEnd, Jump, ReachedBy};
 
@@ -104,7 +104,7 @@ pub struct Level<'a> {
 impl Level<'_> {
     // A round at d: what the level may bring in a stretch of d ticks, with the firings of every source counted.
     pub fn round_at(&self, d: u64, ends: &mut [u64; 16]) -> u64
-        requires { (length ends.old ≡ 16) × (d ≤ 1000000000) }
+        requires { d ≤ 1000000000 }
         ensures { let level = self.now in (result ≡ round_in level.start level.loads.now level.gaps.now level.count d) × Counted level.loads.now level.gaps.now level.count d ends.new }
     {
         let mut sum = self.start;

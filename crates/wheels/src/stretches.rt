@@ -1,6 +1,6 @@
 // Stretches without a fixed point: as long as the wheels waste more than the level has to spare, the next eight blocks have none.
 
-ghost use Rattle.std.specs.Prelude.{◌≡◌, ℕ, ◌+◌, ◌*◌, ◌/◌, ◌%◌, ◌^◌, ◌≤◌, ◌<◌, get_or, length};
+ghost use Rattle.std.specs.Prelude.{◌≡◌, ℕ, ◌+◌, ◌*◌, ◌/◌, ◌%◌, ◌^◌, ◌≤◌, ◌<◌, get_or};
 ghost use Rattle.rounds.specs.Level.{RoundAt, Counted};
 ghost use Rattle.wheels.specs.Wheel.{BuiltOn, Turned, waste_on, left_in, Passes};
 
@@ -53,7 +53,7 @@ impl Wheeled<'_> {
 
     // Where each wheel stands at d.
     fn turn_to(&self, d: u64, turns: &mut [u64; 16])
-        requires { (1 ≤ d) × (length turns.old ≡ 16) }
+        requires { 1 ≤ d }
         ensures { Turned self.now.plan.now.periods self.now.built.count d turns.new }
     {
         for k in 0..self.built.count {
@@ -63,7 +63,7 @@ impl Wheeled<'_> {
 
     // The least waste of all wheels together in the stretch from where they stand; then each is turned some ticks on.
     fn waste_passed(&self, width: u64, turns: &mut [u64; 16]) -> u64
-        requires { let wheels = self.now in (width ≤ 1000000000) × ((k : ℕ) → k < wheels.built.count → get_or turns.old k 0 ≤ 1000000000) × ((k : ℕ) → k < wheels.built.count → get_or wheels.places.now k 0 + get_or turns.old k 0 / 2 ^ wheels.block.shift < 65536) × (length turns.old ≡ 16) }
+        requires { let wheels = self.now in (width ≤ 1000000000) × ((k : ℕ) → k < wheels.built.count → get_or turns.old k 0 ≤ 1000000000) × ((k : ℕ) → k < wheels.built.count → get_or wheels.places.now k 0 + get_or turns.old k 0 / 2 ^ wheels.block.shift < 65536) }
         ensures { let wheels = self.now in (result ≡ waste_on (2 ^ wheels.block.shift) wheels.places.now wheels.table.now turns.old wheels.built.count) × (result ≤ 1048560) × ((d : ℕ) → 1 ≤ d → Turned wheels.plan.now.periods wheels.built.count d turns.old → Turned wheels.plan.now.periods wheels.built.count (d + width) turns.new) }
     {
         let mut sum = 0;

@@ -1,6 +1,6 @@
 // The tables of the wheels: for each block of a period, the least that a wheel's sources waste in eight blocks from there on.
 
-ghost use Rattle.std.specs.Prelude.{◌≡◌, cond, ◌+◌, ◌*◌, ◌/◌, ◌≤◌, ◌<◌, IfSome, eqb, get_or, length};
+ghost use Rattle.std.specs.Prelude.{◌≡◌, cond, ◌+◌, ◌*◌, ◌/◌, ◌≤◌, ◌<◌, IfSome, eqb, get_or};
 ghost use Rattle.rounds.specs.Level.{LevelOn};
 ghost use Rattle.wheels.specs.Wheel.{Kept, Sifted, PartOf, Light, part_flow, WasteOf, Filled, Lowered, PutWheel, BuiltOn};
 
@@ -71,7 +71,7 @@ fn on_wheel(load: u64, wheel: usize, k: usize) -> u64
 
 // The loads of the sources of wheel k, and their flow.
 fn part_of(level: &Level, plan: &Plan, k: usize, part: &mut [u64; 16]) -> u64
-    requires { let its = level.now in Sifted its.loads.now its.gaps.now plan.now.wheels plan.now.periods its.count plan.now.count × (k < plan.now.count) × (length part.old ≡ 16) }
+    requires { let its = level.now in Sifted its.loads.now its.gaps.now plan.now.wheels plan.now.periods its.count plan.now.count × (k < plan.now.count) }
     ensures { let its = level.now in PartOf its.loads.now plan.now.wheels its.count k part.new × (result ≡ part_flow its.loads.now its.gaps.now plan.now.wheels its.count k) × (result ≤ 70368744177664) }
 {
     let mut flow = 0;
@@ -112,7 +112,7 @@ fn quiet_end(ends: &[u64; 16], n: usize, place: u64, end: u64) -> u64
 // Fills the entries of a wheel: for each block, the least waste of its sources there. A place is passed to where a source
 // fires anew, and by a 32nd of a block at least, so that a very narrow spacing does not make the places many.
 fn fill(part: &Level, flow: u64, row: Row, table: &mut [u16; 65536])
-    requires { let its = part.now in (its.start ≡ 0) × Light its.loads.now its.gaps.now its.count × (length table.old ≡ 65536) }
+    requires { let its = part.now in (its.start ≡ 0) × Light its.loads.now its.gaps.now its.count }
     ensures { let its = part.now in Filled its.loads.now its.gaps.now its.count flow row.block row.entries row.place table.old table.new }
 {
     let mut ends = [0; 16];
@@ -133,7 +133,7 @@ fn fill(part: &Level, flow: u64, row: Row, table: &mut [u16; 65536])
 
 // Lowers each entry of a wheel to the one that many places on.
 fn spread(row: Row, many: usize, table: &mut [u16; 65536])
-    requires { (1 ≤ many) × (many ≤ 8) × (length table.old ≡ 65536) }
+    requires { (1 ≤ many) × (many ≤ 8) }
     ensures { Lowered row.place row.entries many table.old table.new }
 {
     for i in 0..row.entries.saturating_sub(many) {
@@ -173,7 +173,7 @@ fn slope_of(flow: u64) -> u64
 
 // Puts one wheel's table at its entries, for the loads of its sources: the waste in each block, then in two, in four, in eight.
 fn put_wheel(level: &Level, part: &[u64; 16], flow: u64, row: Row, table: &mut [u16; 65536])
-    requires { let its = level.now in LevelOn 0 part.now its.gaps.now its.count × Light part.now its.gaps.now its.count × (length table.old ≡ 65536) }
+    requires { let its = level.now in LevelOn 0 part.now its.gaps.now its.count × Light part.now its.gaps.now its.count }
     ensures { PutWheel part.now level.now.gaps.now level.now.count flow row.block row.entries row.place table.old table.new }
 {
     let part = Level {
@@ -196,7 +196,7 @@ pub fn build(
     places: &mut [usize; 16],
     table: &mut [u16; 65536],
 ) -> Built
-    requires { let its = level.now in Sifted its.loads.now its.gaps.now plan.now.wheels plan.now.periods its.count plan.now.count × (1 ≤ block) × (block ≤ 65536) × (length places.old ≡ 16) × (length table.old ≡ 65536) }
+    requires { let its = level.now in Sifted its.loads.now its.gaps.now plan.now.wheels plan.now.periods its.count plan.now.count × (1 ≤ block) × (block ≤ 65536) }
     ensures { let its = level.now in BuiltOn its.loads.now its.gaps.now plan.now.wheels its.count plan.now.periods block places.new table.new result }
 {
     let mut part = [0; 16];

@@ -5,4 +5,4 @@ use lib.ListN.{length}
 use Rattle.periods.proofs.fill.Given as goal
 
 abbrev pub invariant-loop : goal.invariant-loop
-invariant-loop l = (l.period - 1 ≤ l.most - 1) × (length l.wheels ≡ 16)
+invariant-loop l = (l.period - 1 ≤ l.most - 1)

@@ -11,8 +11,8 @@ loop-k-init c =
     let a = c.args in
     let y = a.level.now in
     let w = a.plan.now.wheels in (
-      c.requires.3,
-      c.requires.4,
+      c.told-places,
+      c.told-table,
       refl,
       omega arith,
       sum-none (part_flow y.loads.now y.gaps.now w y.count),
@@ -27,7 +27,7 @@ put_wheel-requires c =
     let L = c.loop-k in
     let g = level_any y.start y.loads.now y.gaps.now y.count y.on_scale in
     let x = part_level y.loads.now y.gaps.now a.plan.now.wheels a.plan.now.periods _ y.count a.plan.now.count L.k g c.requires.0 (omega arith) c.part_of-share.ensures.0 in
-    (x.0, x.1, L.invariant.1)
+    x
 
 pub loop-k-preserved : goal.loop-k-preserved
 loop-k-preserved c =

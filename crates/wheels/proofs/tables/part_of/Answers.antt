@@ -15,7 +15,7 @@ unfolding part_flow
 flow-whole loads gaps wheels n k flow e = e
 
 pub loop-u-init : goal.loop-u-init
-loop-u-init c = let a = c.args in (c.requires.2, (λ v p. absurd (omega arith)), sum-none (λ v. part_at a.level.now.loads.now a.plan.now.wheels a.k v * 4398046511104 / get_or a.level.now.gaps.now v 0), omega arith)
+loop-u-init c = let a = c.args in (c.told-part, (λ v p. absurd (omega arith)), sum-none (λ v. part_at a.level.now.loads.now a.plan.now.wheels a.k v * 4398046511104 / get_or a.level.now.gaps.now v 0), omega arith)
 
 pub loop-u-preserved : goal.loop-u-preserved
 unfolding part_at

@@ -11,7 +11,7 @@ use Rattle.wheels.proofs.stretches.Wheeled.waste_passed.Goals as goal
 pub loop-k-init : goal.loop-k-init
 loop-k-init c =
     let a = c.args in
-    (c.requires.3, (λ j p. absurd (omega arith)), (λ j p. refl), waste_none (2 ^ a.self.now.block.shift) a.self.now.places.now a.self.now.table.now a.turns.now, omega arith)
+    (c.told-turns, (λ j p. absurd (omega arith)), (λ j p. refl), waste_none (2 ^ a.self.now.block.shift) a.self.now.places.now a.self.now.table.now a.turns.now, omega arith)
 
 pub loop-k-preserved : goal.loop-k-preserved
 loop-k-preserved c =

@@ -4,6 +4,7 @@ pub mod Bools
 pub mod Range
 pub mod Table
 pub mod Front
+pub mod Chains
 pub mod Pigeonhole
 pub mod Outcomes
 pub mod Decimal

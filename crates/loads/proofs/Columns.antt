@@ -1,19 +1,20 @@
 -- Columns of loads, filled from the highest task down, and totals. Assumes nothing.
-use Prim.Native.Nat.{ℕ, zero, suc, ◌+◌, ◌-◌, ◌*◌, ◌≤◌, ◌<◌, max}
+use Prim.Native.Nat.{ℕ, zero, suc, ◌+◌, ◌-◌, ◌≤◌, ◌<◌}
 use mathlib.Core.Path.{◌≡◌, refl, sym, ap, ◌∙◌}
 use mathlib.Core.Bool.{true, false}
-use mathlib.Core.List.{List}
+use mathlib.Core.List.{List, []}
 use native.Mathlib.Omega.{arith}
-use lib.ListN.{length, get_or, set, length-set, replicate, get_or-replicate}
+use lib.ListN.{length, get_or, set, take, length-set, replicate, get_or-replicate}
+use Rattle.std.proofs.lemmas.List.{get_or-take, length-take-le}
 use lib.Seq.{get_or-set_same, get_or-set_other}
 use lib.Dec.{ltb}
 use borrow.Author.Tests.{lt-ltb, le-ltb}
 use Rattle.model.specs.Basics.{sum_to, top_n, given}
 use Rattle.lemmas.proofs.Tests.{Cmp, less, same, more, cmp}
-use Rattle.lemmas.proofs.Range.{sum_to-le, given_le, any_at, any_none, top_more}
+use Rattle.lemmas.proofs.Range.{sum_to-le, given_le, any_at, any_none}
 use Rattle.sets.specs.Sets.{member}
 use Rattle.works.specs.Works.{load_by}
-use Rattle.loads.specs.Tables.{Column, LevelColumn, held, heavy_by}
+use Rattle.loads.specs.Tables.{Column, held, heavy_by}
 use Rattle.loads.proofs.Sums.{load_by-step, load_by-none}
 
 -- one more entry of a column is worked out
@@ -47,11 +48,8 @@ unfolding top_n
 top_cong f g zero h = refl
 top_cong f g (suc n) h = let e : 0 + n ≡ n = omega arith in rw (top_cong f g n (λ k p. h k (omega arith)), e, h n (omega arith)) refl
 
-pub top_set : (l : List ℕ) (k x : ℕ) → k < length l → top_n (λ i. get_or (set l k x) i 0) 0 (k + 1) ≡ max (top_n (λ i. get_or l i 0) 0 k) x
-top_set l k x p =
-    top_more (λ i. get_or (set l k x) i 0) k
-    ∙ ap (λ y. max y (get_or (set l k x) k 0)) (top_cong _ _ k (λ i q. get_or-set_other l k i x 0 (λ z. omega arith)))
-    ∙ ap (max (top_n (λ i. get_or l i 0) 0 k)) (get_or-set_same l k x 0 p)
+pub top_front : (l : List ℕ) (n : ℕ) → n ≤ length l → top_n (λ k. get_or (take n l) k 0) 0 (length (take n l)) ≡ top_n (λ k. get_or l k 0) 0 n
+top_front l n h = ap (top_n (λ k. get_or (take n l) k 0) 0) (length-take-le n l h) ∙ top_cong _ _ n (λ k p. get_or-take n l k 0 p)
 
 -- all works together are no less than a node's load
 pub load_under : (row : ℕ) (works : List ℕ) (n : ℕ) → load_by row works n 1 ≤ sum_to (λ k. get_or works (k - 1) 0) 1 n
@@ -71,45 +69,25 @@ heavy_none brings works n h = any_none (λ r. ltb 1000000000 (load_by (get_or br
 pub zero_entry : (n k : ℕ) → k < n → get_or {A = ℕ} (replicate n 0) k 0 ≡ 0
 zero_entry n k p = get_or-replicate n k 0 0 p
 
--- one more entry of a level is worked out
-pub level_none : (brings : List ℕ) (row j w : ℕ) (l : List ℕ) → LevelColumn brings row j w 0 l l
-level_none brings row j w l = record { long = refl; here = λ u p. absurd (omega arith); above = λ k p. refl }
-
-pub level_more : (brings : List ℕ) (row j w u : ℕ) (l₀ l : List ℕ) (x : ℕ) → 16 * row + u < length l₀ → u < 16 → x ≡ get_or l (16 * row + 16 + u) 0 + given (member (get_or brings (32 + u) 0) j) w → LevelColumn brings row j w u l₀ l → LevelColumn brings row j w (u + 1) l₀ (set l (16 * row + u) x)
-level_more brings row j w u l₀ l x p few e C =
-    record {
-      long = simp length-set C.long;
-      here = λ k q. low k q (cmp k u);
-      above = λ k q. get_or-set_other l (16 * row + u) k x 0 (λ z. omega arith) ∙ C.above k (omega arith);
-    }
-  where
-    now : get_or (set l (16 * row + u) x) (16 * row + u) 0 ≡ get_or l₀ (16 * row + 16 + u) 0 + given (member (get_or brings (32 + u) 0) j) w
-    now = get_or-set_same l (16 * row + u) x 0 (omega (arith, C.long)) ∙ e ∙ ap (λ y. y + given (member (get_or brings (32 + u) 0) j) w) (C.above (16 * row + 16 + u) (omega arith))
-
-    low : (k : ℕ) → k < u + 1 → Cmp k u → get_or (set l (16 * row + u) x) (16 * row + k) 0 ≡ get_or l₀ (16 * row + 16 + k) 0 + given (member (get_or brings (32 + k) 0) j) w
-    low k q (less r) = get_or-set_other l (16 * row + u) (16 * row + k) x 0 (λ z. omega arith) ∙ C.here k r
-    low k q (same r) = rw r now
-    low k q (more r) = absurd (omega arith)
-
 -- levels and starts from task j + 1 on, filled from the highest down; the row of a task is `below` rows down
-abbrev pub LevelsFrom : List ℕ → List ℕ → ℕ → ℕ → ℕ → ℕ → List ℕ → Type 0
-LevelsFrom brings works n m below j levels = (length levels ≡ 528) × ((k u : ℕ) → j ≤ below + k → k ≤ 32 → u < m → get_or levels (16 * k + u) 0 ≡ load_by (get_or brings (32 + u) 0) works n (suc (below + k)))
+abbrev pub LevelsFrom : List ℕ → List ℕ → ℕ → ℕ → ℕ → ℕ → List (List ℕ) → Type 0
+LevelsFrom brings works n m below j levels = (length levels ≡ 32) × ((k u : ℕ) → j ≤ below + k → k < 32 → u < m → get_or (get_or levels k []) u 0 ≡ load_by (get_or brings (32 + u) 0) works n (suc (below + k)))
 
-pub levels_none : (brings works : List ℕ) (n m below : ℕ) → m ≤ 16 → LevelsFrom brings works n m below n (replicate 528 0)
+pub levels_none : (brings works : List ℕ) (n m below : ℕ) → m ≤ 16 → LevelsFrom brings works n m below n (replicate 32 (replicate 16 0))
 levels_none brings works n m below few = (
   refl,
-  λ k u p q r. zero_entry 528 (16 * k + u) (omega arith) ∙ sym (load_by-none (get_or brings (32 + u) 0) works n (suc (below + k)) (omega arith)),
+  λ k u p q r.
+      ap (λ l. get_or l u 0) (get_or-replicate 32 k (replicate 16 0) [] q)
+      ∙ (zero_entry 16 u (omega arith) ∙ sym (load_by-none (get_or brings (32 + u) 0) works n (suc (below + k)) (omega arith))),
 )
 
-pub levels_step : (brings works : List ℕ) (n m below row j : ℕ) (l l' : List ℕ) → j ≡ below + row → j < n → n ≤ 32 → m ≤ 16 → LevelColumn brings row j (get_or works j 0) m l l' → LevelsFrom brings works n m below (suc j) l → LevelsFrom brings works n m below j l'
-levels_step brings works n m below row j l l' at p few small C F = (C.long ∙ F.0, λ k u q r t. go k u r t q (cmp row k))
+-- the running loads of sources at task j + 1 are put into its row
+pub levels_put : (brings works : List ℕ) (n m below row j : ℕ) (levels : List (List ℕ)) (loads : List ℕ) → j ≡ below + row → row < 32 → ((u : ℕ) → u < m → get_or loads u 0 ≡ load_by (get_or brings (32 + u) 0) works n (suc j)) → LevelsFrom brings works n m below (suc j) levels → LevelsFrom brings works n m below j (set levels row loads)
+levels_put brings works n m below row j levels loads at p now F = (simp length-set F.0, λ k u q r t. go k u r t q (cmp row k))
   where
-    go : (k u : ℕ) → k ≤ 32 → u < m → j ≤ below + k → Cmp row k → get_or l' (16 * k + u) 0 ≡ load_by (get_or brings (32 + u) 0) works n (suc (below + k))
-    go k u r t q (less x) = C.above (16 * k + u) (omega arith) ∙ F.1 k u (omega arith) r t
-    go k u r t q (same x) =
-        let e : 16 * row + 16 + u ≡ 16 * suc row + u = omega arith in
-        let up : below + suc row ≡ suc j = omega arith in
-        rw (← x, ← at) (omega (arith, C.here u t, rw (← e, up) at (F.1 (suc row) u (omega arith) (omega arith) t), load_by-step (get_or brings (32 + u) 0) works n j p))
+    go : (k u : ℕ) → k < 32 → u < m → j ≤ below + k → Cmp row k → get_or (get_or (set levels row loads) k []) u 0 ≡ load_by (get_or brings (32 + u) 0) works n (suc (below + k))
+    go k u r t q (less x) = ap (λ l. get_or l u 0) (get_or-set_other levels row k loads [] (λ z. omega arith)) ∙ F.1 k u (omega arith) r t
+    go k u r t q (same x) = rw (← x, ← at) (ap (λ l. get_or l u 0) (get_or-set_same levels row loads [] (omega (arith, F.0))) ∙ now u t)
     go k u r t q (more x) = absurd (omega arith)
 
 abbrev pub StartsFrom : List ℕ → List ℕ → ℕ → ℕ → List ℕ → Type 0

@@ -3,9 +3,11 @@ use Prim.Native.Nat.{ℕ, zero, suc, ◌+◌, ◌-◌, ◌*◌, ◌≤◌, ◌<�
 use mathlib.Core.Path.{◌≡◌, refl, sym, ◌∙◌}
 use mathlib.Core.List.{List}
 use native.Mathlib.Omega.{arith}
-use lib.ListN.{length, get_or, set, length-set, replicate, get_or-replicate}
+use lib.ListN.{length, get_or, set, take, length-set, replicate, get_or-replicate}
 use lib.Seq.{get_or-set_same, get_or-set_other}
-use Rattle.model.specs.Basics.{sum_n, given}
+use Rattle.std.specs.List.{sum}
+use Rattle.model.specs.Basics.{sum_n, sum_to, given}
+use Rattle.lemmas.proofs.Chains.{sum_front}
 use Rattle.lemmas.proofs.Tests.{Cmp, less, same, more, cmp}
 use Rattle.lemmas.proofs.Range.{sum_n-first, given_le}
 use Rattle.sets.specs.Sets.{member}
@@ -59,3 +61,14 @@ row_put row works n j l x p e h = (simp length-set h.0, λ c q r. go c r q (cmp 
     go c r q (less k) = get_or-set_other l j c x 0 (λ z. omega arith) ∙ h.1 c k r
     go c r q (same k) = rw (sym k) here
     go c r q (more k) = absurd (omega arith)
+
+-- the works of n tasks as the front of a list
+front_shift : (works : List ℕ) (m : ℕ) → sum_n (λ k. get_or works k 0) 0 m ≡ sum_n (λ k. get_or works (k - 1) 0) 1 m
+unfolding sum_n
+front_shift works zero = refl
+front_shift works (suc m) =
+    let e : 1 + m - 1 ≡ 0 + m = omega arith in
+    rw (front_shift works m, e) refl
+
+pub works_front : (works : List ℕ) (n : ℕ) → n ≤ length works → sum (take n works) ≡ sum_to (λ k. get_or works (k - 1) 0) 1 n
+works_front works n h = let e : suc n - 1 ≡ n = omega arith in rw e (sum_front works n h ∙ front_shift works n)

@@ -1,5 +1,5 @@
 -- The tables of loads, and what each stands for.
-use Rattle.std.specs.Prelude.{ℕ, suc, ◌+◌, ◌*◌, ◌≤◌, ◌<◌, ◌≡◌, Bool, List, [], length, get_or, ltb}
+use Rattle.std.specs.Prelude.{ℕ, suc, ◌+◌, ◌≤◌, ◌<◌, ◌≡◌, Bool, List, [], length, get_or, ltb}
 use Rattle.model.specs.declared.Description.{Description}
 use Rattle.model.specs.declared.Outcome.TheVariants.{Done}
 use Rattle.model.specs.declared.LoadSheet.{LoadSheet}
@@ -25,13 +25,6 @@ SheetBy brings works n t = (length t ≡ 48) × ((r : ℕ) → r < 48 → RowBy 
 -- the loads of c nodes from place `base` on, one task further down: the work w of task j + 1 comes in; the others stay
 abbrev pub Column : ℕ → List ℕ → ℕ → ℕ → ℕ → List ℕ → List ℕ → Type 0
 Column base brings j w c loads loads' = (length loads' ≡ length loads) × ((k : ℕ) → k < c → get_or loads' k 0 ≡ get_or loads k 0 + given (member (get_or brings (base + k) 0) j) w) × ((k : ℕ) → c ≤ k → get_or loads' k 0 ≡ get_or loads k 0)
-
--- in a table of loads of sources, 16 places for a row: those of c sources at task j + 1 from those in the row above, the task's work w coming in
--- where a source brings it in; the places after them stay
-pub record LevelColumn (brings : List ℕ) (row j w c : ℕ) (levels levels' : List ℕ) : Type 0 where
-  pub long : length levels' ≡ length levels
-  pub here : (u : ℕ) → u < c → get_or levels' (16 * row + u) 0 ≡ get_or levels (16 * row + 16 + u) 0 + given (member (get_or brings (32 + u) 0) j) w
-  pub above : (k : ℕ) → 16 * row + c ≤ k → get_or levels' k 0 ≡ get_or levels k 0
 
 -- how long task k + 1 may hold the processor, with what it then puts on the tasks above
 abbrev pub held : List ℕ → (ℕ → ℕ) → ℕ → ℕ

@@ -45,9 +45,8 @@ pub fn work_out(d: Description) -> Worked
     if paths::brings_itself(&rows, n) {
         return unworked(Refusal::Loop, 0);
     }
-    let runs = d.runs;
     let mut brings = [0u64; 48];
-    let works = works::works_of(&succ, &runs, n, &mut brings);
+    let works = works::works_of(&succ, &d.runs, n, &mut brings);
     if rows::heavy(&brings, &works, n) {
         return unworked(Refusal::TooHeavy, 0);
     }
@@ -63,11 +62,8 @@ pub fn as_rows(t: [[u64; 32]; 48]) -> [Row; 48]
     ensures { RowsAre t result }
 {
     let mut rows = [Row { loads: [0u64; 32] }; 48];
-    let mut i: usize = 0;
-    while i < 48 {
-        let one = t[i];
-        rows[i] = Row { loads: one };
-        i += 1;
+    for (i, loads) in t.iter().enumerate() {
+        rows[i] = Row { loads: *loads };
     }
     rows
 }
@@ -78,15 +74,12 @@ pub fn last_checks(d: Description) -> LoadSheet
     ensures { result ≡ checked_loads d }
 {
     let worked = work_out(d);
-    let judged = worked.outcome;
-    if let Outcome::Refused(why, place) = judged {
+    if let Outcome::Refused(why, place) = worked.outcome {
         return refused_sheet(why, place);
     }
-    let n = d.task_count;
-    let t = rows::load_rows(&worked.brings, &worked.works, n);
-    let rows = as_rows(t);
+    let t = rows::load_rows(&worked.brings, &worked.works, d.task_count);
     LoadSheet {
         outcome: Outcome::Done,
-        rows,
+        rows: as_rows(t),
     }
 }

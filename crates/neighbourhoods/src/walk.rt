@@ -12,17 +12,10 @@ fn visit(into: &[u64; 32], j: usize, x: usize, w: Walk) -> Walk
     requires { (1 ≤ x) × (x ≤ 48) × (w.failed ≡ 0) }
     ensures { VisitIs into.now j x w result × (unmet result.met ≤ unmet w.met) }
 {
-    let met = w.met;
-    if 32 < x {
+    if 32 < x || w.met[x - 1] {
         return Walk {
             failed: x as u8,
-            met,
-        };
-    }
-    if met[x - 1] {
-        return Walk {
-            failed: x as u8,
-            met,
+            ..w
         };
     }
     let mut next = w;
@@ -35,7 +28,7 @@ fn visit(into: &[u64; 32], j: usize, x: usize, w: Walk) -> Walk
     let mut r: usize = 0;
     while rest != 0 {
         let k = first(rest);
-        r = r + k + 1;
+        r += k + 1;
         next = visit(into, j, r, next);
         if next.failed != 0 {
             return next;

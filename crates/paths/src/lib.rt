@@ -7,7 +7,6 @@ ghost use Rattle.theory.proofs.WellFormed.{Fielded};
 ghost use Rattle.paths.specs.Rows.{SuccessorsOf, Grown, Allowed, Closed, self_in};
 
 use model::Description;
-use numbers::index;
 use sets::{below, has, union, with};
 
 // The links of a description by the node they leave: bit j - 1 of entry i - 1 for a link from node i to task j.
@@ -16,13 +15,10 @@ pub fn successors(d: Description) -> [u64; 48]
     ensures { SuccessorsOf d result }
 {
     let mut succ = [0u64; 48];
-    let mut l: usize = 0;
-    while l < d.link_count {
-        let link = d.links[l];
-        let from = index(link.from) - 1;
-        let to = index(link.to) - 1;
+    for link in &d.links[..d.link_count] {
+        let from = usize::from(link.from) - 1;
+        let to = usize::from(link.to) - 1;
         succ[from] = with(succ[from], to);
-        l += 1;
     }
     succ
 }
@@ -32,10 +28,7 @@ fn grown(row: u64, low: u64, v: usize) -> u64
     requires { v < 64 }
     ensures { Grown row low v result }
 {
-    if has(row, v) {
-        return union(row, low);
-    }
-    row
+    if has(row, v) { union(row, low) } else { row }
 }
 
 // The same for each of n tasks.
@@ -43,10 +36,8 @@ fn allow(rows: &mut [u64; 48], low: u64, v: usize, n: usize)
     requires { (v < 64) × (n ≤ 32) × (length rows.old ≡ 48) }
     ensures { Allowed low v n rows.old rows.new }
 {
-    let mut k: usize = 0;
-    while k < n {
-        rows[k] = grown(rows[k], low, v);
-        k += 1;
+    for row in &mut rows[..n] {
+        *row = grown(*row, low, v);
     }
 }
 
@@ -56,9 +47,7 @@ pub fn closed(succ: [u64; 48], n: usize) -> [u64; 48]
     ensures { Closed succ n result }
 {
     let mut rows = succ;
-    let mut v = n;
-    while 0 < v {
-        v -= 1;
+    for v in (0..n).rev() {
         let low = below(rows[v], v);
         allow(&mut rows, low, v, n);
     }
@@ -70,12 +59,5 @@ pub fn brings_itself(rows: &[u64; 48], n: usize) -> bool
     requires { n ≤ 32 }
     ensures { result ≡ self_in rows.now n }
 {
-    let mut i: usize = 0;
-    while i < n {
-        if has(rows[i], i) {
-            return true;
-        }
-        i += 1;
-    }
-    false
+    (0..n).any(|i| has(rows[i], i))
 }

@@ -1,9 +1,48 @@
 // Which sources of a level go together on a wheel, and each wheel's period: a common multiple of their spacings.
 #![tactic(auto)]
 
-ghost use Rattle.std.specs.Prelude.{◌≡◌, ℕ, ◌≤◌, ◌-◌, length};
+ghost use Rattle.std.specs.Prelude.{◌≡◌, ◌*◌, ◌/◌, ◌≤◌, ◌<◌, ◌^◌, IfSome, length};
 
-use numbers::{larger, smaller};
+use rounds::Level;
+
+// The blocks that a wheel's table goes by: 2^shift ticks each.
+#[derive(Clone, Copy)]
+pub struct Block {
+    pub shift: u32,
+    pub ghost small: { shift < 17 },
+}
+
+impl Block {
+    // How many ticks a block has.
+    pub fn ticks(self) -> u64
+        ensures { (result ≡ 2 ^ self.shift) × (1 ≤ result) × (result ≤ 65536) }
+    {
+        1 << self.shift
+    }
+
+    // How long a stretch is: seven blocks.
+    pub fn stretch(self) -> u64
+        ensures { (result ≡ 7 * 2 ^ self.shift) × (result ≤ 458752) }
+    {
+        7 << self.shift
+    }
+
+    // The block that a place lies in.
+    pub fn of(self, place: u64) -> u64
+        ensures { result ≡ place / 2 ^ self.shift }
+    {
+        place >> self.shift
+    }
+}
+
+// The wheel of each source, 16 for none; the period of each wheel; and how many wheels there are.
+#[derive(Clone, Copy)]
+pub struct Plan {
+    pub wheels: [usize; 16],
+    pub periods: [u64; 16],
+    pub count: usize,
+    pub ghost few: { count ≤ 16 },
+}
 
 // The greatest common divisor of two numbers.
 fn divisor(a: u64, b: u64) -> u64
@@ -13,9 +52,7 @@ fn divisor(a: u64, b: u64) -> u64
     let mut large = a;
     let mut small = b;
     while small != 0 {
-        let rest = large % small;
-        large = small;
-        small = rest;
+        (large, small) = (small, large % small);
     }
     large
 }
@@ -28,127 +65,86 @@ fn common(a: u64, b: u64) -> u64
     a / divisor(a, b) * b
 }
 
-// The period that a wheel has with a source besides; 0 if the source cannot join: it is on a wheel, has no load or one above its spacing, or the period is too long.
-fn joined(load: u64, gap: u32, wheel: usize, period: u64, most: u64) -> u64
+// The period that a wheel has with a source besides. A source cannot join that is on a wheel, has no load or one above
+// its spacing, or makes the period too long.
+fn joined(load: u64, gap: u32, wheel: usize, period: u64, most: u64) -> Option<u64>
     requires { (period ≤ 1048576) × (most ≤ 1048576) }
-    ensures { result ≤ most }
+    ensures { IfSome result (λ multiple. multiple ≤ most) }
 {
-    let spacing = gap as u64;
-    if wheel != 16 {
-        return 0;
-    }
-    if load == 0 {
-        return 0;
-    }
-    if spacing < load {
-        return 0;
-    }
-    if most < spacing {
-        return 0;
+    let spacing = u64::from(gap);
+    if wheel != 16 || load == 0 || spacing < load || most < spacing {
+        return None;
     }
     let multiple = common(spacing, period);
     if most < multiple {
-        return 0;
+        return None;
     }
-    multiple
+    Some(multiple)
 }
 
-// How good a choice a source is, 0 if it cannot join: the shorter the period with it, the better.
-fn worth(load: u64, gap: u32, wheel: usize, period: u64, most: u64) -> u64
+// The source to join a wheel next, and the period with it: the shorter, the better.
+fn choice(level: &Level, wheels: &[usize; 16], period: u64, most: u64) -> Option<(usize, u64)>
     requires { (period ≤ 1048576) × (most ≤ 1048576) }
+    ensures { IfSome result (λ best. (best.0 < 16) × (best.1 ≤ most)) }
 {
-    let multiple = joined(load, gap, wheel, period, most);
-    if multiple == 0 {
-        return 0;
-    }
-    most - multiple + 1
-}
-
-// The best source so far, when one more is looked at.
-fn better(best: usize, high: u64, u: usize, value: u64) -> usize
-    ensures { (n : ℕ) → best ≤ n → u ≤ n → result ≤ n }
-{
-    if high < value {
-        return u;
-    }
-    best
-}
-
-// The source to join a wheel next, or n for none.
-fn choice(
-    loads: &[u64; 16],
-    gaps: &[u32; 16],
-    n: usize,
-    wheels: &[usize; 16],
-    period: u64,
-    most: u64,
-) -> usize
-    requires { (n ≤ 16) × (period ≤ 1048576) × (most ≤ 1048576) }
-    ensures { result ≤ n }
-{
-    let mut best = n;
-    let mut high: u64 = 0;
-    let mut u: usize = 0;
-    while u < n {
-        let value = worth(loads[u], gaps[u], wheels[u], period, most);
-        best = better(best, high, u, value);
-        high = larger(high, value);
-        u += 1;
-    }
-    best
-}
-
-// One wheel: as long as a source can join it, the best one does. Its period, or 1 if none can.
-fn fill(
-    loads: &[u64; 16],
-    gaps: &[u32; 16],
-    n: usize,
-    k: usize,
-    most: u64,
-    wheels: &mut [usize; 16],
-) -> u64
-    requires { (n ≤ 16) × (most ≤ 1048576) × (length wheels.old ≡ 16) }
-    ensures { (result - 1 ≤ most - 1) × (length wheels.new ≡ 16) }
-{
-    let mut period: u64 = 1;
-    let mut turns: usize = 0;
-    while turns < n {
-        let u = choice(loads, gaps, n, wheels, period, most);
-        if u == n {
-            return period;
+    let mut best: Option<(usize, u64)> = None;
+    for u in 0..level.count {
+        let Some(multiple) = joined(level.loads[u], level.gaps[u], wheels[u], period, most) else {
+            continue;
+        };
+        let better = match best {
+            Some((_, least)) => multiple < least,
+            None => true,
+        };
+        if better {
+            best = Some((u, multiple));
         }
-        period = joined(loads[u], gaps[u], wheels[u], period, most);
+    }
+    best
+}
+
+// One wheel: as long as a source can join it, the best one does. Its period, if that is more than 1.
+fn fill(level: &Level, k: usize, most: u64, wheels: &mut [usize; 16]) -> Option<u64>
+    requires { (most ≤ 1048576) × (length wheels.old ≡ 16) }
+    ensures { IfSome result (λ period. period ≤ most) × (length wheels.new ≡ 16) }
+{
+    let mut period = 1;
+    for _ in 0..level.count {
+        let Some((u, multiple)) = choice(level, wheels, period, most) else {
+            break;
+        };
+        period = multiple;
         wheels[u] = k;
-        turns += 1;
     }
-    period
+    if period <= 1 {
+        return None;
+    }
+    Some(period)
 }
 
-// The wheels of a level, one after the other as long as there is room: the wheel of each source, the period of each wheel, and how many there are.
-// All periods together are at most 65536 blocks less 10 for each of 16 wheels, and at most 3000000 ticks; one is at most a third of that.
-pub fn plan(
-    loads: &[u64; 16],
-    gaps: &[u32; 16],
-    n: usize,
-    block: u64,
-    wheels: &mut [usize; 16],
-    periods: &mut [u64; 16],
-) -> usize
-    requires { (n ≤ 16) × (block ≤ 65536) × (length wheels.old ≡ 16) × (length periods.old ≡ 16) }
-    ensures { (result ≤ 16) × (length wheels.new ≡ 16) × (length periods.new ≡ 16) }
-{
-    let mut room = smaller(65376 * block, 3000000);
-    let largest = room / 3;
-    let mut k: usize = 0;
-    while k < 15 {
-        let most = smaller(largest, room);
-        let period = fill(loads, gaps, n, k, most, wheels);
-        if period == 1 {
-            return k;
+impl Plan {
+    // The wheels of a level, one after the other as long as there is room. All periods together are at most 65536 blocks
+    // less 10 for each of 16 wheels, and at most 3000000 ticks; one is at most a third of that.
+    pub fn new(level: &Level, block: Block) -> Plan {
+        let mut wheels = [16; 16];
+        let mut periods = [1; 16];
+        let mut room = (65376 * block.ticks()).min(3000000);
+        let largest = room / 3;
+        for k in 0..15 {
+            let Some(period) = fill(level, k, largest.min(room), &mut wheels) else {
+                return Plan {
+                    wheels,
+                    periods,
+                    count: k,
+                };
+            };
+            periods[k] = period;
+            room -= period;
         }
-        periods[k] = period;
-        room = room - period;
-        k += 1;
+        Plan {
+            wheels,
+            periods,
+            count: 15,
+        }
     }
-    k
 }

@@ -9,14 +9,15 @@ use native.Mathlib.Nat.{div-mul-le_self, mul-le-mul_left, mul-le-mul, zero-add, 
 use lib.ListN.{get_or, length, set, replicate, length-set, length-replicate, get_or-replicate}
 use lib.Seq.{get_or-set_same, get_or-set_other}
 use lib.Dec.{ltb}
+use borrow.Author.Tests.{lt-ltb, le-ltb}
 use Rattle.model.specs.Basics.{sum_n}
 use Rattle.model.specs.Delays.{spacings, Settled, unchanged, reached, settle}
-use Rattle.lemmas.proofs.Tests.{Cmp, less, same, more, cmp, at_or_not, not_both}
+use Rattle.lemmas.proofs.Tests.{Cmp, less, same, more, cmp, at_or_not}
 use Rattle.theory.proofs.Levels.{reach_of}
 use Rattle.theory.proofs.Jumps.{flowing, counting, flow_below}
 use Rattle.theory.proofs.Rounds.{settle_fixed, settle_least, settle_finds, never_reached, spacings_some, spacings_mono}
 use Rattle.lemmas.proofs.Range.{sum_n-le, le_sum_n}
-use Rattle.rounds.specs.Level.{LevelOn, round_in, reach_in, end_of, Counted, more_by, CountsOn, LowerBound, RoundAt, ShareOf, Shares, OpenAt, ReachedBy}
+use Rattle.rounds.specs.Level.{LevelOn, round_in, reach_in, end_of, Counted, more_by, CountsOn, LowerBound, RoundAt, ShareOf, Shares}
 
 less_quotient : (q d m : ℕ) → 1 ≤ m → q * m ≤ d + (m - 1) → q ≤ d
 less_quotient q d m p h = go (cmp q (suc d))
@@ -104,6 +105,16 @@ end_moves p d m end o h e = omega (arith, e, add-mul (spacings p m) (more_by d e
 load_adds : (load p d m end : ℕ) → 1 ≤ m → p ≤ d → (0 < load → end ≡ spacings p m * m) → load * spacings p m + load * more_by d end m ≡ load * spacings d m
 load_adds zero p d m end o h e = omega (arith, zero-mul (spacings p m), zero-mul (more_by d end m), zero-mul (spacings d m))
 load_adds (suc load) p d m end o h e = sym (mul-add (suc load) (spacings p m) (more_by d end m)) ∙ ap (λ x. suc load * x) (counted_on p d m end o h (e (omega arith)))
+
+-- source u is counted on where its end is moved in the list of ends
+pub counted_at : (load gap d : ℕ) (ends : List ℕ) (u sum end r : ℕ) → end ≡ get_or ends u 0 + more_by d (get_or ends u 0) gap * gap → r ≡ sum + load * more_by d (get_or ends u 0) gap → CountsOn load gap d ends u sum (set ends u end) r
+counted_at load gap d ends u sum end r e f =
+    record {
+      total = f;
+      sized = length-set ends u end;
+      here = λ q. get_or-set_same ends u end 0 q ∙ e;
+      others = λ k ne. get_or-set_other ends u k end 0 ne;
+    }
 
 -- the loop of a round after one at p that came to a sum before: the first u sources are counted on to d
 pub record Halfway (loads gaps : List ℕ) (n p d before : ℕ) (ends : List ℕ) (u sum : ℕ) : Type 0 where
@@ -225,12 +236,8 @@ part_most start loads gaps n ends g r u p =
     omega
     (arith, counted_part start loads gaps n r.place ends g r.counted u p, le_sum_n (λ u. get_or loads u 0 * spacings r.place (get_or gaps u 0)) 0 n u (omega arith) (omega arith), r.most)
 
--- one of two, or else 0, is at most that one
-pub first_most : (b : Bool) (x : ℕ) → cond b x 0 ≤ x
-first_most true x = omega arith
-first_most false x = omega arith
-
-pub second_most : (b : Bool) (x : ℕ) → cond b 0 x ≤ x
+-- a number, or else 0, is at most that number
+second_most : (b : Bool) (x : ℕ) → cond b 0 x ≤ x
 second_most true x = omega arith
 second_most false x = omega arith
 
@@ -262,13 +269,26 @@ module _ (start : ℕ) (loads gaps : List ℕ) (n : ℕ) (ends shares : List ℕ
   unfolding rest_to sum_n
   rest_none_yet d = omega arith
 
-  pub flow_more : (u : ℕ) → flow_to (u + 1) ≡ flow_to u + cond (flows u) (share u) 0
+  flow_more : (u : ℕ) → flow_to (u + 1) ≡ flow_to u + cond (flows u) (share u) 0
   unfolding flow_to sum_n
   flow_more u = rw (add-one, sum_n, zero-add)
 
-  pub rest_more : (d u : ℕ) → rest_to d (u + 1) ≡ rest_to d u + cond (flows u) 0 (load u * spacings d (gap u))
+  rest_more : (d u : ℕ) → rest_to d (u + 1) ≡ rest_to d u + cond (flows u) 0 (load u * spacings d (gap u))
   unfolding rest_to sum_n
   rest_more d u = rw (add-one, sum_n, zero-add) (omega arith)
+
+  -- one source more, as flow or by its firings
+  pub flow_taken : (u : ℕ) → get_or ends u 0 < far → flow_to u + share u ≡ flow_to (u + 1)
+  flow_taken u h = rw (flow_more u) (rw (lt-ltb (get_or ends u 0) far h) refl)
+
+  pub flow_left : (u : ℕ) → far ≤ get_or ends u 0 → flow_to u ≡ flow_to (u + 1)
+  flow_left u h = rw (flow_more u) (rw (le-ltb (get_or ends u 0) far h) (omega arith))
+
+  pub rest_left : (d u : ℕ) → get_or ends u 0 < far → rest_to d u ≡ rest_to d (u + 1)
+  rest_left d u h = rw (rest_more d u) (rw (lt-ltb (get_or ends u 0) far h) (omega arith))
+
+  pub rest_taken : (d u : ℕ) → far ≤ get_or ends u 0 → rest_to d u + load u * spacings d (gap u) ≡ rest_to d (u + 1)
+  rest_taken d u h = rw (rest_more d u) (rw (le-ltb (get_or ends u 0) far h) refl)
 
   -- the rest is at most the round
   pub rest_most : (d : ℕ) → rest_to d n ≤ round_in start loads gaps n d
@@ -284,10 +304,3 @@ module _ (start : ℕ) (loads gaps : List ℕ) (n : ℕ) (ends shares : List ℕ
 pub level_any : (start : ℕ) (loads gaps : List ℕ) (n : ℕ) → LevelOn start loads gaps n → LevelOn 0 loads gaps n
 level_any start loads gaps n g =
     record { few = g.few; start_most = omega arith; load_most = g.load_most; gap_some = g.gap_some; gap_most = g.gap_most }
-
--- answers: settled, and open
-pub settled_at : (start : ℕ) (loads gaps : List ℕ) (n limit d : ℕ) → d ≡ reach_in start loads gaps n limit → ReachedBy start loads gaps n limit (record { place = d; settled = true })
-settled_at start loads gaps n limit d e = record { done = λ _. e; unsettled = λ f. absurd (not_both refl f) }
-
-pub open_at : (start : ℕ) (loads gaps : List ℕ) (n limit d : ℕ) → OpenAt start loads gaps n limit d → ReachedBy start loads gaps n limit (record { place = d; settled = false })
-open_at start loads gaps n limit d o = record { done = λ f. absurd (not_both f refl); unsettled = λ _. o }

@@ -1,9 +1,10 @@
 -- One level of the rounds as the code has it: a start, and for each source its load and its spacing, in two lists counted from 0.
-use Rattle.std.specs.Prelude.{ℕ, suc, ◌+◌, ◌-◌, ◌*◌, ◌/◌, ◌≤◌, ◌<◌, ◌≡◌, List, true, false, get_or, length}
+use Rattle.std.specs.Prelude.{ℕ, suc, ◌+◌, ◌-◌, ◌*◌, ◌/◌, ◌≤◌, ◌<◌, ◌≡◌, List, get_or, length}
 use Rattle.model.specs.Basics.{sum_n}
 use Rattle.model.specs.Delays.{spacings, settle}
 use Rattle.theory.proofs.Levels.{reach_of}
 use Rattle.rounds.specs.declared.Reached.{Reached}
+use Rattle.rounds.specs.declared.Reached.TheVariants.{Settled, Open}
 
 -- n sources, with loads and spacings from the scale
 pub record LevelOn (start : ℕ) (loads gaps : List ℕ) (n : ℕ) : Type 0 where
@@ -86,6 +87,6 @@ pub record OpenAt (start : ℕ) (loads gaps : List ℕ) (n limit place : ℕ) : 
   pub most : place < limit
 
 -- settled where the rounds come to, or open at a place on the way
-pub record ReachedBy (start : ℕ) (loads gaps : List ℕ) (n limit : ℕ) (r : Reached) : Type 0 where
-  pub done : r.settled ≡ true → r.place ≡ reach_in start loads gaps n limit
-  pub unsettled : r.settled ≡ false → OpenAt start loads gaps n limit r.place
+abbrev pub ReachedBy : ℕ → List ℕ → List ℕ → ℕ → ℕ → Reached → Type 0
+ReachedBy start loads gaps n limit (Settled place) = place ≡ reach_in start loads gaps n limit
+ReachedBy start loads gaps n limit (Open place) = OpenAt start loads gaps n limit place

@@ -1,5 +1,5 @@
 -- Steps of the functions that tell whether a level is held. Assumes nothing.
-use Prim.Native.Nat.{ℕ, suc, ◌+◌, ◌-◌, ◌≤◌, ◌<◌}
+use Prim.Native.Nat.{ℕ, suc, ◌+◌, ◌-◌, ◌≤◌, ◌<◌, min}
 use mathlib.Core.Path.{◌≡◌, refl, sym, ap, ◌∙◌}
 use mathlib.Core.Bool.{Bool, true, false, cond, ◌&&◌, ◌||◌}
 use mathlib.Core.List.{List}
@@ -7,7 +7,7 @@ use native.Mathlib.Omega.{arith}
 use lib.ListN.{length, get_or, set, replicate, length-set, get_or-replicate}
 use lib.Seq.{get_or-set_same, get_or-set_other}
 use lib.Dec.{ltb, eqb}
-use borrow.Author.Tests.{eq-eqb, ne_eqb, lt-ltb, le-ltb, ltb-true, ltb-false}
+use borrow.Author.Tests.{eq-eqb, ne_eqb, ltb-true, ltb-false}
 use Rattle.model.specs.declared.Link.{Link}
 use Rattle.model.specs.declared.Description.{Description}
 use Rattle.model.specs.Basics.{any_n}
@@ -100,13 +100,13 @@ critical_more d sets n v low high m r =
 
 -- the narrower of two spacings, by its tests
 module _ (best gap : ℕ) where
-  pub narrower_new : (counts : Bool) → counts ≡ true → gap < best → gap ≡ narrower_of best counts gap
+  pub narrower_min : (counts : Bool) → counts ≡ true → min best gap ≡ narrower_of best counts gap
   unfolding narrower_of
-  narrower_new counts e h = rw (e, lt-ltb gap best h)
-
-  pub narrower_old : (counts : Bool) → counts ≡ true → best ≤ gap → best ≡ narrower_of best counts gap
-  unfolding narrower_of
-  narrower_old counts e h = rw (e, le-ltb gap best h)
+  narrower_min counts e = rw e (go (ltb gap best) refl)
+    where
+      go : (b : Bool) → ltb gap best ≡ b → min best gap ≡ cond b gap best
+      go true f = omega (arith, ltb-true gap best f)
+      go false f = omega (arith, ltb-false gap best f)
 
   pub narrower_free : (counts : Bool) → counts ≡ false → best ≡ narrower_of best counts gap
   unfolding narrower_of

@@ -1,6 +1,6 @@
 -- For each task the largest spacing of a source with a critical link to it, link by link. Assumes nothing.
 use Prim.Native.Nat.{ℕ, ◌+◌, ◌-◌, ◌≤◌, ◌<◌, max}
-use mathlib.Core.Path.{◌≡◌, refl, ◌∙◌}
+use mathlib.Core.Path.{◌≡◌, refl, sym, ◌∙◌}
 use mathlib.Core.Bool.{Bool, true, false, cond, ◌&&◌}
 use mathlib.Core.List.{List}
 use native.Mathlib.Omega.{arith}
@@ -14,7 +14,8 @@ use Rattle.model.specs.Graph.{link_at}
 use Rattle.lemmas.proofs.Tests.{Cmp, less, same, more, cmp, at_or_not}
 use Rattle.theory.proofs.WellFormed.{WellFormed}
 use Rattle.theory.proofs.Links.{ends_inside}
-use Rattle.verdicts.specs.Slots.{limit_by, LimitsOf}
+use Rattle.verdicts.proofs.SlotLaws.{gap_task, gap_source}
+use Rattle.verdicts.specs.Slots.{gap_by, limit_by, LimitsOf}
 
 -- a critical source link's own spacing, and no more than the scale has
 module _ (gaps : List ℕ) (k : Link) where
@@ -33,6 +34,14 @@ module _ (gaps : List ℕ) (k : Link) where
       go : (b : Bool) → cond (b && false) (get_or gaps (k.from - 33) 0) 0 ≡ 0
       go true = refl
       go false = refl
+
+  pub limit_gap : k.critical ≡ 1 → gap_by gaps k ≡ limit_by gaps k
+  limit_gap e = go (cmp k.from 33)
+    where
+      go : Cmp k.from 33 → gap_by gaps k ≡ limit_by gaps k
+      go (less h) = sym (gap_task gaps k h) ∙ sym (limit_task h)
+      go (same h) = sym (gap_source gaps k (omega arith)) ∙ sym (limit_own e (omega arith))
+      go (more h) = sym (gap_source gaps k (omega arith)) ∙ sym (limit_own e (omega arith))
 
   pub limit_most : ((u : ℕ) → get_or gaps u 0 ≤ 1000000000) → limit_by gaps k ≤ 1000000000
   unfolding limit_by

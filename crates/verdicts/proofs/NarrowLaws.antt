@@ -14,24 +14,22 @@ use Rattle.model.specs.declared.Policy.{Policy}
 use Rattle.model.specs.declared.Verdict.{Verdict}
 use Rattle.model.specs.declared.Verdict.TheVariants.{Held, Doubt}
 use Rattle.model.specs.Graph.{System, system, link_at}
-use Rattle.model.specs.Basics.{tab}
-use Rattle.model.specs.Loads.{load}
-use Rattle.model.specs.Delays.{start_of, level_of, tail_of}
+use Rattle.model.specs.Delays.{tail_of}
 use Rattle.model.specs.Verdicts.{source_verdict, doubtful}
 use Rattle.lemmas.proofs.Tests.{both, and_left, and_right, not_both, same_test}
 use Rattle.lemmas.proofs.Range.{Found, any_at, any_found}
 use Rattle.theory.proofs.WellFormed.{WellFormed, IsTask, IsSource}
 use Rattle.theory.proofs.Rounds.{Spaced}
 use Rattle.theory.proofs.Levels.{level_reach, level_verdict}
-use Rattle.lemmas.proofs.Table.{get_d_tab}
 use Rattle.sets.specs.Sets.{member}
 use Rattle.sets.proofs.SetLaws.{member_none}
-use Rattle.spacings.specs.declared.Sources.{Sources}
+use Rattle.verdicts.specs.declared.Tables.{Tables}
 use Rattle.spacings.specs.Gaps.{GapsIn}
 use Rattle.rounds.specs.Level.{reach_in}
 use Rattle.verdicts.specs.Held.{from_source, held_at, level_held, critical_link, critical_to}
-use Rattle.verdicts.specs.Tables.{Level, LevelTables, level_with, LevelOf, NarrowestIn}
+use Rattle.verdicts.specs.Tables.{Level, LevelTables, task_level, LevelOf, NarrowestIn}
 use Rattle.verdicts.proofs.LevelLaws.{from_is, is_from, source_is, level_of_lem, level_at}
+use Rattle.verdicts.proofs.TableLaws.{level_of-tables}
 use Rattle.verdicts.proofs.LevelRounds.{spaced_in, reach_is}
 
 -- a verdict by its delay
@@ -160,20 +158,6 @@ module _ (pol : Policy) (d : Description) (good : WellFormed d) (j : ℕ) (task 
               ∙ level_at pol d gap j link.at e there source
 
 -- a task that the tables have no critical link from a source to
-pub level_unmarked : (pol : Policy) (d : Description) (levels starts tails critical : List ℕ) (sources : Sources) (tasks j : ℕ) (gap : ℕ → ℕ) → LevelTables pol d levels starts tails critical sources tasks → j < tasks → get_or critical j 0 ≡ 0 → level_held pol d gap (suc j) ≡ true
-level_unmarked pol d levels starts tails critical sources tasks j gap t p e =
-    sym (level_empty pol d t.good (suc j) (omega arith) v own gap (λ u q. ap (λ s. member s u) e ∙ member_none u))
-  where
-    at : ℕ → ℕ
-    at u = load (system d) (33 + u) (level_of pol (suc j))
-
-    v : Level
-    v = level_with (start_of pol (system d) (suc j)) (tab d.source_count at) (tail_of pol (system d) (suc j)) (get_or critical j 0)
-
-    own : LevelOf pol d (suc j) v
-    own = record {
-      start_is = refl;
-      load_is = λ u q. get_d_tab d.source_count at 0 u q;
-      tail_is = refl;
-      critical_is = λ u. t.by_critical j u (omega (arith, t.counted, t.good.fields.few_tasks));
-    }
+pub level_unmarked : (pol : Policy) (d : Description) (t : Tables) (j : ℕ) (gap : ℕ → ℕ) → LevelTables pol d t → j < t.tasks → get_or t.critical j 0 ≡ 0 → level_held pol d gap (suc j) ≡ true
+level_unmarked pol d t j gap x p e =
+    sym (level_empty pol d x.good (suc j) (omega arith) (task_level t j) (level_of-tables pol d t j x p) gap (λ u q. ap (λ s. member s u) e ∙ member_none u))

@@ -1,8 +1,8 @@
 -- The tables are those of the description, and the verdict on a link from them is the link's verdict. Assumes nothing.
-use Prim.Native.Nat.{ℕ, zero, suc, ◌+◌, ◌-◌, ◌*◌, ◌≤◌, ◌<◌}
+use Prim.Native.Nat.{ℕ, zero, suc, ◌+◌, ◌-◌, ◌≤◌, ◌<◌}
 use mathlib.Core.Path.{◌≡◌, refl, sym, ap, ◌∙◌}
 use mathlib.Core.Bool.{Bool, true, false, cond}
-use mathlib.Core.List.{List}
+use mathlib.Core.List.{List, []}
 use mathlib.Core.Logic.{◌⊎◌, inl, inr}
 use native.Mathlib.Omega.{arith}
 use lib.ListN.{length, get_or, set, replicate, get_or-replicate}
@@ -31,11 +31,9 @@ use Rattle.loads.specs.Tables.{LoadsOf, held}
 use Rattle.loads.proofs.Columns.{top_cong}
 use Rattle.spacings.specs.Gaps.{Fit, GapsIn}
 use Rattle.rounds.specs.Level.{LevelOn, round_in, reach_in}
-use Rattle.sets.specs.Sets.{member}
-use Rattle.spacings.specs.declared.Sources.{Sources}
 use Rattle.verdicts.specs.declared.Tables.{Tables}
-use Rattle.verdicts.specs.Tables.{below_of, LevelsOf, StartsOf, TailsOf, LevelTables, LoadsAt, terms_at, level_in, LevelOf, TablesOf}
-use Rattle.verdicts.specs.Slots.{verdict_by, gap_by, by_tables, slot_by, slot_of, LimitsOf, reach_with, ReachesOf, Leveled, SlotTables}
+use Rattle.verdicts.specs.Tables.{below_of, LevelsOf, StartsOf, TailsOf, Level, LevelTables, task_level, LevelOf, TablesOf}
+use Rattle.verdicts.specs.Slots.{verdict_by, gap_by, by_tables, slot_by, slot_of, LimitsOf, reach_with, ReachesOf, Leveled}
 use Rattle.verdicts.proofs.LevelRounds.{spaced_in, level_light, start_light, tail_light, reach_is}
 
 -- a largest value whose numbers are counted from 0
@@ -75,7 +73,7 @@ module _ (d : Description) (brings works : List ℕ) (h : LoadsOf d brings works
           let r : (system d).run (suc k) ≡ get_or d.runs k 0 = run_is d (suc k) (omega arith) ∙ ap (λ i. get_or d.runs i 0) f in
           omega (arith, r, task_load k (suc j) (omega arith))
 
-  pub levels_of : (pol : Policy) (levels : List ℕ) → d.source_count ≤ 16 → ((j u : ℕ) → j < 32 → u < d.source_count → get_or levels (16 * j + u) 0 ≡ load_by (get_or brings (32 + u) 0) works d.task_count (suc (below_of pol + j))) → LevelsOf pol d levels
+  pub levels_of : (pol : Policy) (levels : List (List ℕ)) → d.source_count ≤ 16 → ((j u : ℕ) → j < 32 → u < d.source_count → get_or (get_or levels j []) u 0 ≡ load_by (get_or brings (32 + u) 0) works d.task_count (suc (below_of pol + j))) → LevelsOf pol d levels
   levels_of pol levels few s j u p q =
       let e : 33 + u - 1 ≡ 32 + u = omega arith in
       s j u p q ∙ rw e at (h.by_sets (33 + u) (suc (below_of pol + j)) (omega arith, omega arith) (omega arith)) ∙ ap (load (system d) (33 + u)) (at pol)
@@ -98,35 +96,34 @@ run_tails d j p =
     sym (run_is d (suc j) (omega arith) ∙ ap (λ i. get_or d.runs i 0) f)
 
 -- a level of the tables is the description's
-pub level_of-tables : (pol : Policy) (d : Description) (levels starts tails critical : List ℕ) (sources : Sources) (tasks j : ℕ) (loads terms : List ℕ) → LevelTables pol d levels starts tails critical sources tasks → j < tasks → LoadsAt levels sources.count j loads → terms ≡ terms_at starts tails critical j → LevelOf pol d (suc j) (level_in loads terms)
-level_of-tables pol d levels starts tails critical sources tasks j loads terms t p a e =
+pub level_of-tables : (pol : Policy) (d : Description) (t : Tables) (j : ℕ) → LevelTables pol d t → j < t.tasks → LevelOf pol d (suc j) (task_level t j)
+level_of-tables pol d t j x p =
     record {
-      start_is = ap (λ (x : List ℕ). get_or x 0 0) e ∙ t.by_start j (omega (arith, t.counted));
-      load_is = λ u q. a u (omega (arith, t.by_source.counted)) ∙ t.by_level j u low q;
-      tail_is = ap (λ (x : List ℕ). get_or x 1 0) e ∙ t.by_tail j (omega (arith, t.counted));
-      critical_is = λ u. ap (λ (x : List ℕ). member (get_or x 2 0) u) e ∙ t.by_critical j u low;
+      start_is = x.by_start j (omega (arith, x.counted));
+      load_is = λ u q. x.by_level j u low q;
+      tail_is = x.by_tail j (omega (arith, x.counted));
+      critical_is = λ u. x.by_critical j u low;
     }
   where
     low : j < 32
-    low = omega (arith, t.counted, t.good.fields.few_tasks)
+    low = omega (arith, x.counted, x.good.fields.few_tasks)
 
--- the tables of a description have all that its verdicts are worked out from
-pub slot_tables : (pol : Policy) (d : Description) (t : Tables) → TablesOf pol d t → SlotTables pol d t.levels t.starts t.tails t.orders
-slot_tables pol d t a = let x = a.by_levels in record { good = x.good; by_level = x.by_level; by_start = x.by_start; by_tail = x.by_tail; by_order = a.by_order }
+module _ (pol : Policy) (d : Description) (t : Tables) (tables : TablesOf pol d t) where
+  own : LevelTables pol d t
+  own = tables.by_levels
 
-module _ (pol : Policy) (d : Description) (levels starts tails : List ℕ) (orders : List Bool) (tables : SlotTables pol d levels starts tails orders) where
   g : WellFormed d
-  g = tables.good
+  g = own.good
 
   -- the tables are on the scale
-  pub leveled : Leveled levels starts tails d.task_count d.source_count
+  pub leveled : Leveled t
   leveled =
       record {
-        few_tasks = g.fields.few_tasks;
-        few_sources = g.fields.few_sources;
-        start_most = λ j p. rw (tables.by_start j p) (start_light d g pol (suc j) (omega arith));
-        tail_most = λ j p. rw (tables.by_tail j p) (tail_light d g pol (suc j) (omega arith));
-        load_most = λ j u p q. rw (tables.by_level j u (omega (arith, g.fields.few_tasks)) q) (level_light d g pol (33 + u) (suc j) (omega arith));
+        few_tasks = omega (arith, own.counted, g.fields.few_tasks);
+        few_sources = omega (arith, own.by_source.counted, g.fields.few_sources);
+        start_most = λ j p. rw (own.by_start j (omega (arith, own.counted))) (start_light d g pol (suc j) (omega arith));
+        tail_most = λ j p. rw (own.by_tail j (omega (arith, own.counted))) (tail_light d g pol (suc j) (omega arith));
+        load_most = λ j u p q. rw (own.by_level j u (omega (arith, own.counted, g.fields.few_tasks)) (omega (arith, own.by_source.counted))) (level_light d g pol (33 + u) (suc j) (omega arith));
       }
 
   module _ (gap : ℕ → ℕ) (gaps : List ℕ) (z : GapsIn gap d.source_count gaps) (limits : List ℕ) (m : LimitsOf d gaps limits) (reaches : List ℕ) (r : ReachesOf pol d gap limits reaches) where
@@ -148,14 +145,14 @@ module _ (pol : Policy) (d : Description) (levels starts tails : List ℕ) (orde
         let j : ℕ = (link_at d l).to in
         let k = g.fields.link_to l p in
         let e : suc (j - 1) ≡ j = omega (arith, k.0) in
-        let t : ℕ = tail_of pol (system d) j in
+        let tail : ℕ = tail_of pol (system d) j in
         let limit : ℕ = get_or limits (j - 1) 0 in
-        let x : get_or reaches (j - 1) 0 ≡ level_reach pol (system d) gap j (limit - t) + t = r (j - 1) (omega (arith, k.0, k.1)) ∙ ap (λ n. reach_with pol d gap n limit) e in
+        let x : get_or reaches (j - 1) 0 ≡ level_reach pol (system d) gap j (limit - tail) + tail = r (j - 1) (omega (arith, k.0, k.1)) ∙ ap (λ n. reach_with pol d gap n limit) e in
         let y : get_or gaps (i - 33) 0 ≡ gap i = from_gap l p q in
         let own : gap i ≤ limit = rw y at (m.covers l p q c) in
-        rw (x, y) (sym (level_verdict pol (system d) gap (spaced_in d gap gaps z) i j (limit - t) (omega arith)))
+        rw (x, y) (sym (level_verdict pol (system d) gap (spaced_in d gap gaps z) i j (limit - tail) (omega arith)))
 
-    by_tables_lem : (l : ℕ) → l < d.link_count → by_tables (get_or orders l false) gaps reaches (link_at d l) ≡ verdict_of pol (system d) gap (link_at d l)
+    by_tables_lem : (l : ℕ) → l < d.link_count → by_tables (get_or t.orders l false) gaps reaches (link_at d l) ≡ verdict_of pol (system d) gap (link_at d l)
     unfolding by_tables verdict_by gap_by verdict_of order_verdict
     by_tables_lem l p = go (eqb (link_at d l).critical 0) refl (ltb (link_at d l).from 33) refl
       where
@@ -166,39 +163,39 @@ module _ (pol : Policy) (d : Description) (levels starts tails : List ℕ) (orde
         one e = omega (arith, eqb-false k.critical 0 e, g.fields.link_critical l p)
 
         go : (a : Bool) → eqb k.critical 0 ≡ a → (b : Bool) → ltb k.from 33 ≡ b
-            → cond a Free (cond b (cond (get_or orders l false) HeldOrder DoubtOrder) (cond (ltb (get_or reaches (k.to - 1) 0) (cond b 0 (get_or gaps (k.from - 33) 0))) (Held (get_or reaches (k.to - 1) 0) (cond b 0 (get_or gaps (k.from - 33) 0))) (Doubt (cond b 0 (get_or gaps (k.from - 33) 0)))))
+            → cond a Free (cond b (cond (get_or t.orders l false) HeldOrder DoubtOrder) (cond (ltb (get_or reaches (k.to - 1) 0) (cond b 0 (get_or gaps (k.from - 33) 0))) (Held (get_or reaches (k.to - 1) 0) (cond b 0 (get_or gaps (k.from - 33) 0))) (Doubt (cond b 0 (get_or gaps (k.from - 33) 0)))))
             ≡ cond a Free (cond b (cond (in_order (system d) k.from k.to) HeldOrder DoubtOrder) (source_verdict pol (system d) gap k.from k.to))
         go true e b f = refl
         go false e true f = ap (λ (x : Bool). cond x HeldOrder DoubtOrder) (tables.by_order l p (ltb-true k.from 33 f) (one e))
         go false e false f = source_by l p (ltb-false k.from 33 f) (one e)
 
-    pub slots_by : tab 256 (slot_by d orders gaps reaches) ≡ tab 256 (slot_of pol d gap)
+    pub slots_by : tab 256 (slot_by d t.orders gaps reaches) ≡ tab 256 (slot_of pol d gap)
     unfolding slot_by slot_of
-    slots_by = tab_cong 256 (slot_by d orders gaps reaches) (slot_of pol d gap) (λ l p. go l (ltb l d.link_count) refl)
+    slots_by = tab_cong 256 (slot_by d t.orders gaps reaches) (slot_of pol d gap) (λ l p. go l (ltb l d.link_count) refl)
       where
-        go : (l : ℕ) (b : Bool) → ltb l d.link_count ≡ b → cond b (let x : VerdictSlot = record { verdict = by_tables (get_or orders l false) gaps reaches (link_at d l) } in x) free_slot ≡ cond b (let x : VerdictSlot = record { verdict = verdict_of pol (system d) gap (link_at d l) } in x) free_slot
+        go : (l : ℕ) (b : Bool) → ltb l d.link_count ≡ b → cond b (let x : VerdictSlot = record { verdict = by_tables (get_or t.orders l false) gaps reaches (link_at d l) } in x) free_slot ≡ cond b (let x : VerdictSlot = record { verdict = verdict_of pol (system d) gap (link_at d l) } in x) free_slot
         go l true e = ap (λ (v : Verdict). let x : VerdictSlot = record { verdict = v } in x) (by_tables_lem l (ltb-true l d.link_count e))
         go l false e = refl
 
 -- the levels below j are worked out, whatever model and description the tables are of
-abbrev pub ReachesTo : List ℕ → List ℕ → List ℕ → List ℕ → List ℕ → ℕ → ℕ → List ℕ → ℕ → Type 0
-ReachesTo levels starts tails gaps limits n m reaches j = (pol : Policy) (d : Description) (gap : ℕ → ℕ) → WellFormed d → LevelsOf pol d levels → StartsOf pol d starts → TailsOf pol d tails → n ≡ d.task_count → m ≡ d.source_count → GapsIn gap m gaps → (k : ℕ) → k < j → get_or reaches k 0 ≡ reach_with pol d gap (suc k) (get_or limits k 0)
+abbrev pub ReachesTo : Tables → List ℕ → List ℕ → List ℕ → ℕ → Type 0
+ReachesTo t gaps limits reaches j = (pol : Policy) (d : Description) (gap : ℕ → ℕ) → LevelTables pol d t → GapsIn gap d.source_count gaps → (k : ℕ) → k < j → get_or reaches k 0 ≡ reach_with pol d gap (suc k) (get_or limits k 0)
 
-pub reaches_more : (levels starts tails gaps limits : List ℕ) (n m : ℕ) (reaches : List ℕ) (j : ℕ) (loads : List ℕ) (reach tail limit : ℕ) → j < n → n ≤ 32 → length reaches ≡ 32 → ((u : ℕ) → u < m → get_or loads u 0 ≡ get_or levels (16 * j + u) 0) → tail ≡ get_or tails j 0 → limit ≡ get_or limits j 0 - tail → reach ≡ reach_in (get_or starts j 0) loads gaps m limit → ReachesTo levels starts tails gaps limits n m reaches j → ReachesTo levels starts tails gaps limits n m (set reaches j (reach + tail)) (j + 1)
-reaches_more levels starts tails gaps limits n m reaches j loads reach tail limit p few long h et el e r pol d gap g a b t c q z =
-    stored (λ k y. y ≡ reach_with pol d gap (suc k) (get_or limits k 0)) 0 reaches j (reach + tail) (omega arith) (r pol d gap g a b t c q z) own
+pub reaches_more : (t : Tables) (gaps limits reaches : List ℕ) (j : ℕ) (v : Level) (reach limit : ℕ) → j < t.tasks → length reaches ≡ 32 → v ≡ task_level t j → limit ≡ get_or limits j 0 - v.tail → reach ≡ reach_in v.start v.loads gaps t.sources.count limit → ReachesTo t gaps limits reaches j → ReachesTo t gaps limits (set reaches j (reach + v.tail)) (j + 1)
+reaches_more t gaps limits reaches j v reach limit p long is el e r pol d gap x z =
+    stored (λ k y. y ≡ reach_with pol d gap (suc k) (get_or limits k 0)) 0 reaches j (reach + v.tail) (omega (arith, x.counted, x.good.fields.few_tasks)) (r pol d gap x z) own
   where
-    is_tail : tail ≡ tail_of pol (system d) (suc j)
-    is_tail = et ∙ t j (omega arith)
+    level : LevelOf pol d (suc j) v
+    level = rw is (level_of-tables pol d t j x p)
 
     is_limit : limit ≡ get_or limits j 0 - tail_of pol (system d) (suc j)
-    is_limit = el ∙ ap (λ x. get_or limits j 0 - x) is_tail
+    is_limit = el ∙ ap (λ x. get_or limits j 0 - x) level.tail_is
 
     is_reach : reach ≡ level_reach pol (system d) gap (suc j) limit
-    is_reach = e ∙ rw q (reach_is d g pol (suc j) (omega arith) (get_or starts j 0) loads (b j (omega arith)) (λ u w. h u (omega arith) ∙ a j u (omega arith) w) gaps gap (rw q at z) limit)
+    is_reach = e ∙ rw x.by_source.counted (reach_is d x.good pol (suc j) (omega arith) v.start v.loads level.start_is level.load_is gaps gap z limit)
 
-    own : reach + tail ≡ reach_with pol d gap (suc j) (get_or limits j 0)
-    own = ap (λ x. x + tail) (is_reach ∙ ap (level_reach pol (system d) gap (suc j)) is_limit) ∙ ap (λ x. level_reach pol (system d) gap (suc j) (get_or limits j 0 - tail_of pol (system d) (suc j)) + x) is_tail
+    own : reach + v.tail ≡ reach_with pol d gap (suc j) (get_or limits j 0)
+    own = ap (λ x. x + v.tail) (is_reach ∙ ap (level_reach pol (system d) gap (suc j)) is_limit) ∙ ap (λ x. level_reach pol (system d) gap (suc j) (get_or limits j 0 - tail_of pol (system d) (suc j)) + x) level.tail_is
 
 -- rounds come to no more than their limit
 pub reach_most : (start : ℕ) (loads gaps : List ℕ) (m limit : ℕ) → reach_in start loads gaps m limit ≤ limit
@@ -210,15 +207,16 @@ reach_most start loads gaps m limit = go (settle (suc limit) (round_in start loa
     go reached e = omega arith
 
 -- one level of tables from the scale
-pub level_scaled : (levels starts tails gaps : List ℕ) (n m j : ℕ) (loads : List ℕ) → Leveled levels starts tails n m → Fit m gaps → j < n → ((u : ℕ) → u < m → get_or loads u 0 ≡ get_or levels (16 * j + u) 0) → LevelOn (get_or starts j 0) loads gaps m
-level_scaled levels starts tails gaps n m j loads s f p h =
-    record {
+pub level_scaled : (t : Tables) (gaps : List ℕ) (j : ℕ) (v : Level) → Leveled t → Fit t.sources.count gaps → j < t.tasks → v ≡ task_level t j → LevelOn v.start v.loads gaps t.sources.count
+level_scaled t gaps j v s f p e =
+    rw e
+    (record {
       few = s.few_sources;
       start_most = s.start_most j p;
-      load_most = λ u q. rw (h u q) (s.load_most j u p q);
+      load_most = λ u q. s.load_most j u p q;
       gap_some = f.some;
       gap_most = λ u q. f.most u;
-    }
+    })
 
 -- at the spacings of a tempo they are the verdicts at it
 pub slots_at_tempo : (pol : Policy) (d : Description) (t : ℕ) → tab 256 (slot_of pol d (spacing_of d t)) ≡ tab 256 (slot_at pol d t)

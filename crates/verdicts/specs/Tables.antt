@@ -1,5 +1,5 @@
 -- The tables that are worked out once for a description, and one task's part of them.
-use Rattle.std.specs.Prelude.{ℕ, suc, ◌+◌, ◌*◌, ◌≤◌, ◌<◌, ◌≡◌, Bool, true, cond, ◌&&◌, List, [], ◌∷◌, get_or, ltb}
+use Rattle.std.specs.Prelude.{ℕ, suc, ◌+◌, ◌≤◌, ◌<◌, ◌≡◌, Bool, true, cond, ◌&&◌, List, [], get_or, ltb}
 use Rattle.model.specs.declared.Description.{Description}
 use Rattle.model.specs.declared.Policy.{Policy}
 use Rattle.model.specs.declared.Policy.TheVariants.{Preemptive, HoldOn}
@@ -8,11 +8,11 @@ use Rattle.model.specs.Loads.{load}
 use Rattle.model.specs.Delays.{start_of, level_of, tail_of}
 use Rattle.theory.proofs.WellFormed.{WellFormed}
 use Rattle.sets.specs.Sets.{member}
-use Rattle.spacings.specs.declared.Sources.{Sources}
 use Rattle.spacings.specs.Sources.{SourcesOf}
 use Rattle.spacings.specs.Gaps.{GapsIn}
 use Rattle.neighbourhoods.specs.Orders.{OrdersOf, orders_held}
 use Rattle.verdicts.specs.declared.Tables.{Tables}
+use Rattle.verdicts.specs.declared.level.Level.{Level as Lent}
 use Rattle.verdicts.specs.Held.{level_held, critical_to}
 
 -- how many tasks from the lowest on have no row in the table of levels: the rounds of task j go by the loads at it, on the hold-on model above it
@@ -20,9 +20,9 @@ abbrev pub below_of : Policy → ℕ
 below_of Preemptive = 0
 below_of HoldOn = 1
 
--- by level, 16 places for a task: the load of each source that the rounds of task j + 1 go by
-abbrev pub LevelsOf : Policy → Description → List ℕ → Type 0
-LevelsOf p d t = (j u : ℕ) → j < 32 → u < d.source_count → get_or t (16 * j + u) 0 ≡ load (system d) (33 + u) (level_of p (suc j))
+-- by level: the load of each source that the rounds of task j + 1 go by
+abbrev pub LevelsOf : Policy → Description → List (List ℕ) → Type 0
+LevelsOf p d t = (j u : ℕ) → j < 32 → u < d.source_count → get_or (get_or t j []) u 0 ≡ load (system d) (33 + u) (level_of p (suc j))
 
 -- by level: where its rounds start
 abbrev pub StartsOf : Policy → Description → List ℕ → Type 0
@@ -37,24 +37,20 @@ abbrev pub CriticalOf : Description → List ℕ → Type 0
 CriticalOf d sets = (j u : ℕ) → j < 32 → member (get_or sets j 0) u ≡ critical_to d d.link_count (33 + u) (suc j)
 
 -- the tables that tell whether a level is held
-pub record LevelTables (p : Policy) (d : Description) (levels starts tails critical : List ℕ) (sources : Sources) (tasks : ℕ) : Type 0 where
+pub record LevelTables (p : Policy) (d : Description) (t : Tables) : Type 0 where
   pub good : WellFormed d
-  pub by_level : LevelsOf p d levels
-  pub by_start : StartsOf p d starts
-  pub by_tail : TailsOf p d tails
-  pub by_critical : CriticalOf d critical
-  pub by_source : SourcesOf d sources
-  pub counted : tasks ≡ d.task_count
+  pub by_level : LevelsOf p d t.levels
+  pub by_start : StartsOf p d t.starts
+  pub by_tail : TailsOf p d t.tails
+  pub by_critical : CriticalOf d t.critical
+  pub by_source : SourcesOf d t.sources
+  pub counted : t.tasks ≡ d.task_count
 
 -- all that is worked out once for a description
 pub record TablesOf (p : Policy) (d : Description) (t : Tables) : Type 0 where
-  pub by_levels : LevelTables p d t.levels t.starts t.tails t.critical t.sources t.tasks
+  pub by_levels : LevelTables p d t
   pub by_order : OrdersOf d t.orders
   pub all_ordered : t.ordered ≡ orders_held d
-
--- the loads of m sources at task j + 1, as the table of levels has them
-abbrev pub LoadsAt : List ℕ → ℕ → ℕ → List ℕ → Type 0
-LoadsAt levels m j loads = (u : ℕ) → u < m → get_or loads u 0 ≡ get_or levels (16 * j + u) 0
 
 -- a task's level: the start of its rounds, the load of each source that they go by, what its delay has beyond them, and the set of sources with a
 -- critical link to it
@@ -64,17 +60,16 @@ pub record Level : Type 0 where
   pub tail : ℕ
   pub critical : ℕ
 
--- the level with these numbers, as they are lent
 abbrev pub level_with : ℕ → List ℕ → ℕ → ℕ → Level
 level_with start loads tail critical = record { start = start; loads = loads; tail = tail; critical = critical }
 
--- the same of the loads and, in a row of their own, the three other numbers: the terms of the level
-abbrev pub level_in : List ℕ → List ℕ → Level
-level_in loads terms = level_with (get_or terms 0 0) loads (get_or terms 1 0) (get_or terms 2 0)
+-- a level as it is lent
+abbrev pub seen : Lent → Level
+seen v = level_with v.start v.loads.now v.tail v.critical
 
--- the terms of task j + 1, as the tables have them
-abbrev pub terms_at : List ℕ → List ℕ → List ℕ → ℕ → List ℕ
-terms_at starts tails critical j = get_or starts j 0 ∷ get_or tails j 0 ∷ get_or critical j 0 ∷ []
+-- the level of task j + 1, as the tables have it
+abbrev pub task_level : Tables → ℕ → Level
+task_level t j = level_with (get_or t.starts j 0) (get_or t.levels j []) (get_or t.tails j 0) (get_or t.critical j 0)
 
 -- the level of task j of a description
 pub record LevelOf (p : Policy) (d : Description) (j : ℕ) (v : Level) : Type 0 where

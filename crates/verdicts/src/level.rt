@@ -1,29 +1,41 @@
 // One task's level: what its rounds go by, and whether every critical link from a source to it is held at given spacings.
 
-ghost use Rattle.std.specs.Prelude.{◌≡◌, ◌||◌, ◌&&◌, ℕ, ◌+◌, ◌-◌, ◌≤◌, ◌<◌, eqb, get_or};
+ghost use Rattle.std.specs.Prelude.{◌≡◌, ◌||◌, ◌&&◌, ℕ, ◌+◌, ◌≤◌, ◌<◌, eqb, get_or, MatchOption};
 ghost use Rattle.theory.proofs.WellFormed.{WellFormed};
 ghost use Rattle.sets.specs.Sets.{member};
-ghost use Rattle.rounds.specs.Level.{LevelOn};
-ghost use Rattle.verdicts.specs.Tables.{CriticalOf, LoadsAt, terms_at, level_in, HeldBy, narrower_of, NarrowestIn};
+ghost use Rattle.rounds.specs.Level.{LevelOn, reach_in};
+ghost use Rattle.verdicts.specs.Tables.{CriticalOf, seen, HeldBy, narrower_of, NarrowestIn};
 
-use loads::levels::loads_at;
 use model::{Description, Link};
-use numbers::{index, wide};
 use reach::level_reach;
 use sets::{has, with};
+
+// What the rounds of a task go by: their start and the load of each source; then what its delay has beyond them, and the sources with a critical
+// link to it.
+#[derive(Clone, Copy)]
+pub struct Level<'a> {
+    pub start: u64,
+    pub loads: &'a [u64; 16],
+    pub tail: u64,
+    pub critical: u64,
+}
+
+// The source that a link comes from, counted from 0; none where it comes from a task.
+pub fn source_of(link: Link) -> Option<usize>
+    ensures { MatchOption result (link.from < 33) (λ u. link.from ≡ 33 + u) }
+{
+    usize::from(link.from).checked_sub(33)
+}
 
 // A set of sources with the one of a critical link besides.
 fn with_source(set: u64, link: Link) -> u64
     requires { link.from < 49 }
     ensures { (u : ℕ) → member result u ≡ (member set u || (eqb link.critical 1 && eqb link.from (33 + u))) }
 {
-    let from = index(link.from);
-    if link.critical == 1 {
-        if 33 <= from {
-            return with(set, from - 33);
-        }
+    match source_of(link) {
+        Some(u) if link.critical == 1 => with(set, u),
+        _ => set,
     }
-    set
 }
 
 // For each task the set of the sources that have a critical link to it.
@@ -32,48 +44,18 @@ pub fn critical_of(d: Description) -> [u64; 32]
     ensures { CriticalOf d result }
 {
     let mut sets = [0u64; 32];
-    let mut l: usize = 0;
-    while l < d.link_count {
-        let link = d.links[l];
-        let at = index(link.to) - 1;
-        sets[at] = with_source(sets[at], link);
-        l += 1;
+    for link in &d.links[..d.link_count] {
+        let at = usize::from(link.to) - 1;
+        sets[at] = with_source(sets[at], *link);
     }
     sets
-}
-
-// The load of each of m sources that the rounds of task j + 1 go by, from the table of levels.
-pub fn level_loads(levels: &[u64; 528], m: usize, j: usize) -> [u64; 16]
-    requires { (m ≤ 16) × (j < 32) }
-    ensures { LoadsAt levels.now m j result }
-{
-    loads_at(levels, m, j)
-}
-
-// What else the rounds of task j + 1 go by, from the tables: their start, what its delay has beyond them, and its critical set.
-pub fn level_terms<'a>(
-    starts: &'a [u64; 32],
-    tails: &'a [u32; 32],
-    critical: &'a [u64; 32],
-    j: usize,
-) -> [u64; 3]
-    requires { j < 32 }
-    ensures { result ≡ terms_at starts.now tails.now critical.now j }
-{
-    let tail = wide(tails[j]);
-    [starts[j], tail, critical[j]]
 }
 
 // The narrower of two spacings, where the second counts.
 fn narrower(best: u64, counts: bool, gap: u64) -> u64
     ensures { result ≡ narrower_of best counts gap }
 {
-    if counts {
-        if gap < best {
-            return gap;
-        }
-    }
-    best
+    if counts { best.min(gap) } else { best }
 }
 
 // The narrowest spacing of the sources in a set, of the first m; 2,000,000,000 where there is none.
@@ -82,40 +64,39 @@ fn narrowest(set: u64, gaps: &[u32; 16], m: usize) -> u64
     ensures { NarrowestIn set gaps.now m result }
 {
     let mut best: u64 = 2000000000;
-    let mut u: usize = 0;
-    while u < m {
-        let counts = has(set, u);
-        best = narrower(best, counts, wide(gaps[u]));
-        u += 1;
+    for (u, gap) in gaps[..m].iter().enumerate() {
+        best = narrower(best, has(set, u), u64::from(*gap));
     }
     best
 }
 
-// What the rounds of a task have of a spacing, if its delay has so much beyond them.
-pub fn room(gap: u64, tail: u64) -> u64
-    ensures { result ≡ gap - tail }
+// Where the rounds of a level come to below a limit, at the spacings of m sources.
+pub fn reach_below(level: &Level, gaps: &[u32; 16], m: usize, limit: u64) -> u64
+    requires { LevelOn level.now.start level.now.loads.now gaps.now m × (limit ≤ 1000000000) }
+    ensures { result ≡ reach_in level.now.start level.now.loads.now gaps.now m limit }
 {
-    if gap <= tail {
-        return 0;
-    }
-    gap - tail
+    let rounds = rounds::Level {
+        start: level.start,
+        loads: level.loads,
+        gaps,
+        count: m,
+    };
+    level_reach(&rounds, limit)
 }
 
-// Whether every critical link from a source to a task is held, at the spacings of m sources: by the load of each source that the task's rounds go by,
-// and by its terms. The link of the source with the narrowest spacing decides.
-pub fn level_held(loads: &[u64; 16], terms: &[u64; 3], gaps: &[u32; 16], m: usize) -> bool
-    requires { LevelOn (get_or terms.now 0 0) loads.now gaps.now m }
-    ensures { HeldBy (level_in loads.now terms.now) gaps.now m result }
+// Whether every critical link from a source to a task is held, at the spacings of m sources. The link of the source with the narrowest spacing
+// decides.
+pub fn level_held(level: &Level, gaps: &[u32; 16], m: usize) -> bool
+    requires { LevelOn level.now.start level.now.loads.now gaps.now m }
+    ensures { HeldBy (seen level.now) gaps.now m result }
 {
-    let critical = terms[2];
-    if critical == 0 {
+    if level.critical == 0 {
         return true;
     }
-    let narrow = narrowest(critical, gaps, m);
+    let narrow = narrowest(level.critical, gaps, m);
     if 1000000000 < narrow {
         return true;
     }
-    let tail = terms[1];
-    let limit = room(narrow, tail);
-    level_reach(terms[0], loads, gaps, m, limit) < limit
+    let limit = narrow.saturating_sub(level.tail);
+    reach_below(level, gaps, m, limit) < limit
 }

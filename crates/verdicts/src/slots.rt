@@ -6,24 +6,31 @@ ghost use Rattle.theory.proofs.WellFormed.{WellFormed};
 ghost use Rattle.spacings.specs.Gaps.{Fit};
 ghost use Rattle.verdicts.specs.Slots.{verdict_by, gap_by, by_tables, slot_by, limit_by, LimitsOf, Leveled, ReachesBy, SlotTabled, SlotsBy};
 
-use crate::level::room;
-use loads::levels::loads_at;
+use crate::Tables;
+use crate::level::{reach_below, source_of};
 use model::{Description, Link, Verdict, VerdictSlot};
-use numbers::{index, larger, wide};
-use reach::level_reach;
 
-// The spacing of a critical link's source, or 0 for any other link.
+// The spacing of a link's source; 0 where the link comes from a task.
+fn gap_by(link: Link, gaps: &[u32; 16]) -> u32
+    requires { link.from < 49 }
+    ensures { result ≡ gap_by gaps.now link }
+{
+    match source_of(link) {
+        Some(u) => gaps[u],
+        None => 0,
+    }
+}
+
+// The same for a critical link, or 0 for any other.
 fn limit_by(link: Link, gaps: &[u32; 16]) -> u64
-    requires { (link.from < 49) × ((u : ℕ) → get_or gaps.now u 0 ≤ 1000000000) }
+    requires { link.from < 49 }
     ensures { result ≡ limit_by gaps.now link }
 {
-    let from = index(link.from);
     if link.critical == 1 {
-        if 33 <= from {
-            return gaps[from - 33] as u64;
-        }
+        u64::from(gap_by(link, gaps))
+    } else {
+        0
     }
-    0
 }
 
 // For each task the largest spacing of a source that has a critical link to it.
@@ -32,37 +39,23 @@ fn limits_at(d: Description, gaps: &[u32; 16]) -> [u64; 32]
     ensures { LimitsOf d gaps.now result }
 {
     let mut limits = [0u64; 32];
-    let mut l: usize = 0;
-    while l < d.link_count {
-        let link = d.links[l];
-        let at = index(link.to) - 1;
-        limits[at] = larger(limits[at], limit_by(link, gaps));
-        l += 1;
+    for link in &d.links[..d.link_count] {
+        let at = usize::from(link.to) - 1;
+        limits[at] = limits[at].max(limit_by(*link, gaps));
     }
     limits
 }
 
-// Where the delay of each of n tasks comes to, its rounds below its limit, with m sources.
-fn reaches_at(
-    levels: &[u64; 528],
-    starts: &[u64; 32],
-    tails: &[u32; 32],
-    gaps: &[u32; 16],
-    limits: &[u64; 32],
-    n: usize,
-    m: usize,
-) -> [u64; 32]
-    requires { Leveled levels.now starts.now tails.now n m × Fit m gaps.now × ((j : ℕ) → get_or limits.now j 0 ≤ 1000000000) }
-    ensures { ReachesBy levels.now starts.now tails.now gaps.now limits.now n m result }
+// Where the delay of each task comes to, its rounds below its limit.
+fn reaches_at(t: &Tables, gaps: &[u32; 16], limits: &[u64; 32]) -> [u64; 32]
+    requires { Leveled t.now × Fit t.now.sources.count gaps.now × ((j : ℕ) → get_or limits.now j 0 ≤ 1000000000) }
+    ensures { ReachesBy t.now gaps.now limits.now result }
 {
     let mut reaches = [0u64; 32];
-    let mut j: usize = 0;
-    while j < n {
-        let loads = loads_at(levels, m, j);
-        let tail = wide(tails[j]);
-        let limit = room(limits[j], tail);
-        reaches[j] = level_reach(starts[j], &loads, gaps, m, limit) + tail;
-        j += 1;
+    for j in 0..t.tasks {
+        let level = t.level(j);
+        let limit = limits[j].saturating_sub(level.tail);
+        reaches[j] = reach_below(&level, gaps, t.sources.count, limit) + level.tail;
     }
     reaches
 }
@@ -80,22 +73,10 @@ fn verdict_by(link: Link, order: bool, gap: u32, reach: u64) -> Verdict
         }
         return Verdict::DoubtOrder;
     }
-    if reach < gap as u64 {
+    if reach < u64::from(gap) {
         return Verdict::Held(reach as u32, gap);
     }
     Verdict::Doubt(gap)
-}
-
-// The spacing of a link's source; 0 where the link comes from a task.
-fn gap_by(link: Link, gaps: &[u32; 16]) -> u32
-    requires { link.from < 49 }
-    ensures { result ≡ gap_by gaps.now link }
-{
-    let from = link.from as usize;
-    if from < 33 {
-        return 0;
-    }
-    gaps[from - 33]
 }
 
 // The verdict on one link, from the tables.
@@ -103,9 +84,8 @@ fn verdict_from(link: Link, order: bool, gaps: &[u32; 16], reaches: &[u64; 32]) 
     requires { (link.from < 49) × (1 ≤ link.to) × (link.to ≤ 32) }
     ensures { result ≡ by_tables order gaps.now reaches.now link }
 {
-    let to = link.to as usize;
     let gap = gap_by(link, gaps);
-    verdict_by(link, order, gap, reaches[to - 1])
+    verdict_by(link, order, gap, reaches[usize::from(link.to) - 1])
 }
 
 // The verdicts on all links.
@@ -121,31 +101,19 @@ fn decide_all(
     let mut slots = [VerdictSlot {
         verdict: Verdict::Free,
     }; 256];
-    let mut l: usize = 0;
-    while l < d.link_count {
-        let link = d.links[l];
-        let verdict = verdict_from(link, orders[l], gaps, reaches);
+    for (l, link) in d.links[..d.link_count].iter().enumerate() {
+        let verdict = verdict_from(*link, orders[l], gaps, reaches);
         slots[l] = VerdictSlot { verdict };
-        l += 1;
     }
     slots
 }
 
 // The verdicts on all links at the spacings of a table, from the tables that are worked out once.
-pub fn slots_at<'a>(
-    d: Description,
-    levels: &'a [u64; 528],
-    starts: &'a [u64; 32],
-    tails: &'a [u32; 32],
-    orders: &'a [bool; 256],
-    gaps: &[u32; 16],
-) -> [VerdictSlot; 256]
-    requires { SlotTabled d levels.now starts.now tails.now orders.now × Fit d.source_count gaps.now }
-    ensures { SlotsBy d levels.now starts.now tails.now orders.now gaps.now result }
+pub fn slots_at(d: Description, t: &Tables, gaps: &[u32; 16]) -> [VerdictSlot; 256]
+    requires { SlotTabled d t.now × Fit d.source_count gaps.now }
+    ensures { SlotsBy d t.now gaps.now result }
 {
-    let n = d.task_count;
-    let m = d.source_count;
     let limits = limits_at(d, gaps);
-    let reaches = reaches_at(levels, starts, tails, gaps, &limits, n, m);
-    decide_all(d, orders, gaps, &reaches)
+    let reaches = reaches_at(t, gaps, &limits);
+    decide_all(d, &t.orders, gaps, &reaches)
 }

@@ -8,6 +8,7 @@ use native.Mathlib.Numerals.{add-one}
 use native.Mathlib.Nat.{zero-add, zero-mul, mul-le-mul_left, mul-le-mul_right, div-lt_iff_lt-mul, div-mul-le_self, lt-div-mul-add, mod-eq_of_lt, mod-eq-sub-mod, mod-add-mod, mod-lt, mod-le}
 use lib.Pow.{shr_mono}
 use lib.Dec.{ltb}
+use borrow.Author.Tests.{lt-ltb, le-ltb}
 use lib.ListN.{get_or, length, set, length-set}
 use lib.Seq.{get_or-set_same, get_or-set_other}
 use Rattle.model.specs.Basics.{sum_n}
@@ -142,11 +143,6 @@ turn_far d width period turn r o e f =
     let z : d + width - 1 ≡ d - 1 + width = omega arith in
     f ∙ (ap (λ x. (x + width) % period) e ∙ (mod-add-mod (d - 1) period width ∙ ap (λ x. x % period) (sym z)))
 
--- what a source on no wheel brings
-pub left_term : (b : Bool) (load count x : ℕ) → load * count ≡ load * x → cond b 0 (load * count) ≡ cond b 0 load * x
-left_term true load count x e = sym (zero-mul x)
-left_term false load count x e = e
-
 pub left_none : (start : ℕ) (loads gaps wheels : List ℕ) (count p : ℕ) → start ≡ left_in start loads gaps wheels 0 count p
 unfolding left_in sum_n
 left_none start loads gaps wheels count p = omega arith
@@ -160,11 +156,19 @@ pub waste_none : (block : ℕ) (places table turns : List ℕ) → 0 ≡ waste_o
 unfolding waste_on sum_n
 waste_none block places table turns = refl
 
--- what is left, one source more
-pub left_step : (start : ℕ) (loads gaps wheels : List ℕ) (count p u : ℕ) → left_in start loads gaps wheels (u + 1) count p ≡ left_in start loads gaps wheels u count p + cond (ltb (get_or wheels u 0) count) 0 (get_or loads u 0) * spacings p (get_or gaps u 0)
+-- what is left, one source more: one on a wheel, or on none
+left_step : (start : ℕ) (loads gaps wheels : List ℕ) (count p u : ℕ) → left_in start loads gaps wheels (u + 1) count p ≡ left_in start loads gaps wheels u count p + cond (ltb (get_or wheels u 0) count) 0 (get_or loads u 0) * spacings p (get_or gaps u 0)
 unfolding left_in
 left_step start loads gaps wheels count p u =
     omega (arith, sum_more (λ u. cond (ltb (get_or wheels u 0) count) 0 (get_or loads u 0) * spacings p (get_or gaps u 0)) u)
+
+pub left_on : (start : ℕ) (loads gaps wheels : List ℕ) (count p u : ℕ) → get_or wheels u 0 < count → left_in start loads gaps wheels u count p ≡ left_in start loads gaps wheels (u + 1) count p
+left_on start loads gaps wheels count p u h =
+    rw (left_step start loads gaps wheels count p u) (rw (lt-ltb (get_or wheels u 0) count h) (omega (arith, zero-mul (spacings p (get_or gaps u 0)))))
+
+pub left_off : (start : ℕ) (loads gaps wheels : List ℕ) (count p u : ℕ) → count ≤ get_or wheels u 0 → left_in start loads gaps wheels u count p + get_or loads u 0 * spacings p (get_or gaps u 0) ≡ left_in start loads gaps wheels (u + 1) count p
+left_off start loads gaps wheels count p u h =
+    rw (left_step start loads gaps wheels count p u) (rw (le-ltb (get_or wheels u 0) count h) refl)
 
 -- the block of a place
 pub block_of : (done block entries : ℕ) → 1 ≤ block → done < entries * block → (done / block < entries) × (done / block * block ≤ done) × (done < (done / block + 1) * block) × ((done / block + 1) * block ≤ entries * block)
@@ -242,8 +246,9 @@ part_level loads gaps wheels periods part n count k g s h p = (
   λ u q. let x = part_small loads gaps wheels periods n count k u s h q in (omega (arith, p.at u q, x.0), omega (arith, p.at u q, x.1)),
 )
 
-pub put_flow : (part gaps : List ℕ) (n flow flow' block entries place : ℕ) (table after : List ℕ) → flow ≡ flow' → PutWheel part gaps n flow block entries place table after → PutWheel part gaps n flow' block entries place table after
-put_flow part gaps n flow flow' block entries place table after e w = rw e at w
+-- a wheel that is put by equal numbers
+pub put_by : (part gaps : List ℕ) (n flow flow' block block' entries place place' : ℕ) (table after : List ℕ) → flow ≡ flow' → block ≡ block' → place ≡ place' → PutWheel part gaps n flow block entries place table after → PutWheel part gaps n flow' block' entries place' table after
+put_by part gaps n flow flow' block block' entries place place' table after e f g w = rw (e, f, g) at w
 
 pub built_by : (loads gaps wheels : List ℕ) (n : ℕ) (periods : List ℕ) (block block' : ℕ) (places table : List ℕ) (r : Built) → block ≡ block' → BuiltOn loads gaps wheels n periods block places table r → BuiltOn loads gaps wheels n periods block' places table r
 built_by loads gaps wheels n periods block block' places table r e b =

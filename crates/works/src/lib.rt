@@ -7,7 +7,6 @@ ghost use Rattle.model.specs.Graph.{cyclic};
 ghost use Rattle.paths.specs.Rows.{NodeOf, TaskOf, Brought, graph};
 ghost use Rattle.works.specs.Works.{Ready, SetMemo, WorkMemo, WorkIs, AddedIs, WorksOf, SetsOf, Scaled};
 
-use numbers::wide;
 use sets::{below, first, has, rest, union};
 
 // The tasks that node i brings in: those it has links to and, of what each of these brings in, the tasks below it. The sets of these come
@@ -23,7 +22,7 @@ fn brought(succ: &[u64; 48], n: usize, i: usize, brings: &mut [u64; 48]) -> u64
         let k = first(left);
         let mut through = brings[k];
         if through == 0 {
-            through = brought(succ, n, k + 1, &mut *brings);
+            through = brought(succ, n, k + 1, brings);
         }
         let low = below(through, k);
         set = union(set, low);
@@ -45,7 +44,7 @@ fn set_of(succ: &[u64; 48], n: usize, i: usize, brings: &mut [u64; 48]) -> u64
     if succ[i - 1] == 0 {
         return 0;
     }
-    brought(succ, n, i, &mut *brings)
+    brought(succ, n, i, brings)
 }
 
 // W(j): the run of j and all that j adds above it; noted in the memo.
@@ -61,12 +60,10 @@ fn work(
     requires { Ready succ.now runs.now n × TaskOf n j × SetMemo succ.now n brings.old × WorkMemo succ.now runs.now n known.old }
     ensures { WorkIs (graph succ.now runs.now n) j result × SetMemo succ.now n brings.new × WorkMemo succ.now runs.now n known.new }
 {
-    let mut sum = wide(runs[j - 1]);
-    let mut k = j + 1;
-    while k <= n {
-        let a = added(succ, runs, n, j, k, &mut *brings, &mut *known);
-        sum = sum + a;
-        k = k + 1;
+    let mut sum = u64::from(runs[j - 1]);
+    for k in j..n {
+        let a = added(succ, runs, n, j, k + 1, brings, known);
+        sum += a;
     }
     known[j - 1] = sum;
     sum
@@ -86,12 +83,12 @@ fn added(
     requires { Ready succ.now runs.now n × NodeOf i × TaskOf n j × SetMemo succ.now n brings.old × WorkMemo succ.now runs.now n known.old }
     ensures { AddedIs (graph succ.now runs.now n) i j result × SetMemo succ.now n brings.new × WorkMemo succ.now runs.now n known.new }
 {
-    if has(set_of(succ, n, i, &mut *brings), j - 1) {
+    if has(set_of(succ, n, i, brings), j - 1) {
         let noted = known[j - 1];
         if 0 < noted {
             return noted;
         }
-        return work(succ, runs, n, j, &mut *brings, &mut *known);
+        return work(succ, runs, n, j, brings, known);
     }
     0
 }
@@ -104,17 +101,11 @@ pub fn works_of(succ: &[u64; 48], runs: &[u32; 32], n: usize, brings: &mut [u64;
     let mut sets = [0u64; 48];
     let mut known = [0u64; 32];
     let mut works = [0u64; 32];
-    let mut j = n;
-    while 0 < j {
-        let w = work(succ, runs, n, j, &mut sets, &mut known);
-        j -= 1;
-        works[j] = w;
+    for j in (0..n).rev() {
+        works[j] = work(succ, runs, n, j + 1, &mut sets, &mut known);
     }
-    let mut i: usize = 0;
-    while i < 48 {
-        let set = set_of(succ, n, i + 1, &mut sets);
-        brings[i] = set;
-        i += 1;
+    for (i, set) in brings.iter_mut().enumerate() {
+        *set = set_of(succ, n, i + 1, &mut sets);
     }
     works
 }

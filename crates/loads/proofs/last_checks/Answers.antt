@@ -19,4 +19,4 @@ unfolding done
 returns c =
     let w = c.work_out-worked in
     let e = sym w.ensures.judged ∙ c.in_default.is in
-    ap done (rows_are c.args.d w.result.brings w.result.works c.load_rows-t.result c.as_rows-rows.result (w.ensures.worked e) c.load_rows-t.ensures c.as_rows-rows.ensures) ∙ sym (sheet_done c.args.d e)
+    ap done (rows_are c.args.d w.result.brings w.result.works c.load_rows-t.result c.as_rows.result (w.ensures.worked e) c.load_rows-t.ensures c.as_rows.ensures) ∙ sym (sheet_done c.args.d e)

@@ -1,16 +1,23 @@
 -- `order_by` meets its contract. Assumes nothing.
-use mathlib.Core.Path.{ap₂, ◌∙◌}
-use native.Mathlib.Omega.{arith}
-use Rattle.model.specs.Order.{walk}
+use mathlib.Core.Path.{◌≡◌, sym, ap, ap₂, ◌∙◌}
+use mathlib.Core.Bool.{true, false}
+use lib.Dec.{eqb}
+use Rattle.model.specs.declared.Walk.{Walk}
+use Rattle.model.specs.Order.{walk, in_order}
 use Rattle.neighbourhoods.specs.Into.{into_system}
-use Rattle.neighbourhoods.proofs.OrderLaws.{order_own, order_none, order_other}
+use Rattle.neighbourhoods.specs.Orders.{between_tasks, order_by}
 use Rattle.neighbourhoods.proofs.order_by.Goals as goal
 
-pub returns-then-from-lt33 : goal.returns-then-from-lt33
-returns-then-from-lt33 c = let a = c.args in let i = c.index-from.ensures in let j = c.index-to.ensures in order_own a.into.now a.link c.walk_back-w.result c.if-link-eq1.true (omega (arith, i, c.if-from-lt33.true)) (c.walk_back-w.ensures ∙ ap₂ (walk (into_system a.into.now)) i j)
+pub returns-then-between_tasks : goal.returns-then-between_tasks
+unfolding order_by in_order
+returns-then-between_tasks c =
+    let a = c.args in
+    let b : between_tasks a.link ≡ true = sym c.between_tasks.ensures ∙ c.if-between_tasks.true in
+    let walked : c.walk_back.result ≡ walk (into_system a.into.now) a.link.from a.link.to = c.walk_back.ensures ∙ ap₂ (walk (into_system a.into.now)) c.from-from.ensures c.from-to.ensures in
+    rw b (ap (λ (v : Walk). eqb v.failed 0) walked)
 
-pub returns-else-from-lt33 : goal.returns-else-from-lt33
-returns-else-from-lt33 c = let a = c.args in order_other a.into.now a.link (omega (arith, c.index-from.ensures, c.if-from-lt33.false))
-
-pub returns-else-link-eq1 : goal.returns-else-link-eq1
-returns-else-link-eq1 c = let a = c.args in order_none a.into.now a.link c.if-link-eq1.false
+pub returns-else-between_tasks : goal.returns-else-between_tasks
+unfolding order_by
+returns-else-between_tasks c =
+    let b : between_tasks c.args.link ≡ false = sym c.between_tasks.ensures ∙ c.if-between_tasks.false in
+    rw b c.if-between_tasks.false

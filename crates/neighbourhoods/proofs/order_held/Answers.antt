@@ -1,12 +1,17 @@
 -- `order_held` meets its contract. Assumes nothing.
-use Rattle.neighbourhoods.proofs.OrderLaws.{order_asked, order_free, order_source}
+use mathlib.Core.Path.{◌≡◌, refl, sym, ◌∙◌}
+use mathlib.Core.Bool.{true, false}
+use Rattle.neighbourhoods.specs.Orders.{between_tasks, order_held}
 use Rattle.neighbourhoods.proofs.order_held.Goals as goal
 
-pub returns-then-link-lt33 : goal.returns-then-link-lt33
-returns-then-link-lt33 c = order_asked c.args.link c.args.order c.if-link-eq1.true c.if-link-lt33.true
+pub returns-then-not-between_tasks : goal.returns-then-not-between_tasks
+unfolding order_held
+returns-then-not-between_tasks c =
+    let b : between_tasks c.args.link ≡ false = sym c.between_tasks.ensures ∙ c.if-not-between_tasks.true in
+    rw (c.if-not-between_tasks.true, b) refl
 
-pub returns-else-link-lt33 : goal.returns-else-link-lt33
-returns-else-link-lt33 c = order_source c.args.link c.args.order c.if-link-lt33.false
-
-pub returns-else-link-eq1 : goal.returns-else-link-eq1
-returns-else-link-eq1 c = order_free c.args.link c.args.order c.if-link-eq1.false
+pub returns-else-not-between_tasks : goal.returns-else-not-between_tasks
+unfolding order_held
+returns-else-not-between_tasks c =
+    let b : between_tasks c.args.link ≡ true = sym c.between_tasks.ensures ∙ c.if-not-between_tasks.false in
+    rw b refl

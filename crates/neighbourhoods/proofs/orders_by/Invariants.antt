@@ -1,5 +1,5 @@
 -- `orders_by` meets its contract: the places below l are filled. Assumes nothing.
-use Prim.Native.Nat.{ℕ, ◌≤◌, ◌<◌, ◌-◌}
+use Prim.Native.Nat.{ℕ, ◌<◌}
 use mathlib.Core.Path.{◌≡◌}
 use mathlib.Core.Bool.{false}
 use lib.ListN.{length, get_or}
@@ -8,7 +8,4 @@ use Rattle.neighbourhoods.specs.Orders.{order_by}
 use Rattle.neighbourhoods.proofs.orders_by.Given as goal
 
 abbrev pub invariant-loop-l : goal.invariant-loop-l
-invariant-loop-l l = (l.l ≤ l.d.link_count) × (length l.orders ≡ 256) × ((k : ℕ) → k < l.l → get_or l.orders k false ≡ order_by l.into (link_at l.d k))
-
-abbrev pub decreases-loop-l : goal.decreases-loop-l
-decreases-loop-l l = l.d.link_count - l.l
+invariant-loop-l l = (length l.orders ≡ 256) × ((k : ℕ) → k < l.l → get_or l.orders k false ≡ order_by l.into (link_at l.fn.d k))

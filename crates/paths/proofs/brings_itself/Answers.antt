@@ -1,19 +1,19 @@
+use Prim.Native.Nat.{ℕ}
+use mathlib.Core.Path.{refl, ◌∙◌}
 use native.Mathlib.Omega.{arith}
-use mathlib.Core.Path.{sym, ◌∙◌}
 use lib.ListN.{get_or}
-use Rattle.lemmas.proofs.Range.{any_at, any_none}
+use borrow.Author.Rules.{rules}
+use borrow.Author.Tests.{tests}
+use Rattle.std.proofs.lemmas.Iterator.{YieldsList-from_range}
+use Rattle.std.proofs.lemmas.Iterator.Search.{any_from_yields_List}
+use Rattle.lemmas.proofs.Chains.{any_range}
 use Rattle.sets.specs.Sets.{member}
 use Rattle.paths.specs.Rows.{self_in}
 use Rattle.paths.proofs.brings_itself.Goals as goal
 
-pub returns-then-has : goal.returns-then-has
-unfolding self_in
-returns-then-has c =
-    let L = c.loop-i in
-    sym (any_at (λ i. member (get_or c.args.rows.now i 0) i) 0 c.args.n L.i (omega arith) (omega arith) (sym c.has.ensures ∙ c.if-has.true))
-
 pub returns : goal.returns
 unfolding self_in
 returns c =
-    let L = c.loop-i in
-    sym (any_none (λ i. member (get_or c.args.rows.now i 0) i) 0 c.args.n (λ k p q. L.invariant.1 k (omega arith)))
+    let n = c.args.n in
+    let here = λ (i : ℕ). member (get_or c.args.rows.now i 0) i in
+    any_from_yields_List here _ _ _ c.any.ensures.ran (YieldsList-from_range 0 n n refl (omega arith)) (λ x b q k. search (rules, tests)) ∙ any_range here 0 n

@@ -1,9 +1,6 @@
--- `choice` meets its contract: the best so far is a source or none. Assumes nothing.
-use Prim.Native.Nat.{◌≤◌, ◌-◌}
+-- `choice` meets its contract: the best so far is a source that can join. Assumes nothing.
+use Rattle.std.proofs.Common.{◌≤◌, ◌<◌, IfSome}
 use Rattle.periods.proofs.choice.Given as goal
 
 abbrev pub invariant-loop-u : goal.invariant-loop-u
-invariant-loop-u l = (l.u ≤ l.n) × (l.best ≤ l.n)
-
-abbrev pub decreases-loop-u : goal.decreases-loop-u
-decreases-loop-u l = l.n - l.u
+invariant-loop-u l = IfSome l.best (λ best. (best.0 < 16) × (best.1 ≤ l.most))

@@ -3,8 +3,7 @@ use native.Mathlib.Omega.{arith}
 use Rattle.theory.proofs.Jumps.{flow_bound}
 use Rattle.rounds.proofs.flow_end.Goals as goal
 
-pub returns-then-limit-bound : goal.returns-then-limit-bound
-returns-then-limit-bound c = let a = c.args in record { lower = λ L l e. omega (arith, c.if-limit-bound.true, flow_bound 8589934592 a.rest a.flow L c.if-flow-ge8589934592.false e); most = omega arith }
-
 pub returns : goal.returns
-returns c = let a = c.args in record { lower = λ L l e. flow_bound 8589934592 a.rest a.flow L c.if-flow-ge8589934592.false e; most = c.if-limit-bound.false }
+returns c =
+    let a = c.args in
+    record { lower = λ L l e. omega (arith, c.min.ensures, flow_bound 8589934592 a.rest a.flow L c.if-flow-ge8589934592.false e); most = omega (arith, c.min.ensures) }

@@ -42,26 +42,26 @@ added-returns t c =
 pub work-loop-k-init : goal.work-loop-k-init
 work-loop-k-init t c =
     let p = c.requires in
-    (omega arith, omega arith, c.wide-sum.ensures.0 ∙ sym (work_to-start c.args.succ.now c.args.runs.now c.args.n p.0 c.args.j p.1), p.2, p.3)
+    (c.from-sum.ensures ∙ sym (work_to-start c.args.succ.now c.args.runs.now c.args.n p.0 c.args.j p.1), p.2, p.3)
 
 pub work-overflow_add-sum : goal.work-overflow_add-sum
 work-overflow_add-sum t c =
     let L = c.loop-k in
     let p = c.requires in
     let s = graph c.args.succ.now c.args.runs.now c.args.n in
-    let most = work_to-most c.args.succ.now c.args.runs.now c.args.n p.0 c.args.j (L.k + 1) p.1 (omega arith) in
-    omega (arith, most, work_to-more s c.args.j L.k L.invariant.0, c.added-a.ensures.0, L.invariant.2)
+    let most = work_to-most c.args.succ.now c.args.runs.now c.args.n p.0 c.args.j (L.k + 1 + 1) p.1 (omega arith) in
+    omega (arith, most, work_to-more s c.args.j (L.k + 1) (omega arith), c.added-a.ensures.0, L.invariant.0)
 
 pub work-loop-k-preserved : goal.work-loop-k-preserved
 work-loop-k-preserved t c =
     let L = c.loop-k in
     let s = graph c.args.succ.now c.args.runs.now c.args.n in
-    (omega arith, omega arith, omega (arith, work_to-more s c.args.j L.k L.invariant.0, c.added-a.ensures.0, L.invariant.2), c.added-a.ensures.1, c.added-a.ensures.2)
+    (omega (arith, work_to-more s c.args.j (L.k + 1) (omega arith), c.added-a.ensures.0, L.invariant.0), c.added-a.ensures.1, c.added-a.ensures.2)
 
 pub work-returns : goal.work-returns
 work-returns t c =
     let L = c.loop-k in
     let p = c.requires in
-    let e : L.k ≡ c.args.n + 1 = omega arith in
-    let w = rw e at L.invariant.2 ∙ work_to-end c.args.succ.now c.args.runs.now c.args.n p.0 c.args.j in
-    (w, L.invariant.3, memo_put (WorkIs (graph c.args.succ.now c.args.runs.now c.args.n)) c.args.n L.known c.args.j L.sum p.1 L.invariant.4 w)
+    let e : L.k ≡ c.args.n = omega arith in
+    let w = rw e at L.invariant.0 ∙ work_to-end c.args.succ.now c.args.runs.now c.args.n p.0 c.args.j in
+    (w, L.invariant.1, memo_put (WorkIs (graph c.args.succ.now c.args.runs.now c.args.n)) c.args.n L.known c.args.j L.sum p.1 L.invariant.2 w)

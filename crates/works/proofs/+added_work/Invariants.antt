@@ -1,5 +1,5 @@
 -- The rank of the node falls along every path, and the memos are right throughout.
-use Prim.Native.Nat.{◌≤◌, ◌-◌, ◌*◌, ◌+◌}
+use Prim.Native.Nat.{◌*◌, ◌+◌}
 use mathlib.Core.Path.{◌≡◌}
 use Rattle.theory.proofs.Rank.{rank_of}
 use Rattle.paths.specs.Rows.{graph}
@@ -14,8 +14,4 @@ abbrev pub decreases-work : goal.decreases-work
 decreases-work l = 2 * rank_of (graph l.succ.now l.runs.now l.n) l.j + 1
 
 abbrev pub invariant-work-loop-k : goal.invariant-work-loop-k
-invariant-work-loop-k l =
-    (l.j + 1 ≤ l.k) × (l.k ≤ l.n + 1) × (l.sum ≡ work_to (graph l.succ l.runs l.n) l.j l.k) × SetMemo l.succ l.n l.brings × WorkMemo l.succ l.runs l.n l.known
-
-abbrev pub decreases-work-loop-k : goal.decreases-work-loop-k
-decreases-work-loop-k l = l.n + 1 - l.k
+invariant-work-loop-k l = (l.sum ≡ work_to (graph l.succ l.runs l.n) l.j (l.k + 1)) × SetMemo l.succ l.n l.brings × WorkMemo l.succ l.runs l.n l.known

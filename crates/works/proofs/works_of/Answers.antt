@@ -11,7 +11,7 @@ use Rattle.works.proofs.works_of.Goals as goal
 pub loop-j-init : goal.loop-j-init
 loop-j-init c =
     let s = graph c.args.succ.now c.args.runs.now c.args.n in
-    (omega arith, memo_none (Brought c.args.succ.now c.args.n) 48 48 (omega arith), memo_none (WorkIs s) c.args.n 32 c.requires.0.few, works_none s c.args.n)
+    (memo_none (Brought c.args.succ.now c.args.n) 48 48 (omega arith), memo_none (WorkIs s) c.args.n 32 c.requires.0.few, works_none s c.args.n)
 
 pub loop-j-preserved : goal.loop-j-preserved
 loop-j-preserved c =
@@ -19,18 +19,19 @@ loop-j-preserved c =
     let s = graph c.args.succ.now c.args.runs.now c.args.n in
     let b = L.j - 1 in
     let e : L.j ≡ suc b = omega arith in
-    let w : c.work-w.result ≡ work s (suc b) = rw e at c.work-w.ensures.0 in
+    let f : b + 1 ≡ suc b = omega arith in
+    let w : c.work.result ≡ work s (suc b) = rw f at c.work.ensures.0 in
     let most = graph_work c.args.succ.now c.args.runs.now c.args.n c.requires.0 (suc b) (omega arith) in
-    (omega arith, c.work-w.ensures.1, c.work-w.ensures.2, works_put s c.args.n b L.works c.work-w.result (omega (arith, c.requires.0.few)) w (omega (arith, w, most)) (rw e at L.invariant.3))
+    (c.work.ensures.1, c.work.ensures.2, works_put s c.args.n b L.works c.work.result (omega (arith, c.requires.0.few)) w (omega (arith, w, most)) (rw e at L.invariant.2))
 
-pub set_of-set-requires : goal.set_of-set-requires
-set_of-set-requires c = (c.requires.0.few, cycle_free c.args.succ.now c.args.runs.now c.args.n c.requires.0.no_cycle, (omega arith, omega arith), c.loop-i.invariant.2)
+pub set_of-requires : goal.set_of-requires
+set_of-requires c = (c.requires.0.few, cycle_free c.args.succ.now c.args.runs.now c.args.n c.requires.0.no_cycle, (omega arith, omega arith), c.loop-i.invariant.0)
 
 pub returns : goal.returns
 returns c =
     let e : c.loop-j.j ≡ 0 = omega arith in
-    let w = rw e at c.loop-j.invariant.3 in (
+    let w = rw e at c.loop-j.invariant.2 in (
       works_end c.args.succ.now c.args.runs.now c.args.n c.loop-j.works w,
       w.scaled,
-      λ i N. let q : i - 1 + 1 ≡ i = omega (arith, N) in rw q at (c.loop-i.invariant.3 (i - 1) (omega (arith, N))),
+      λ i N. let q : i - 1 + 1 ≡ i = omega (arith, N) in rw q at (c.loop-i.invariant.1 (i - 1) (omega (arith, N))),
     )

@@ -1,26 +1,33 @@
 use native.Mathlib.Omega.{arith}
-use Prim.Native.Nat.{suc, ◌+◌, ◌*◌, ◌-◌}
-use mathlib.Core.Path.{◌≡◌}
+use Prim.Native.Nat.{ℕ, suc, ◌+◌, ◌-◌, ◌<◌}
+use mathlib.Core.Path.{◌≡◌, refl, sym, ◌∙◌}
 use lib.ListN.{get_or}
-use Rattle.loads.proofs.Sums.{load_by-most}
-use Rattle.loads.proofs.Columns.{levels_none, levels_step}
+use Rattle.works.specs.Works.{load_by}
+use Rattle.loads.proofs.Sums.{load_by-none, load_by-most}
+use Rattle.loads.proofs.Columns.{column_load, levels_none, levels_put, zero_entry}
 use Rattle.loads.proofs.levels.levels_of.Goals as goal
 
 pub loop-j-init : goal.loop-j-init
-loop-j-init c = (omega arith, levels_none c.args.brings.now c.args.works.now c.args.n c.args.m c.args.below c.requires.1)
+loop-j-init c =
+    let brings = c.args.brings.now in
+    let n = c.args.n in
+    (refl, (λ u p. zero_entry 16 u (omega (arith, c.requires.1)) ∙ sym (load_by-none (get_or brings (32 + u) 0) c.args.works.now n (suc n) (omega arith))), levels_none brings c.args.works.now n c.args.m c.args.below c.requires.1)
 
-pub source_column-requires : goal.source_column-requires
-source_column-requires c =
+pub bring_in-requires : goal.bring_in-requires
+bring_in-requires c =
     let L = c.loop-j in
-    let b = c.args.below in
-    let row = L.j - 1 - b in
-    let up : b + suc row ≡ L.j = omega arith in
-    (c.requires.1, omega (arith, c.requires.0), omega (arith, c.requires.0), L.invariant.1.0, c.requires.3 (L.j - 1), λ u p. let e : 16 * row + 16 + u ≡ 16 * suc row + u = omega arith in omega (arith, rw (← e, up) at (L.invariant.1.1 (suc row) u (omega arith) (omega (arith, c.requires.0)) p), load_by-most (get_or c.args.brings.now (32 + u) 0) c.args.works.now c.args.n (suc L.j) c.requires.0 c.requires.3 (omega arith)))
+    (omega (arith, c.requires.1), omega (arith, c.requires.1, L.invariant.0), omega (arith, c.requires.0), c.requires.3 (L.j - 1), λ u p. omega (arith, L.invariant.1 u p, load_by-most (get_or c.args.brings.now (32 + u) 0) c.args.works.now c.args.n (suc L.j) c.requires.0 c.requires.3 (omega arith)))
 
 pub loop-j-preserved : goal.loop-j-preserved
 loop-j-preserved c =
     let L = c.loop-j in
-    let b = c.args.below in
-    let row = L.j - 1 - b in
-    let e : L.j ≡ suc (L.j - 1) = omega arith in
-    (omega arith, levels_step c.args.brings.now c.args.works.now c.args.n c.args.m b row (L.j - 1) L.levels _ (omega arith) (omega arith) c.requires.0 c.requires.1 c.source_column.ensures (rw e at L.invariant.1))
+    let brings = c.args.brings.now in
+    let works = c.args.works.now in
+    let n = c.args.n in
+    let b = L.j - 1 in
+    let e : L.j ≡ suc b = omega arith in
+    let before = rw e at L.invariant.1 in
+    let C = c.bring_in.ensures in
+    let now : (u : ℕ) → u < c.args.m → get_or c.bring_in.new.loads u 0 ≡ load_by (get_or brings (32 + u) 0) works n (suc b) =
+    λ u p. column_load 32 brings works n b c.args.m L.loads c.bring_in.new.loads (omega arith) C u p (before u p) in
+    (C.0 ∙ L.invariant.0, now, levels_put brings works n c.args.m c.args.below (b - c.args.below) b L.levels c.bring_in.new.loads (omega arith) (omega (arith, c.requires.0)) now (rw e at L.invariant.2))

@@ -3,21 +3,23 @@ use Prim.Native.Nat.{suc, ◌-◌}
 use mathlib.Core.Path.{◌≡◌, refl, sym, ◌∙◌}
 use lib.ListN.{get_or}
 use Rattle.loads.proofs.Sums.{load_by-none, load_by-most}
-use Rattle.loads.proofs.Columns.{starts_none, starts_step, zero_entry}
+use Rattle.loads.proofs.Columns.{starts_none, starts_step, zero_entry, top_front}
 use Rattle.loads.proofs.levels.starts_of.Goals as goal
 
 pub loop-j-init : goal.loop-j-init
-loop-j-init c = (omega arith, refl, λ k p. zero_entry 32 k (omega (arith, c.requires.0)) ∙ sym (load_by-none (get_or c.args.brings.now k 0) c.args.works.now c.args.n (suc c.args.n) (omega arith)), starts_none c.args.brings.now c.args.works.now c.args.n)
+loop-j-init c = (refl, λ k p. zero_entry 32 k (omega (arith, c.requires.0)) ∙ sym (load_by-none (get_or c.args.brings.now k 0) c.args.works.now c.args.n (suc c.args.n) (omega arith)), starts_none c.args.brings.now c.args.works.now c.args.n)
 
-pub task_column-requires : goal.task_column-requires
-task_column-requires c =
+pub bring_in-requires : goal.bring_in-requires
+bring_in-requires c =
     let L = c.loop-j in
-    (omega (arith, c.requires.0), L.invariant.1, c.requires.1 (L.j - 1), λ k p. omega (arith, L.invariant.2 k (omega arith), load_by-most (get_or c.args.brings.now k 0) c.args.works.now c.args.n (suc L.j) c.requires.0 c.requires.1 (omega arith)))
+    (omega (arith, c.requires.0), omega (arith, c.requires.0, L.invariant.0), omega (arith, c.requires.0), c.requires.1 (L.j - 1), λ k p. omega (arith, L.invariant.1 k (omega arith), load_by-most (get_or c.args.brings.now k 0) c.args.works.now c.args.n (suc L.j) c.requires.0 c.requires.1 (omega arith)))
 
 pub loop-j-preserved : goal.loop-j-preserved
 loop-j-preserved c =
     let L = c.loop-j in
     let b = L.j - 1 in
     let e : L.j ≡ suc b = omega arith in
-    let r = starts_step c.args.brings.now c.args.works.now c.args.n b L.starts L.loads c.task_column.new.loads c.task_column.result (omega arith) c.requires.0 L.invariant.1 (rw e at L.invariant.2) c.task_column.ensures.0 c.task_column.ensures.1 (rw e at L.invariant.3) in
-    (omega arith, r.0, r.1, r.2)
+    let C = c.bring_in.ensures in
+    starts_step c.args.brings.now c.args.works.now c.args.n b L.starts L.loads c.bring_in.new.loads c.largest.result (omega arith) c.requires.0 L.invariant.0 (rw e at L.invariant.1) C
+    (c.largest.ensures ∙ top_front c.bring_in.new.loads b (omega (arith, C.0, L.invariant.0, c.requires.0)))
+    (rw e at L.invariant.2)

@@ -1,5 +1,5 @@
 -- The starts from task j + 1 on are there.
-use Prim.Native.Nat.{ℕ, suc, ◌≤◌, ◌<◌}
+use Prim.Native.Nat.{ℕ, suc, ◌<◌}
 use mathlib.Core.Path.{◌≡◌}
 use lib.ListN.{length, get_or}
 use Rattle.works.specs.Works.{load_by}
@@ -7,7 +7,4 @@ use Rattle.loads.proofs.Columns.{StartsFrom}
 use Rattle.loads.proofs.levels.starts_of.Given as goal
 
 abbrev pub invariant-loop-j : goal.invariant-loop-j
-invariant-loop-j l = (l.j ≤ l.n) × (length l.loads ≡ 32) × ((k : ℕ) → k < l.j → get_or l.loads k 0 ≡ load_by (get_or l.brings k 0) l.works l.n (suc l.j)) × StartsFrom l.brings l.works l.n l.j l.starts
-
-abbrev pub decreases-loop-j : goal.decreases-loop-j
-decreases-loop-j l = l.j
+invariant-loop-j l = (length l.loads ≡ 32) × ((k : ℕ) → k < l.j → get_or l.loads k 0 ≡ load_by (get_or l.brings k 0) l.works l.n (suc l.j)) × StartsFrom l.brings l.works l.n l.j l.starts

@@ -1,18 +1,34 @@
 use native.Mathlib.Omega.{arith}
-use mathlib.Core.Path.{sym}
+use Prim.Native.Nat.{ℕ, suc, ◌-◌}
+use mathlib.Core.Path.{sym, ◌∙◌}
 use lib.ListN.{get_or}
-use Rattle.loads.proofs.Columns.{load_under, heavy_found, heavy_none}
+use lib.Dec.{ltb}
+use borrow.Author.Rules.{rules}
+use borrow.Author.Tests.{tests}
+use Rattle.std.proofs.lemmas.Iterator.{YieldsList-from_slice}
+use Rattle.std.proofs.lemmas.Iterator.Search.{any_from_yields_List}
+use Rattle.lemmas.proofs.Chains.{any_list}
+use Rattle.works.specs.Works.{load_by}
+use Rattle.loads.specs.Tables.{heavy_by}
+use Rattle.loads.proofs.Sums.{works_front, sum-most}
+use Rattle.loads.proofs.Columns.{load_under, heavy_none}
 use Rattle.loads.proofs.rows.heavy.Goals as goal
 
-pub returns-then-sum_of-le1000000000 : goal.returns-then-sum_of-le1000000000
-returns-then-sum_of-le1000000000 c = sym (heavy_none c.args.brings.now c.args.works.now c.args.n (λ r p. omega (arith, load_under (get_or c.args.brings.now r 0) c.args.works.now c.args.n, c.if-sum_of-le1000000000.true, c.sum_of.ensures)))
+pub sum_of-requires : goal.sum_of-requires
+sum_of-requires c =
+    let n = c.args.n in
+    omega (arith, works_front c.args.works.now n (omega (arith, c.requires.0, c.told-works)), sum-most (λ k. get_or c.args.works.now (k - 1) 0) 1 (suc n - 1) 42949672960000000 (λ k. c.requires.1 (k - 1)))
 
-pub returns-then-total-gt1000000000 : goal.returns-then-total-gt1000000000
-returns-then-total-gt1000000000 c =
-    let L = c.loop-i in
-    sym (heavy_found c.args.brings.now c.args.works.now c.args.n L.i (omega arith) (omega (arith, c.if-total-gt1000000000.true, c.total.ensures)))
+pub returns-then-sum_of-le1000000000 : goal.returns-then-sum_of-le1000000000
+returns-then-sum_of-le1000000000 c =
+    let works = c.args.works.now in
+    let n = c.args.n in
+    let e = works_front works n (omega (arith, c.requires.0, c.told-works)) in
+    sym (heavy_none c.args.brings.now works n (λ r p. omega (arith, load_under (get_or c.args.brings.now r 0) works n, c.if-sum_of-le1000000000.true, c.sum_of.ensures, e)))
 
 pub returns : goal.returns
+unfolding heavy_by
 returns c =
-    let L = c.loop-i in
-    sym (heavy_none c.args.brings.now c.args.works.now c.args.n (λ r p. L.invariant.1 r (omega arith)))
+    let heavy = λ (row : ℕ). ltb 1000000000 (load_by row c.args.works.now c.args.n 1) in
+    any_from_yields_List heavy _ _ _ c.any.ensures.ran (YieldsList-from_slice c.args.brings.now cc) (λ x b q k. search (rules, tests))
+    ∙ rw c.told-brings at (any_list heavy c.args.brings.now 0)

@@ -1,12 +1,9 @@
 -- The row is filled from the highest task down.
-use Prim.Native.Nat.{suc, ◌≤◌}
+use Prim.Native.Nat.{suc}
 use mathlib.Core.Path.{◌≡◌}
 use Rattle.works.specs.Works.{load_by}
 use Rattle.loads.proofs.Sums.{RowFrom}
 use Rattle.loads.proofs.rows.load_row.Given as goal
 
 abbrev pub invariant-loop-j : goal.invariant-loop-j
-invariant-loop-j l = (l.j ≤ l.n) × (l.sum ≡ load_by l.row l.works l.n (suc l.j)) × RowFrom l.row l.works l.n l.j l.loads
-
-abbrev pub decreases-loop-j : goal.decreases-loop-j
-decreases-loop-j l = l.j
+invariant-loop-j l = (l.sum ≡ load_by l.row l.works l.n (suc l.j)) × RowFrom l.row l.works l.n l.j l.loads

@@ -1,5 +1,5 @@
 -- The rows below i are filled.
-use Prim.Native.Nat.{ℕ, ◌≤◌, ◌<◌, ◌-◌}
+use Prim.Native.Nat.{ℕ, ◌<◌}
 use mathlib.Core.Path.{◌≡◌}
 use mathlib.Core.List.{[]}
 use lib.ListN.{length, get_or}
@@ -7,7 +7,4 @@ use Rattle.loads.specs.Tables.{RowBy}
 use Rattle.loads.proofs.rows.load_rows.Given as goal
 
 abbrev pub invariant-loop-i : goal.invariant-loop-i
-invariant-loop-i l = (l.i ≤ 48) × (length l.t ≡ 48) × ((r : ℕ) → r < l.i → RowBy (get_or l.brings r 0) l.works l.n (get_or l.t r []))
-
-abbrev pub decreases-loop-i : goal.decreases-loop-i
-decreases-loop-i l = 48 - l.i
+invariant-loop-i l = (length l.t ≡ 48) × ((r : ℕ) → r < l.i → RowBy (get_or l.brings r 0) l.works l.n (get_or l.t r []))

@@ -9,17 +9,20 @@ use Rattle.neighbourhoods.specs.Into.{into_system, unmet}
 use Rattle.neighbourhoods.proofs.IntoLaws.{rest_node}
 use Rattle.neighbourhoods.proofs.WalkLaws.{unmet_le, unmet_falls, visit_is_far, visit_is_again, visit_is_low, visit_is_high, turn_on, turn_none, turn_failed}
 use Rattle.neighbourhoods.proofs.walk.+visit.Goals as goal
+use Rattle.neighbourhoods.proofs.walk.+visit.Goals.{then-x-gt32-via-then-x-gt32, then-x-gt32-via-else-x-gt32+then-w-x}
 
 pub returns-then-x-gt32 : goal.returns-then-x-gt32
-returns-then-x-gt32 t c = let a = c.args in (visit_is_far a.into.now a.j a.x a.w c.if-x-gt32.true, omega arith)
-
-pub returns-then-met-x : goal.returns-then-met-x
-returns-then-met-x t c = let a = c.args in (visit_is_again a.into.now a.j a.x a.w c.if-x-gt32.false c.if-met-x.true, omega arith)
+returns-then-x-gt32 t c =
+    let a = c.args in
+    elim c.then-x-gt32.branch [
+      | then-x-gt32-via-then-x-gt32 w ↦ (visit_is_far a.into.now a.j a.x a.w w.if-x-gt32.true, omega arith)
+      | then-x-gt32-via-else-x-gt32+then-w-x w ↦ (visit_is_again a.into.now a.j a.x a.w w.if-x-gt32.false w.if-w-x.true, omega arith)
+    ]
 
 pub returns-then-x-j : goal.returns-then-x-j
 returns-then-x-j t c =
     let a = c.args in
-    (visit_is_low a.into.now a.j a.x a.w c.if-x-gt32.false c.if-met-x.false c.if-x-j.true, unmet_le a.w.met (a.x - 1))
+    (visit_is_low a.into.now a.j a.x a.w c.if-x-gt32.false c.if-w-x.false c.if-x-j.true, unmet_le a.w.met (a.x - 1))
 
 pub loop-rest-init : goal.loop-rest-init
 unfolding up_to
@@ -37,7 +40,7 @@ visit-next-requires t c =
     -- x itself is met
     let falls_at_x : unmet (meet a.x a.w).met < unmet a.w.met =
     let z : length a.w.met ≡ 32 = search rules in
-    unmet_falls a.w.met (a.x - 1) (omega (arith, z, c.if-x-gt32.false, c.requires.0)) c.if-met-x.false in
+    unmet_falls a.w.met (a.x - 1) (omega (arith, z, c.if-x-gt32.false, c.requires.0)) c.if-w-x.false in
     (omega (arith, c.decreases, L.invariant.4, falls_at_x), (omega arith, omega (arith, inside), L.invariant.2))
 
 pub returns-then-next-ne0 : goal.returns-then-next-ne0
@@ -50,11 +53,13 @@ returns-then-next-ne0 t c =
     let inside : L.r + c.first-k.result < 48 = rest_node (get_or a.into.now (a.x - 1) 0) L.r c.first-k.result found.in_set in
     let falls_at_x : unmet (meet a.x a.w).met < unmet a.w.met =
     let z : length a.w.met ≡ 32 = search rules in
-    unmet_falls a.w.met (a.x - 1) (omega (arith, z, c.if-x-gt32.false, c.requires.0)) c.if-met-x.false in
+    unmet_falls a.w.met (a.x - 1) (omega (arith, z, c.if-x-gt32.false, c.requires.0)) c.if-w-x.false in
+    let passed : L.r + (k + 1) ≡ L.r + k + 1 = omega arith in
+    let visited = rw passed at c.visit-next.ensures.0 in
     -- the visit of the next node is one turn
     let turn : (f : ℕ) → unmet (meet a.x a.w).met < f → v ≡ up_to (L.r + k + 1) (step_to (into_system a.into.now) a.j f a.x) (meet a.x a.w) =
-    λ f b. c.visit-next.ensures.0 f (omega (arith, b, L.invariant.4)) ∙ turn_on a.into.now a.j a.x f L.r (meet a.x a.w) L.next (L.invariant.3 f b) k L.invariant.2 found in (
-      visit_is_high a.into.now a.j a.x a.w v c.if-x-gt32.false c.if-met-x.false c.if-x-j.false
+    λ f b. visited f (omega (arith, b, L.invariant.4)) ∙ turn_on a.into.now a.j a.x f L.r (meet a.x a.w) L.next (L.invariant.3 f b) k L.invariant.2 found in (
+      visit_is_high a.into.now a.j a.x a.w v c.if-x-gt32.false c.if-w-x.false c.if-x-j.false
           (λ f b. turn_failed a.into.now a.j a.x f (L.r + k + 1) (meet a.x a.w) v (turn f (omega (arith, falls_at_x, b))) (omega (arith, inside)) c.if-next-ne0.true),
       omega (arith, falls_at_x, L.invariant.4, c.visit-next.ensures.1),
     )
@@ -66,11 +71,14 @@ loop-rest-preserved t c =
     let k = c.first-k.result in
     let s = get_or a.into.now (a.x - 1) 0 % 281474976710656 in
     let found : FirstIn (get_or a.into.now (a.x - 1) 0 % 281474976710656 / 2 ^ L.r) c.first-k.result = rw L.invariant.1 at c.first-k.ensures in
-    let inside : L.r + c.first-k.result < 48 = rest_node (get_or a.into.now (a.x - 1) 0) L.r c.first-k.result found.in_set in (
+    let inside : L.r + c.first-k.result < 48 = rest_node (get_or a.into.now (a.x - 1) 0) L.r c.first-k.result found.in_set in
+    let passed : L.r + (k + 1) ≡ L.r + k + 1 = omega arith in
+    let visited = rw passed at c.visit-next.ensures.0 in
+    rw passed (
       omega (arith, inside),
       ap (λ z. z / 2 ^ k / 2) L.invariant.1 ∙ ap (λ z. z / 2) (shr-shr s L.r k) ∙ shr-shr s (L.r + k) 1,
       c.if-next-ne0.false,
-      (λ f b. c.visit-next.ensures.0 f (omega (arith, b, L.invariant.4)) ∙ turn_on a.into.now a.j a.x f L.r (meet a.x a.w) L.next (L.invariant.3 f b) k L.invariant.2 found),
+      (λ f b. visited f (omega (arith, b, L.invariant.4)) ∙ turn_on a.into.now a.j a.x f L.r (meet a.x a.w) L.next (L.invariant.3 f b) k L.invariant.2 found),
       omega (arith, L.invariant.4, c.visit-next.ensures.1),
     )
 
@@ -80,8 +88,8 @@ returns t c =
     let L = c.loop-rest in
     let falls_at_x : unmet (meet a.x a.w).met < unmet a.w.met =
     let z : length a.w.met ≡ 32 = search rules in
-    unmet_falls a.w.met (a.x - 1) (omega (arith, z, c.if-x-gt32.false, c.requires.0)) c.if-met-x.false in (
-      visit_is_high a.into.now a.j a.x a.w L.next c.if-x-gt32.false c.if-met-x.false c.if-x-j.false
+    unmet_falls a.w.met (a.x - 1) (omega (arith, z, c.if-x-gt32.false, c.requires.0)) c.if-w-x.false in (
+      visit_is_high a.into.now a.j a.x a.w L.next c.if-x-gt32.false c.if-w-x.false c.if-x-j.false
           (λ f b. turn_none a.into.now a.j a.x f L.r (meet a.x a.w) L.next (L.invariant.3 f (omega (arith, falls_at_x, b))) L.invariant.0 (sym L.invariant.1 ∙ c.loop-rest-test.false)),
       omega (arith, falls_at_x, L.invariant.4),
     )

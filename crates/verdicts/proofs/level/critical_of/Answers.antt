@@ -1,32 +1,51 @@
 use mathlib.Core.Path.{◌≡◌}
 use native.Mathlib.Omega.{arith}
 use Rattle.model.specs.Graph.{link_at}
+use Rattle.lemmas.proofs.Front.{link_below, link_here, links_met}
 use Rattle.theory.proofs.Links.{from_most, to_most}
+use Rattle.theory.proofs.Typed.{typed_sized}
 use Rattle.verdicts.proofs.LevelSteps.{critical_none, critical_more}
 use Rattle.verdicts.proofs.level.critical_of.Goals as goal
 
-pub loop-l-init : goal.loop-l-init
-loop-l-init c = (omega arith, critical_none c.args.d)
-
-pub offset_bounds-sets-at : goal.offset_bounds-sets-at
-offset_bounds-sets-at c = omega (arith, c.index-at.ensures, (to_most c.args.d c.requires.fields c.loop-l.l (omega arith)).1)
+pub loop-link-init : goal.loop-link-init
+loop-link-init c = critical_none c.args.d
 
 pub bounds-sets-at : goal.bounds-sets-at
-bounds-sets-at c = omega (arith, c.index-at.ensures, (to_most c.args.d c.requires.fields c.loop-l.l (omega arith)).1)
+bounds-sets-at c =
+    let d = c.args.d in
+    let l = c.loop-link.link-index in
+    let h = c.loop-link-test.true in
+    let e : c.from-at.result ≡ (link_at d l).to = rw (link_here d l h) at c.from-at.ensures in
+    omega (arith, to_most d c.requires.fields l (link_below d l h))
 
 pub with_source-requires : goal.with_source-requires
-with_source-requires c = from_most c.args.d c.requires.fields c.loop-l.l (omega arith)
-
-pub offset_bounds-sets-at-in-loop-l : goal.offset_bounds-sets-at-in-loop-l
-offset_bounds-sets-at-in-loop-l c = omega (arith, c.index-at.ensures, (to_most c.args.d c.requires.fields c.loop-l.l (omega arith)).1)
-
-pub bounds-sets-at-in-loop-l : goal.bounds-sets-at-in-loop-l
-bounds-sets-at-in-loop-l c = omega (arith, c.index-at.ensures, (to_most c.args.d c.requires.fields c.loop-l.l (omega arith)).1)
-
-pub loop-l-preserved : goal.loop-l-preserved
-loop-l-preserved c =
-    let L = c.loop-l in
+with_source-requires c =
     let d = c.args.d in
-    let e : c.index-at.result ≡ (link_at d L.l).to = c.index-at.ensures in
-    let k = to_most d c.requires.fields L.l (omega arith) in
-    (omega arith, rw e (critical_more d L.sets L.l c.with_source.result k.0 k.1 (rw e at c.with_source.ensures) L.invariant.1))
+    let l = c.loop-link.link-index in
+    let h = c.loop-link-test.true in
+    rw (link_here d l h) (from_most d c.requires.fields l (link_below d l h))
+
+pub bounds-sets-at-in-loop-link : goal.bounds-sets-at-in-loop-link
+bounds-sets-at-in-loop-link c =
+    let d = c.args.d in
+    let l = c.loop-link.link-index in
+    let h = c.loop-link-test.true in
+    let e : c.from-at.result ≡ (link_at d l).to = rw (link_here d l h) at c.from-at.ensures in
+    omega (arith, to_most d c.requires.fields l (link_below d l h))
+
+pub loop-link-preserved : goal.loop-link-preserved
+loop-link-preserved c =
+    let L = c.loop-link in
+    let d = c.args.d in
+    let l = L.link-index in
+    let h = c.loop-link-test.true in
+    let e : c.from-at.result ≡ (link_at d l).to = rw (link_here d l h) at c.from-at.ensures in
+    let k = to_most d c.requires.fields l (link_below d l h) in
+    rw e (critical_more d L.sets l c.with_source.result k.0 k.1 (rw (e, link_here d l h) at c.with_source.ensures) L.invariant)
+
+pub returns : goal.returns
+returns c =
+    let L = c.loop-link in
+    let d = c.args.d in
+    let e = links_met d L.link-index (typed_sized d _ c.well_formed.0).links c.requires.fields.few_links L.auto.link-index-end c.loop-link-test.false in
+    (rw e at L.invariant).at

@@ -7,6 +7,8 @@ use Rattle.model.specs.Verdicts.{free_slot}
 use Rattle.lemmas.proofs.Tests.{Cmp, less, same, more, cmp}
 use Rattle.theory.proofs.Links.{from_most, to_most}
 use Rattle.verdicts.proofs.SlotLaws.{slot_in, slots_more, slots_done}
+use Rattle.lemmas.proofs.Front.{link_below, link_here, front_all}
+use Rattle.theory.proofs.Typed.{typed_sized}
 use Rattle.verdicts.proofs.slots.decide_all.Goals as goal
 
 -- every slot is free before the first link
@@ -16,13 +18,30 @@ free k (same p) = get_or-eq_default {A = VerdictSlot} (replicate 256 free_slot) 
 free k (more p) = get_or-eq_default {A = VerdictSlot} (replicate 256 free_slot) free_slot {n = k} (omega arith)
 
 pub loop-l-init : goal.loop-l-init
-loop-l-init c = (omega arith, record { sized = refl; filled = λ k p. absurd (omega arith); rest = λ k p. free k (cmp k 256) })
+loop-l-init c = record { sized = refl; filled = λ k p. absurd (omega arith); rest = λ k p. free k (cmp k 256) }
 
 pub verdict_from-verdict-requires : goal.verdict_from-verdict-requires
-verdict_from-verdict-requires c = (from_most c.args.d c.requires.fields c.loop-l.l (omega arith), (to_most c.args.d c.requires.fields c.loop-l.l (omega arith)).0, (to_most c.args.d c.requires.fields c.loop-l.l (omega arith)).1)
+verdict_from-verdict-requires c =
+    let d = c.args.d in
+    let l = c.loop-l.l in
+    let h = c.loop-l-test.true in
+    let to = to_most d c.requires.fields l (link_below d l h) in
+    rw (link_here d l h) (from_most d c.requires.fields l (link_below d l h), to.0, to.1)
 
 pub loop-l-preserved : goal.loop-l-preserved
-loop-l-preserved c = let L = c.loop-l in (omega arith, slots_more c.args.d c.args.orders.now c.args.gaps.now c.args.reaches.now L.slots L.l (record { verdict = c.verdict_from-verdict.result }) (omega (arith, c.requires.fields.few_links)) (slot_in c.args.d c.args.orders.now c.args.gaps.now c.args.reaches.now L.l c.verdict_from-verdict.result (omega arith) c.verdict_from-verdict.ensures) L.invariant.1)
+loop-l-preserved c =
+    let L = c.loop-l in
+    let d = c.args.d in
+    let l = L.l in
+    let h = c.loop-l-test.true in
+    let below = link_below d l h in
+    slots_more d c.args.orders.now c.args.gaps.now c.args.reaches.now L.slots l (record { verdict = c.verdict_from-verdict.result }) (omega (arith, below, c.requires.fields.few_links))
+    (slot_in d c.args.orders.now c.args.gaps.now c.args.reaches.now l c.verdict_from-verdict.result below (rw (link_here d l h) at c.verdict_from-verdict.ensures))
+    L.invariant
 
 pub returns : goal.returns
-returns c = let L = c.loop-l in slots_done c.args.d c.args.orders.now c.args.gaps.now c.args.reaches.now L.slots L.l c.loop-l-test.false L.invariant.1
+returns c =
+    let L = c.loop-l in
+    let d = c.args.d in
+    let z = (typed_sized d _ c.well_formed.0).links in
+    slots_done d c.args.orders.now c.args.gaps.now c.args.reaches.now L.slots L.l (front_all d.link_count d.links L.l (omega (arith, z, c.requires.fields.few_links)) c.loop-l-test.false) L.invariant

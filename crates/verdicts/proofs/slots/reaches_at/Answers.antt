@@ -1,18 +1,26 @@
 use Prim.Native.Nat.{◌+◌}
-use mathlib.Core.Path.{◌∙◌}
+use mathlib.Core.Path.{◌≡◌, ap, ◌∙◌}
 use native.Mathlib.Omega.{arith}
 use lib.ListN.{get_or, length-set}
-use Rattle.verdicts.proofs.TableLaws.{reaches_more, reach_most}
+use Rattle.verdicts.specs.Tables.{Level, seen}
+use Rattle.verdicts.proofs.TableLaws.{reaches_more, reach_most, level_scaled}
 use Rattle.verdicts.proofs.slots.reaches_at.Goals as goal
 
 pub overflow_add-reaches : goal.overflow_add-reaches
 overflow_add-reaches c =
-    let a = c.args in
-    let L = c.loop-j in
-    omega (arith, reach_most (get_or a.starts.now L.j 0) c.loads_at-loads.result a.gaps.now a.m c.room-limit.result, c.level_reach.ensures, c.room-limit.ensures, c.requires.2 L.j, c.wide-tail.ensures.0, c.requires.0.tail_most L.j (omega arith))
+    let j = c.loop-j.j in
+    let v = c.level-level.result in
+    let t = c.args.t.now in
+    let tail : v.tail ≡ get_or t.tails j 0 = ap (λ (x : Level). x.tail) c.level-level.ensures in
+    omega (arith, reach_most v.start v.loads.now c.args.gaps.now t.sources.count c.saturating_sub-limit.result, c.reach_below.ensures, c.saturating_sub-limit.ensures, c.requires.2 j, tail, c.requires.0.tail_most j c.loop-j-test.true)
+
+pub reach_below-requires : goal.reach_below-requires
+reach_below-requires c =
+    let j = c.loop-j.j in
+    (level_scaled c.args.t.now c.args.gaps.now j (seen c.level-level.result) c.requires.0 c.requires.1 c.loop-j-test.true c.level-level.ensures, omega (arith, c.saturating_sub-limit.ensures, c.requires.2 j))
 
 pub loop-j-preserved : goal.loop-j-preserved
 loop-j-preserved c =
-    let a = c.args in
     let L = c.loop-j in
-    (omega arith, length-set L.reaches L.j (c.level_reach.result + c.wide-tail.result) ∙ L.invariant.1, reaches_more a.levels.now a.starts.now a.tails.now a.gaps.now a.limits.now a.n a.m L.reaches L.j c.loads_at-loads.result c.level_reach.result c.wide-tail.result c.room-limit.result (omega arith) c.requires.0.few_tasks L.invariant.1 c.loads_at-loads.ensures c.wide-tail.ensures.0 c.room-limit.ensures c.level_reach.ensures L.invariant.2)
+    let v = seen c.level-level.result in
+    (length-set L.reaches L.j (c.reach_below.result + v.tail) ∙ L.invariant.0, reaches_more c.args.t.now c.args.gaps.now c.args.limits.now L.reaches L.j v c.reach_below.result c.saturating_sub-limit.result c.loop-j-test.true L.invariant.0 c.level-level.ensures c.saturating_sub-limit.ensures c.reach_below.ensures L.invariant.1)

@@ -12,8 +12,8 @@ returns-then-order c = by_order c.args.link c.args.order c.args.gap c.args.reach
 pub returns-then-link-lt33 : goal.returns-then-link-lt33
 returns-then-link-lt33 c = by_disorder c.args.link c.args.order c.args.gap c.args.reach c.if-link-eq0.false c.if-link-lt33.true c.if-order.false
 
-pub returns-then-reach-gap : goal.returns-then-reach-gap
-returns-then-reach-gap c = rw (lt-ltb _ _ c.if-reach-gap.true) at (by_rounds c.args.link c.args.order c.args.gap c.args.reach c.if-link-eq0.false c.if-link-lt33.false)
+pub returns-then-reach-from : goal.returns-then-reach-from
+returns-then-reach-from c = rw (lt-ltb _ _ (rw c.from.ensures at c.if-reach-from.true)) at (by_rounds c.args.link c.args.order c.args.gap c.args.reach c.if-link-eq0.false c.if-link-lt33.false)
 
 pub returns : goal.returns
-returns c = rw (le-ltb _ _ c.if-reach-gap.false) at (by_rounds c.args.link c.args.order c.args.gap c.args.reach c.if-link-eq0.false c.if-link-lt33.false)
+returns c = rw (le-ltb _ _ (rw c.from.ensures at c.if-reach-from.false)) at (by_rounds c.args.link c.args.order c.args.gap c.args.reach c.if-link-eq0.false c.if-link-lt33.false)

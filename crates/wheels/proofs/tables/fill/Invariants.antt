@@ -5,7 +5,7 @@ use Rattle.wheels.proofs.Steps.{Filling, Counting}
 use Rattle.wheels.proofs.tables.fill.Given as goal
 
 abbrev pub invariant-loop-done : goal.invariant-loop-done
-invariant-loop-done l = (l.all ≡ l.entries * l.block) × (l.done ≤ l.all) × Filling l.part l.gaps l.n l.flow l.block l.place l.done l.initial.table l.table × Counting l.part l.gaps l.n l.done l.sum l.ends
+invariant-loop-done l = (l.all ≡ l.row.entries * l.row.block) × (l.done ≤ l.all) × Filling l.part.loads.now l.part.gaps.now l.part.count l.flow l.row.block l.row.place l.done l.initial.table l.table × Counting l.part.loads.now l.part.gaps.now l.part.count l.done l.sum l.ends
 
 abbrev pub decreases-loop-done : goal.decreases-loop-done
 decreases-loop-done l = l.all - l.done

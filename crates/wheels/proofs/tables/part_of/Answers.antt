@@ -15,34 +15,34 @@ unfolding part_flow
 flow-whole loads gaps wheels n k flow e = e
 
 pub loop-u-init : goal.loop-u-init
-loop-u-init c = let a = c.args in (omega arith, c.requires.3, (λ v p. absurd (omega arith)), sum-none (λ v. part_at a.loads.now a.wheels.now a.k v * 4398046511104 / get_or a.gaps.now v 0), omega arith)
+loop-u-init c = let a = c.args in (c.requires.2, (λ v p. absurd (omega arith)), sum-none (λ v. part_at a.level.now.loads.now a.plan.now.wheels a.k v * 4398046511104 / get_or a.level.now.gaps.now v 0), omega arith)
 
 pub loop-u-preserved : goal.loop-u-preserved
 unfolding part_at
 loop-u-preserved c =
-    let load_is : c.on_wheel-load.result ≡ part_at c.args.loads.now c.args.wheels.now c.args.k c.loop-u.u = c.on_wheel-load.ensures in
-    let load-small : (c.on_wheel-load.result ≤ 2097151) × (c.on_wheel-load.result ≤ get_or c.args.gaps.now c.loop-u.u 0) = let a = c.args in
-    let x = part_small a.loads.now a.gaps.now a.wheels.now a.periods.now a.n a.count a.k c.loop-u.u c.requires.1 c.requires.2 (omega arith) in
+    let load_is : c.on_wheel-load.result ≡ part_at c.args.level.now.loads.now c.args.plan.now.wheels c.args.k c.loop-u.u = c.on_wheel-load.ensures in
+    let load-small : (c.on_wheel-load.result ≤ 2097151) × (c.on_wheel-load.result ≤ get_or c.args.level.now.gaps.now c.loop-u.u 0) = let a = c.args in
+    let x = part_small a.level.now.loads.now a.level.now.gaps.now a.plan.now.wheels a.plan.now.periods a.level.now.count a.plan.now.count a.k c.loop-u.u c.requires.0 c.requires.1 (omega arith) in
     (omega (arith, load_is, x.0), omega (arith, load_is, x.1)) in
     let a = c.args in
     let L = c.loop-u in
     let r = c.on_wheel-load.result in
-    let e : r ≡ part_at a.loads.now a.wheels.now a.k L.u = load_is in
-    let f : ℕ → ℕ = λ v. part_at a.loads.now a.wheels.now a.k v * 4398046511104 / get_or a.gaps.now v 0 in
+    let e : r ≡ part_at a.level.now.loads.now a.plan.now.wheels a.k L.u = load_is in
+    let f : ℕ → ℕ = λ v. part_at a.level.now.loads.now a.plan.now.wheels a.k v * 4398046511104 / get_or a.level.now.gaps.now v 0 in
     let x = load-small in (
-      omega arith,
-      length-set L.part L.u r ∙ L.invariant.1,
-      stored (λ v x. x ≡ part_at a.loads.now a.wheels.now a.k v) 0 L.part L.u r (omega (arith, c.requires.0.few, L.invariant.1)) L.invariant.2 e,
-      omega (arith, L.invariant.3, sum_more f L.u, ap (λ z. z * 4398046511104 / get_or a.gaps.now L.u 0) e),
-      omega (arith, L.invariant.4, share_most r (get_or a.gaps.now L.u 0) (c.requires.0.gap_some L.u (omega arith)) x.1),
+      length-set L.part L.u r ∙ L.invariant.0,
+      stored (λ v x. x ≡ part_at a.level.now.loads.now a.plan.now.wheels a.k v) 0 L.part L.u r (omega (arith, a.level.now.on_scale.few, L.invariant.0)) L.invariant.1 e,
+      omega (arith, L.invariant.2, sum_more f L.u, ap (λ z. z * 4398046511104 / get_or a.level.now.gaps.now L.u 0) e),
+      omega (arith, L.invariant.3, share_most r (get_or a.level.now.gaps.now L.u 0) (a.level.now.on_scale.gap_some L.u (omega arith)) x.1),
     )
 
 pub returns : goal.returns
 returns c =
     let a = c.args in
+    let y = a.level.now in
     let L = c.loop-u in
-    let e : L.u ≡ a.n = omega (arith, L.invariant.0) in (
-      record { sized = L.invariant.1; at = λ u p. L.invariant.2 u (omega (arith, L.invariant.0)) },
-      flow-whole a.loads.now a.gaps.now a.wheels.now a.n a.k L.flow (rw e at L.invariant.3),
-      omega (arith, L.invariant.4, c.requires.0.few),
+    let e : L.u ≡ y.count = omega arith in (
+      record { sized = L.invariant.0; at = λ u p. L.invariant.1 u (omega arith) },
+      flow-whole y.loads.now y.gaps.now a.plan.now.wheels y.count a.k L.flow (L.invariant.2 ∙ ap (λ x. sum_n (λ v. part_at y.loads.now a.plan.now.wheels a.k v * 4398046511104 / get_or y.gaps.now v 0) 0 x) e),
+      omega (arith, L.invariant.3, y.on_scale.few),
     )

@@ -1,0 +1,6 @@
+-- `new` meets its contract: each period is at most the largest. Assumes nothing.
+use Rattle.std.proofs.Common.{◌≡◌, ◌≤◌, length}
+use Rattle.periods.proofs.Plan.new.Given as goal
+
+abbrev pub invariant-loop-k : goal.invariant-loop-k
+invariant-loop-k l = (l.largest ≤ 1048576) × (length l.wheels ≡ 16) × (length l.periods ≡ 16)

@@ -2,7 +2,7 @@
 use Rattle.std.specs.Prelude.{Ok}
 use Prim.Native.Nat.{ℕ, suc, ◌+◌, ◌≤◌, ◌<◌}
 use mathlib.Core.Path.{◌≡◌, sym}
-use mathlib.Core.Bool.{true, false}
+use mathlib.Core.Bool.{Bool, true, false}
 use mathlib.Core.List.{List}
 use native.Mathlib.Omega.{arith}
 use Rattle.model.specs.declared.Description.{Description}
@@ -18,25 +18,24 @@ use Rattle.theory.proofs.WellFormed.{WellFormed}
 use Rattle.theory.proofs.NumberBytes.{Bytes}
 use Rattle.theory.proofs.ReadBack.{read_judged}
 use Rattle.theory.proofs.Quotes.{quote_at, quote_none}
-use Rattle.spacings.specs.declared.Sources.{Sources}
+use Rattle.spacings.specs.Gaps.{GapsBy}
+use Rattle.verdicts.specs.declared.Tables.{Tables}
 use Rattle.neighbourhoods.specs.Orders.{orders_held}
 use Rattle.verdicts.specs.Held.{level_held}
-use Rattle.verdicts.specs.Tables.{LoadsAt, terms_at, level_in, LevelTables}
+use Rattle.verdicts.specs.Tables.{Level, task_level, HeldBy, LevelTables}
 use Rattle.verdicts.proofs.LevelLaws.{levels_all, not_level, not_orders}
 use Rattle.verdicts.proofs.TableLaws.{level_of-tables}
-use Rattle.tempo_search.specs.Search.{LevelFrom, Slower}
-use Rattle.tempo_search.proofs.Laws.{level_slower}
+use Rattle.tempo_search.specs.Search.{LevelFrom, SlowerAt}
+use Rattle.tempo_search.proofs.Laws.{level_slower, held_from}
 use Rattle.quotes.specs.Best.{Best}
 
--- the levels of tables, on the scale of the rounds
-pub level_from : (pol : Policy) (d : Description) (levels starts tails critical : List ℕ) (sources : Sources) (tasks j : ℕ) (loads terms : List ℕ) → LevelTables pol d levels starts tails critical sources tasks → j < tasks → LoadsAt levels sources.count j loads → terms ≡ terms_at starts tails critical j → LevelFrom pol d (suc j) (level_in loads terms) sources
-level_from pol d levels starts tails critical sources tasks j loads terms t p a e =
-    record {
-      good = t.good;
-      task = omega arith;
-      level_is = level_of-tables pol d levels starts tails critical sources tasks j loads terms t p a e;
-      sources_are = t.by_source;
-    }
+-- the level of the tables at hand, and whether it is held at the best tempo so far
+module _ (pol : Policy) (d : Description) (t : Tables) (j : ℕ) (v : Level) (x : LevelTables pol d t) (p : j < t.tasks) (e : v ≡ task_level t j) where
+  pub level_from : LevelFrom pol d (suc j) v t.sources
+  level_from = record { good = x.good; task = omega arith; level_is = rw e (level_of-tables pol d t j x p); sources_are = x.by_source }
+
+  pub held_is : (best : ℕ) (gaps : List ℕ) (r : Bool) → GapsBy t.sources best gaps → HeldBy v gaps t.sources.count r → r ≡ level_held pol d (spacing_of d best) (suc j)
+  held_is best gaps r z h = held_from pol d (suc j) v t.sources best gaps r level_from z h
 
 module _ (pol : Policy) (d : Description) where
   -- no level yet, the next one held, and the next one in doubt
@@ -52,20 +51,19 @@ module _ (pol : Policy) (d : Description) where
       go k a (same x) b = rw x e
       go k a (more x) b = absurd (omega arith)
 
-  pub best_slower : WellFormed d → (j best q : ℕ) → (q ≡ 0 → ⊥) → Slower pol d (suc j) best q → Best pol d j best → Best pol d (j + 1) q
-  best_slower g j best q n s r =
-      let x = s.some (omega arith) in
+  pub best_slower : WellFormed d → (j best q : ℕ) → SlowerAt pol d (suc j) best q → Best pol d j best → Best pol d (j + 1) q
+  best_slower g j best q x r =
       record {
         low = x.0;
         high = omega (arith, x.1, r.high);
-        held = λ k a b. go x k a (cmp k (suc j)) b;
+        held = λ k a b. go k a (cmp k (suc j)) b;
         above = λ h. (suc j, omega arith, omega arith, x.3);
       }
     where
-      go : (200 ≤ q) × (q < best) × (level_held pol d (spacing_of d q) (suc j) ≡ true) × (level_held pol d (spacing_of d (suc q)) (suc j) ≡ false) → (k : ℕ) → 1 ≤ k → Cmp k (suc j) → k ≤ j + 1 → level_held pol d (spacing_of d q) k ≡ true
-      go x k a (less y) b = level_slower pol d g q best k (omega (arith, x.0)) (omega (arith, x.1)) r.high (r.held k a (omega arith))
-      go x k a (same y) b = rw y x.2
-      go x k a (more y) b = absurd (omega arith)
+      go : (k : ℕ) → 1 ≤ k → Cmp k (suc j) → k ≤ j + 1 → level_held pol d (spacing_of d q) k ≡ true
+      go k a (less y) b = level_slower pol d g q best k (omega (arith, x.0)) (omega (arith, x.1)) r.high (r.held k a (omega arith))
+      go k a (same y) b = rw y x.2
+      go k a (more y) b = absurd (omega arith)
 
   -- the quote, where the last level is passed
   pub best_quote : WellFormed d → orders_held d ≡ true → (best : ℕ) → Best pol d d.task_count best → Ok best ≡ largest_below (all_held pol d) tempos

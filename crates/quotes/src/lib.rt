@@ -8,50 +8,35 @@ ghost use Rattle.model.specs.Verdicts.{quote_of, quoted_file};
 ghost use Rattle.quotes.specs.Best.{Tabled, QuoteBy};
 
 use model::{Description, Outcome, Policy, Quote, Refusal};
-use spacings::{Sources, gaps_by};
+use spacings::gaps_by;
 use tempo_search::slower;
-use verdicts::level::{level_held, level_loads, level_terms};
-use verdicts::tables_of;
+use verdicts::level::level_held;
+use verdicts::{Tables, tables_of};
 
 // The quote of a judged description, from its tables. The best tempo so far falls only at a level that is in doubt there; a task without a
 // critical link from a source has none to ask.
-pub fn quote_by<'a>(
-    levels: &'a [u64; 528],
-    starts: &'a [u64; 32],
-    tails: &'a [u32; 32],
-    critical: &'a [u64; 32],
-    ordered: bool,
-    sources: Sources,
-    tasks: usize,
-) -> Quote
-    requires { Tabled levels.now starts.now tails.now critical.now sources tasks }
-    ensures { QuoteBy levels.now starts.now tails.now critical.now ordered sources tasks result }
+pub fn quote_by(t: &Tables) -> Quote
+    requires { Tabled t.now }
+    ensures { QuoteBy t.now result }
 {
-    if !ordered {
+    if !t.ordered {
         return Quote::Unquoted(Refusal::NoTempo, 0);
     }
-    let m = sources.count;
     let mut best: u32 = 3000;
-    let mut gaps = gaps_by(&sources.paces, m, 3000);
-    let mut j: usize = 0;
-    while j < tasks {
-        let set = critical[j];
-        if set == 0 {
-            j += 1;
+    let mut gaps = gaps_by(&t.sources, 3000);
+    for j in 0..t.tasks {
+        let level = t.level(j);
+        if level.critical == 0 {
             continue;
         }
-        let loads = level_loads(levels, m, j);
-        let terms = level_terms(starts, tails, critical, j);
-        if level_held(&loads, &terms, &gaps, m) {
-            j += 1;
-        } else {
-            best = slower(&loads, &terms, &sources.paces, m, best);
-            if best == 0 {
-                return Quote::Unquoted(Refusal::NoTempo, 0);
-            }
-            gaps = gaps_by(&sources.paces, m, best);
-            j += 1;
+        if level_held(&level, &gaps, t.sources.count) {
+            continue;
         }
+        let Some(slow) = slower(&level, &t.sources, best) else {
+            return Quote::Unquoted(Refusal::NoTempo, 0);
+        };
+        best = slow;
+        gaps = gaps_by(&t.sources, best);
     }
     Quote::Tempo(best)
 }
@@ -66,15 +51,7 @@ pub fn quote(p: Policy, d: Description) -> Quote
         return Quote::Unquoted(why, place);
     }
     let t = tables_of(p, d, &judged.brings, &judged.works);
-    quote_by(
-        &t.levels,
-        &t.starts,
-        &t.tails,
-        &t.critical,
-        t.ordered,
-        t.sources,
-        t.tasks,
-    )
+    quote_by(&t)
 }
 
 // The quote of a file.
@@ -88,13 +65,5 @@ pub fn quote_file(p: Policy, file: &[u8]) -> Quote
     }
     let d = judged.description;
     let t = tables_of(p, d, &judged.brings, &judged.works);
-    quote_by(
-        &t.levels,
-        &t.starts,
-        &t.tails,
-        &t.critical,
-        t.ordered,
-        t.sources,
-        t.tasks,
-    )
+    quote_by(&t)
 }

@@ -18,7 +18,7 @@ use Rattle.verdicts.specs.Held.{level_held}
 use Rattle.verdicts.specs.Tables.{Level, HeldBy}
 use Rattle.verdicts.proofs.LevelLaws.{level_wider}
 use Rattle.verdicts.proofs.LevelRounds.{level_on}
-use Rattle.tempo_search.specs.Search.{LevelFrom, Slower}
+use Rattle.tempo_search.specs.Search.{LevelFrom, SlowerAt}
 
 -- a level that is held at one tempo is held at every lower one
 pub level_slower : (pol : Policy) (d : Description) → WellFormed d → (t t' j : ℕ) → 1 ≤ t → t ≤ t' → t' ≤ 3000 → level_held pol d (spacing_of d t') j ≡ true → level_held pol d (spacing_of d t) j ≡ true
@@ -35,13 +35,10 @@ held_from pol d j v sources t gaps r f z h =
     h pol d (spacing_of d t) j f.good f.task f.level_is f.sources_are.counted (rw f.sources_are.counted (gaps_of d sources t gaps f.sources_are z))
 
 -- the search by halves at its end
-pub slower_found : (pol : Policy) (d : Description) (j doubtful low high : ℕ) → 200 ≤ low → low ≤ high → high ≤ doubtful → high ≤ suc low → level_held pol d (spacing_of d low) j ≡ true → level_held pol d (spacing_of d high) j ≡ false → Slower pol d j doubtful low
+pub slower_found : (pol : Policy) (d : Description) (j doubtful low high : ℕ) → 200 ≤ low → low ≤ high → high ≤ doubtful → high ≤ suc low → level_held pol d (spacing_of d low) j ≡ true → level_held pol d (spacing_of d high) j ≡ false → SlowerAt pol d j doubtful low
 slower_found pol d j doubtful low high a b c e h f = go (cmp low high)
   where
-    go : Cmp low high → Slower pol d j doubtful low
-    go (less x) = let z : high ≡ suc low = omega arith in record { none = λ q. absurd (omega arith); some = λ q. (a, omega arith, h, rw z at f) }
+    go : Cmp low high → SlowerAt pol d j doubtful low
+    go (less x) = let z : high ≡ suc low = omega arith in (a, omega arith, h, rw z at f)
     go (same x) = absurd (not_both h (rw x f))
     go (more x) = absurd (omega arith)
-
-pub slower_none : (pol : Policy) (d : Description) (j doubtful : ℕ) → level_held pol d (spacing_of d 200) j ≡ false → Slower pol d j doubtful 0
-slower_none pol d j doubtful e = record { none = λ q. e; some = λ q. absurd (omega arith) }

@@ -1,5 +1,5 @@
 -- The search for a tempo at which a level is held.
-use Rattle.std.specs.Prelude.{ℕ, suc, ◌≤◌, ◌<◌, ◌≡◌, true, false}
+use Rattle.std.specs.Prelude.{ℕ, suc, ◌≤◌, ◌<◌, ◌≡◌, true, false, Option, MatchOption}
 use Rattle.model.specs.declared.Description.{Description}
 use Rattle.model.specs.declared.Policy.{Policy}
 use Rattle.model.specs.Delays.{spacing_of}
@@ -23,7 +23,9 @@ pub record Searched (level : Level) (sources : Sources) : Type 0 where
   pub at : ℕ
   pub from : LevelFrom model of at level sources
 
--- the highest tempo below a doubtful one at which level j is held; 0 where there is none
-pub record Slower (p : Policy) (d : Description) (j doubtful r : ℕ) : Type 0 where
-  pub none : r ≡ 0 → level_held p d (spacing_of d 200) j ≡ false
-  pub some : 1 ≤ r → (200 ≤ r) × (r < doubtful) × (level_held p d (spacing_of d r) j ≡ true) × (level_held p d (spacing_of d (suc r)) j ≡ false)
+-- the highest tempo below a doubtful one at which level j is held; none where it is not held at the lowest
+abbrev pub SlowerAt : Policy → Description → ℕ → ℕ → ℕ → Type 0
+SlowerAt p d j doubtful q = (200 ≤ q) × (q < doubtful) × (level_held p d (spacing_of d q) j ≡ true) × (level_held p d (spacing_of d (suc q)) j ≡ false)
+
+abbrev pub Slower : Policy → Description → ℕ → ℕ → Option ℕ → Type 0
+Slower p d j doubtful r = MatchOption r (level_held p d (spacing_of d 200) j ≡ false) (SlowerAt p d j doubtful)

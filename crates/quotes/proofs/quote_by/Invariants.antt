@@ -1,5 +1,5 @@
 -- `quotes::quote_by` meets its contract: the best tempo for the levels below j. Assumes nothing.
-use Prim.Native.Nat.{◌≤◌, ◌-◌}
+use Prim.Native.Nat.{◌≤◌}
 use Rattle.model.specs.declared.Description.{Description}
 use Rattle.model.specs.declared.Policy.{Policy}
 use Rattle.spacings.specs.Gaps.{GapsBy}
@@ -8,7 +8,4 @@ use Rattle.quotes.specs.Best.{Best}
 use Rattle.quotes.proofs.quote_by.Given as goal
 
 abbrev pub invariant-loop-j : goal.invariant-loop-j
-invariant-loop-j l = (l.j ≤ l.tasks) × (200 ≤ l.best) × (l.best ≤ 3000) × GapsBy l.sources l.best l.gaps × ((pol : Policy) (d : Description) → LevelTables pol d l.levels l.starts l.tails l.critical l.sources l.tasks → Best pol d l.j l.best)
-
-abbrev pub decreases-loop-j : goal.decreases-loop-j
-decreases-loop-j l = l.tasks - l.j
+invariant-loop-j l = (200 ≤ l.best) × (l.best ≤ 3000) × GapsBy l.t.sources l.best l.gaps × ((pol : Policy) (d : Description) → LevelTables pol d l.t → Best pol d l.j l.best)

@@ -1,3 +1,4 @@
+use mathlib.Core.Path.{◌≡◌}
 -- `verdicts::slots::verdict_by` meets its contract. Assumes nothing.
 use borrow.Author.Tests.{lt-ltb, le-ltb}
 use Rattle.verdicts.proofs.SlotLaws.{by_free, by_order, by_disorder, by_rounds}
@@ -13,7 +14,11 @@ pub returns-then-link-lt33 : goal.returns-then-link-lt33
 returns-then-link-lt33 c = by_disorder c.args.link c.args.order c.args.gap c.args.reach c.if-link-eq0.false c.if-link-lt33.true c.if-order.false
 
 pub returns-then-reach-from : goal.returns-then-reach-from
-returns-then-reach-from c = rw (lt-ltb _ _ (rw c.from.ensures at c.if-reach-from.true)) at (by_rounds c.args.link c.args.order c.args.gap c.args.reach c.if-link-eq0.false c.if-link-lt33.false)
+returns-then-reach-from c =
+    let gap : c.from.result ≡ c.args.gap = c.from.ensures in
+    rw (lt-ltb _ _ (rw gap at c.if-reach-from.true)) at (by_rounds c.args.link c.args.order c.args.gap c.args.reach c.if-link-eq0.false c.if-link-lt33.false)
 
 pub returns : goal.returns
-returns c = rw (le-ltb _ _ (rw c.from.ensures at c.if-reach-from.false)) at (by_rounds c.args.link c.args.order c.args.gap c.args.reach c.if-link-eq0.false c.if-link-lt33.false)
+returns c =
+    let gap : c.from.result ≡ c.args.gap = c.from.ensures in
+    rw (le-ltb _ _ (rw gap at c.if-reach-from.false)) at (by_rounds c.args.link c.args.order c.args.gap c.args.reach c.if-link-eq0.false c.if-link-lt33.false)

@@ -157,8 +157,8 @@ pub fn advance(
     ensures { Advances p wiring.now s.now call w used.old since.old fastest.old result used.new since.new fastest.new }
 {
     let heard = hear(wiring, s, call, w, since, fastest);
-    if heard.outcome.is_err() {
-        return heard;
+    match heard.outcome {
+        Ok(()) => run_on(p, wiring, call.finish, heard.words, used),
+        Err(_) => heard,
     }
-    run_on(p, wiring, call.finish, heard.words, used)
 }

@@ -7,7 +7,7 @@ ghost use Rattle.std.specs.Prelude.{◌≡◌};
 ghost use Rattle.model.specs.Verdicts.{quote_of, quoted_file};
 ghost use Rattle.quotes.specs.Best.{Tabled, QuoteBy};
 
-use model::{Description, Outcome, Policy, Quote, Refusal};
+use model::{Description, Policy, Refusal, Rejection};
 use spacings::gaps_by;
 use tempo_search::slower;
 use verdicts::level::level_held;
@@ -15,12 +15,12 @@ use verdicts::{Tables, tables_of};
 
 // The quote of a judged description, from its tables. The best tempo so far falls only at a level that is in doubt there; a task without a
 // critical link from a source has none to ask.
-pub fn quote_by(t: &Tables) -> Quote
+pub fn quote_by(t: &Tables) -> Result<u32, Rejection>
     requires { Tabled t.now }
     ensures { QuoteBy t.now result }
 {
     if !t.ordered {
-        return Quote::Unquoted(Refusal::NoTempo, 0);
+        return Err(Refusal::NoTempo.at(0));
     }
     let mut best: u32 = 3000;
     let mut gaps = gaps_by(&t.sources, 3000);
@@ -33,37 +33,36 @@ pub fn quote_by(t: &Tables) -> Quote
             continue;
         }
         let Some(slow) = slower(&level, &t.sources, best) else {
-            return Quote::Unquoted(Refusal::NoTempo, 0);
+            return Err(Refusal::NoTempo.at(0));
         };
         best = slow;
         gaps = gaps_by(&t.sources, best);
     }
-    Quote::Tempo(best)
+    Ok(best)
 }
 
 // The quote of a description.
-pub fn quote(p: Policy, d: Description) -> Quote
+pub fn quote(p: Policy, d: Description) -> Result<u32, Rejection>
     ensures { result ≡ quote_of p d }
 {
-    let judged = files::examine_record(d);
-    let outcome = judged.outcome;
-    if let Outcome::Refused(why, place) = outcome {
-        return Quote::Unquoted(why, place);
-    }
-    let t = tables_of(p, d, &judged.brings, &judged.works);
-    quote_by(&t)
+    let judged = files::examine_record(d)?;
+    quote_by(&tables_of(
+        p,
+        d,
+        &judged.worked.brings,
+        &judged.worked.works,
+    ))
 }
 
 // The quote of a file.
-pub fn quote_file(p: Policy, file: &[u8]) -> Quote
+pub fn quote_file(p: Policy, file: &[u8]) -> Result<u32, Rejection>
     ensures { result ≡ quoted_file p file.now }
 {
-    let judged = files::examine(file);
-    let outcome = judged.outcome;
-    if let Outcome::Refused(why, offset) = outcome {
-        return Quote::Unquoted(why, offset);
-    }
-    let d = judged.description;
-    let t = tables_of(p, d, &judged.brings, &judged.works);
-    quote_by(&t)
+    let judged = files::examine(file)?;
+    quote_by(&tables_of(
+        p,
+        judged.description,
+        &judged.worked.brings,
+        &judged.worked.works,
+    ))
 }

@@ -14,7 +14,7 @@ use Rattle.quotes.proofs.Laws.{level_from, held_is, best_held, best_slower, best
 use Rattle.quotes.proofs.quote_by.Goals as goal
 
 pub returns-then-not-t : goal.returns-then-not-t
-returns-then-not-t c = λ pol d k o. no_order pol d k.good (sym o ∙ c.if-not-t.true)
+returns-then-not-t c = λ pol d k o. rw (c.at.ensures) (no_order pol d k.good (sym o ∙ c.if-not-t.true))
 
 pub gaps_by-gaps-requires : goal.gaps_by-gaps-requires
 gaps_by-gaps-requires c = let w = c.requires in (scaled_of w.of c.args.t.now.sources w.tables.good w.tables.by_source, omega arith, omega arith)
@@ -47,7 +47,7 @@ returns-in_default c =
     let v = seen c.level-level.result in
     λ pol d k o.
     let doubtful = sym (held_is pol d t L.j v k c.loop-j-test.true c.level-level.ensures L.best L.gaps c.level_held.result L.invariant.2 c.level_held.ensures) ∙ c.if-level_held.false in
-    no_level pol d k.good (suc L.j) (c.in_default.ensures pol d (suc L.j) (level_from pol d t L.j v k c.loop-j-test.true c.level-level.ensures) doubtful)
+    rw (c.at-in_default.ensures) (no_level pol d k.good (suc L.j) (c.in_default.ensures pol d (suc L.j) (level_from pol d t L.j v k c.loop-j-test.true c.level-level.ensures) doubtful))
 
 pub gaps_by-gaps-requires-in-loop-j : goal.gaps_by-gaps-requires-in-loop-j
 gaps_by-gaps-requires-in-loop-j c =

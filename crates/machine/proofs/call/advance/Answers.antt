@@ -11,17 +11,17 @@ use Rattle.machine.specs.Calls.{Tracks}
 use Rattle.machine.proofs.CallLaws.{tick_done, tracked, workable, same_length, arrive_still, lawful_rules}
 use Rattle.machine.proofs.call.advance.Goals as goal
 
-pub returns-in_default : goal.returns-in_default
-returns-in_default c =
+pub returns-in-Err : goal.returns-in-Err
+returns-in-Err c =
     let A = c.args in
     let h = c.hear-heard in
-    let told = c.in_default in
+    let told = c.in-Err in
     let since = h.new.since in
     let fastest = h.new.fastest in
     record {
-      ends = λ d m T j l R. ap (λ (x : Ticked). x.outcome) (h.ensures.refuses told.field-0 told.field-1 told.is A.p d A.used.now m T j l R).0;
+      ends = λ d m T j l R. ap (λ (x : Ticked). x.outcome) (h.ensures.refuses told.field-0.why told.field-0.place told.is A.p d A.used.now m T j l R).0;
       leaves = λ d m T j l R.
-          let e = h.ensures.refuses told.field-0 told.field-1 told.is A.p d A.used.now m T j l R in
+          let e = h.ensures.refuses told.field-0.why told.field-0.place told.is A.p d A.used.now m T j l R in
           subst (λ (k : Machine). Tracks A.p d h.result.words A.used.now since fastest k) (ap (λ (x : Ticked). x.machine) e.0) e.1;
       soon = omega (arith, h.ensures.then);
     }
@@ -33,11 +33,11 @@ run_on-requires c =
     let h = c.hear-heard in
     let d = p.description in
     let g = p.tables.formed in
-    let H = h.ensures.hears c.in-Done.is A.p d A.used.now p.machine p.tables p.judged p.keeps p.tracks in
+    let H = h.ensures.hears c.in-Ok.is A.p d A.used.now p.machine p.tables p.judged p.keeps p.tracks in
     (workable A.p d A.w h.result.words A.used.now A.since.now _ p.machine (arrive d (marks_in A.call.mask) p.machine) g (lawful_rules A.p d p.machine p.keeps) p.tracks.goes h.ensures.runs (arrive_still d (marks_in A.call.mask) A.w A.used.now A.since.now p.machine g p.tracks.holds) p.tracks.holds H.arrived, omega (arith, p.early, h.ensures.then))
 
-pub returns : goal.returns
-returns c =
+pub returns-in-Ok : goal.returns-in-Ok
+returns-in-Ok c =
     let A = c.args in
     let t = A.call.tempo in
     let mask = A.call.mask in
@@ -45,7 +45,7 @@ returns c =
     let h = c.hear-heard in
     let w = h.result.words in
     let v = c.run_on in
-    let o = c.in-Done.is in
+    let o = c.in-Ok.is in
     let since = h.new.since in
     let fastest = h.new.fastest in
     let used = v.new.used in

@@ -8,7 +8,7 @@ ghost use Rattle.report.specs.Longest.{longest_plain, longest_report};
 ghost use Rattle.text.specs.Page.{Put};
 
 use lines::{link_line, policy_line, refused_line, tempo_line};
-use model::{Description, Filled, Outcome, Policy, Quote, VerdictSlot};
+use model::{Description, Policy, Rejection, VerdictSlot};
 use quotes::quote_by;
 use spacings::gaps_by;
 use text::copy_out;
@@ -23,27 +23,18 @@ fn link_lines(page: &mut [u8], at: usize, d: Description, slots: [VerdictSlot; 2
     requires { (d.link_count ≤ 256) × (at + length (listing d slots d.link_count) ≤ length page.old) }
     ensures { Put page.old at (listing d slots d.link_count) page.new result }
 {
-    let n = d.link_count;
     let mut end = at;
-    let mut l: usize = 0;
-    while l < n {
-        let e = d.links[l];
-        let slot = slots[l];
-        let v = slot.verdict;
-        end = link_line(&mut *page, end, l, e, v);
-        l += 1;
+    for (l, link) in d.links[..d.link_count].iter().enumerate() {
+        end = link_line(page, end, l, *link, slots[l].verdict);
     }
     end
 }
 
 // The tempo that verdicts are shown at: the quoted one, or 20.0 where there is none.
-fn shown_tempo(q: Quote) -> u32
+fn shown_tempo(q: Result<u32, Rejection>) -> u32
     ensures { result ≡ shown_tempo q }
 {
-    match q {
-        Quote::Tempo(t) => t,
-        Quote::Unquoted(_, _) => 200,
-    }
+    q.unwrap_or(200)
 }
 
 // The lines of a file's report but that of the model, from a place of the page on.
@@ -51,27 +42,17 @@ fn put_plain(p: Policy, file: &[u8], page: &mut [u8], at: usize) -> usize
     requires { at + longest_plain ≤ length page.old }
     ensures { Put page.old at (plain_report p file.now) page.new result }
 {
-    let judged = files::examine(file);
-    let outcome = judged.outcome;
-    if let Outcome::Refused(why, place) = outcome {
-        return refused_line(&mut *page, at, why, place);
-    }
+    let judged = match files::examine(file) {
+        Ok(judged) => judged,
+        Err(rejection) => return refused_line(page, at, rejection),
+    };
     let d = judged.description;
-    let t = tables_of(p, d, &judged.brings, &judged.works);
-    let quote = quote_by(
-        &t.levels,
-        &t.starts,
-        &t.tails,
-        &t.critical,
-        t.ordered,
-        t.sources,
-        t.tasks,
-    );
-    let shown = shown_tempo(quote);
-    let gaps = gaps_by(&t.sources.paces, t.sources.count, shown);
-    let slots = slots_at(d, &t.levels, &t.starts, &t.tails, &t.orders, &gaps);
-    let behind = tempo_line(&mut *page, at, quote);
-    link_lines(&mut *page, behind, d, slots)
+    let t = tables_of(p, d, &judged.worked.brings, &judged.worked.works);
+    let quote = quote_by(&t);
+    let gaps = gaps_by(&t.sources, shown_tempo(quote));
+    let slots = slots_at(d, &t, &gaps);
+    let behind = tempo_line(page, at, quote);
+    link_lines(page, behind, d, slots)
 }
 
 // The report of a file on a page that takes the longest one.
@@ -79,17 +60,17 @@ fn put_report(p: Policy, file: &[u8], page: &mut [u8]) -> usize
     requires { longest_report ≤ length page.old }
     ensures { Put page.old 0 (report_of p file.now) page.new result }
 {
-    let at = policy_line(&mut *page, 0, p);
-    put_plain(p, file, &mut *page, at)
+    let at = policy_line(page, 0, p);
+    put_plain(p, file, page, at)
 }
 
 // The report of a file into a lent buffer: all of it, or not one byte where the buffer is shorter.
-pub fn report(p: Policy, file: &[u8], out: &mut [u8]) -> Filled
+pub fn report(p: Policy, file: &[u8], out: &mut [u8]) -> Result<usize, Rejection>
     ensures { (result ≡ reported p file.now out.old) × (out.new ≡ page_reported p file.now out.old) }
 {
     let mut page = [0u8; LONGEST];
     let n = put_report(p, file, &mut page);
-    copy_out(&page, n, &mut *out)
+    copy_out(&page, n, out)
 }
 
 // The report of a file at the front of a page that takes the longest one, and its length.
@@ -97,5 +78,5 @@ pub fn put_whole(p: Policy, file: &[u8], page: &mut [u8]) -> usize
     requires { longest_report ≤ length page.old }
     ensures { (result ≤ length page.new) × (take result page.new ≡ report_of p file.now) }
 {
-    put_report(p, file, &mut *page)
+    put_report(p, file, page)
 }

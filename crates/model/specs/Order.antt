@@ -1,5 +1,5 @@
 -- "Verdicts", from a task to a task: exclusive neighbourhoods (document 000, C1 to C4) and the backward walk that finds them.
-use Rattle.std.specs.Prelude.{ℕ, zero, suc, ◌-◌, ◌<◌, ◌≤◌, Bool, true, false, ◌||◌, cond, ◌≡◌, get_or, set, replicate, ltb, eqb}
+use Rattle.std.specs.Prelude.{ℕ, zero, suc, ◌-◌, ◌<◌, ◌≤◌, Bool, true, false, ◌||◌, cond, ◌≡◌, get_or, set, replicate, ltb, Some, None, is_none}
 use Rattle.model.specs.declared.Walk.{Walk}
 use Rattle.model.specs.Basics.{up_to}
 use Rattle.model.specs.Graph.{System}
@@ -33,7 +33,7 @@ pub record InOrder (s : System) (i j : ℕ) : Type 0 where
 
 -- the walk "goes back from i against the links, stops at tasks below j, and fails on a source or on a task met twice"
 abbrev pub fail_at : ℕ → Walk → Walk
-fail_at x w = record { failed = x; met = w.met }
+fail_at x w = record { failed = Some x; met = w.met }
 
 abbrev pub meet : ℕ → Walk → Walk
 meet x w = record { failed = w.failed; met = set w.met (x - 1) true }
@@ -47,13 +47,13 @@ visit (suc n) s j x w =
     (cond (ltb x j) (meet x w)
     (up_to 48 (λ r v. elim (s.link (suc r) x) [
       | false ↦ v
-      | true ↦ elim (eqb v.failed 0) [ false ↦ v | true ↦ visit n s j (suc r) v ]
+      | true ↦ elim (is_none v.failed) [ false ↦ v | true ↦ visit n s j (suc r) v ]
     ])
     (meet x w))))
 
 -- deeper than there are tasks
 unfoldable pub walk : System → ℕ → ℕ → Walk
-walk s i j = visit 34 s j i (record { failed = 0; met = replicate 32 false })
+walk s i j = visit 34 s j i (record { failed = None; met = replicate 32 false })
 
 unfoldable pub in_order : System → ℕ → ℕ → Bool
-in_order s i j = eqb (walk s i j).failed 0
+in_order s i j = is_none (walk s i j).failed

@@ -149,10 +149,10 @@ pub struct Verdicts {
     pub slots: [VerdictSlot; 256],
 }
 
-// The backward walk: the node it failed at (0 while it has not), and the tasks it has met.
+// The backward walk: the node it failed at, if it has, and the tasks it has met.
 #[derive(Clone, Copy)]
 pub struct Walk {
-    pub failed: u8,
+    pub failed: Option<u8>,
     pub met: [bool; 32],
 }
 

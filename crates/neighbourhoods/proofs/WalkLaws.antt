@@ -1,4 +1,5 @@
 -- Steps of the backward walk over the sets of links, for every bound on its depth that is enough. Assumes nothing.
+use Rattle.std.specs.Prelude.{None}
 use Prim.Native.Nat.{ℕ, zero, suc, ◌+◌, ◌-◌, ◌/◌, ◌%◌, ◌^◌, ◌<◌, ◌≤◌}
 use mathlib.Core.Path.{◌≡◌, refl, ap, sym, ◌∙◌}
 use mathlib.Core.Bool.{Bool, true, false}
@@ -12,7 +13,7 @@ use Rattle.model.specs.Basics.{up_to}
 use Rattle.model.specs.Order.{fail_at, meet, visit}
 use Rattle.lemmas.proofs.Tests.{Cmp, less, same, more, cmp, not_both}
 use Rattle.lemmas.proofs.Range.{up_to-more}
-use Rattle.theory.proofs.Walk.{step_to, visit_source, visit_again, visit_low, visit_high, step_skip, step_into, step_stop}
+use Rattle.theory.proofs.Walk.{step_to, visit_source, visit_again, visit_low, visit_high, step_skip, step_into, step_stop, is_none_false}
 use Rattle.sets.specs.Sets.{member, FirstIn}
 use Rattle.sets.proofs.SetLaws.{member_none}
 use Rattle.neighbourhoods.specs.Into.{link_into, into_system, unmet, VisitIs}
@@ -70,7 +71,7 @@ module _ (into : List ℕ) (j x f r : ℕ) (a v : Walk) (e : v ≡ up_to r (step
       still (step_to (into_system into) j f x) a v r (r + k) (omega arith) e
       (λ i p q. let z : i ≡ r + (i - r) = omega arith in step_skip (into_system into) j f x i v (ap (λ n. link_into into (suc n) x) z ∙ rest_link into x r (i - r) (omega arith) ∙ h (i - r) (omega arith)))
 
-  pub turn_on : (k : ℕ) → v.failed ≡ 0 → FirstIn (get_or into (x - 1) 0 % 281474976710656 / 2 ^ r) k → visit f (into_system into) j (r + k + 1) v ≡ up_to (r + k + 1) (step_to (into_system into) j f x) a
+  pub turn_on : (k : ℕ) → v.failed ≡ None → FirstIn (get_or into (x - 1) 0 % 281474976710656 / 2 ^ r) k → visit f (into_system into) j (r + k + 1) v ≡ up_to (r + k + 1) (step_to (into_system into) j f x) a
   turn_on k z g =
       let b : r + k < 48 = rest_node (get_or into (x - 1) 0) r k g.in_set in
       ap (λ n. visit f (into_system into) j n v) (add-one (r + k))
@@ -84,5 +85,5 @@ module _ (into : List ℕ) (j x f r : ℕ) (a v : Walk) (e : v ≡ up_to r (step
       passed (48 - r) (omega arith) (λ i q. ap (λ s. member s i) z ∙ member_none i) ∙ ap (λ n. up_to n (step_to (into_system into) j f x) a) n
 
   -- a walk that has failed stays as it is
-  pub turn_failed : r ≤ 48 → (v.failed ≡ 0 → ⊥) → v ≡ up_to 48 (step_to (into_system into) j f x) a
-  turn_failed b n = still (step_to (into_system into) j f x) a v r 48 b e (λ i p q. step_stop (into_system into) j f x i v (ne_eqb v.failed 0 n))
+  pub turn_failed : r ≤ 48 → (v.failed ≡ None → ⊥) → v ≡ up_to 48 (step_to (into_system into) j f x) a
+  turn_failed b n = still (step_to (into_system into) j f x) a v r 48 b e (λ i p q. step_stop (into_system into) j f x i v (is_none_false v.failed n))

@@ -27,7 +27,7 @@ fn order_by(link: Link, into: &[u64; 32]) -> bool
 {
     let from = usize::from(link.from);
     let to = usize::from(link.to);
-    between_tasks(link) && walk_back(into, from, to).failed == 0
+    between_tasks(link) && walk_back(into, from, to).failed.is_none()
 }
 
 // Which links between tasks are in order, from the links into each task.

@@ -1,6 +1,6 @@
 // The backward walk from a task against the links.
 
-ghost use Rattle.std.specs.Prelude.{◌≡◌, ◌≤◌};
+ghost use Rattle.std.specs.Prelude.{◌≡◌, ◌≤◌, None};
 ghost use Rattle.neighbourhoods.specs.Into.{into_system, unmet, VisitIs};
 ghost use Rattle.model.specs.Order.{walk};
 
@@ -9,12 +9,12 @@ use sets::first;
 
 // To x, and from there to each node with a link to x. It stops below j, and fails on a source or on a task met twice.
 fn visit(into: &[u64; 32], j: usize, x: usize, w: Walk) -> Walk
-    requires { (1 ≤ x) × (x ≤ 48) × (w.failed ≡ 0) }
+    requires { (1 ≤ x) × (x ≤ 48) × (w.failed ≡ None) }
     ensures { VisitIs into.now j x w result × (unmet result.met ≤ unmet w.met) }
 {
     if 32 < x || w.met[x - 1] {
         return Walk {
-            failed: x as u8,
+            failed: Some(x as u8),
             ..w
         };
     }
@@ -30,7 +30,7 @@ fn visit(into: &[u64; 32], j: usize, x: usize, w: Walk) -> Walk
         let k = first(rest);
         r += k + 1;
         next = visit(into, j, r, next);
-        if next.failed != 0 {
+        if next.failed.is_some() {
             return next;
         }
         rest = rest >> k >> 1;
@@ -44,7 +44,7 @@ pub fn walk_back(into: &[u64; 32], i: usize, j: usize) -> Walk
     ensures { result ≡ walk (into_system into.now) i j }
 {
     let none = Walk {
-        failed: 0,
+        failed: None,
         met: [false; 32],
     };
     visit(into, j, i, none)

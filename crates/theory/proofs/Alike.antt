@@ -1,4 +1,5 @@
 -- Two systems with the same tasks, runs and links have the same cycles, loads and ways back, whatever their sources. Assumes nothing.
+use Rattle.std.specs.Prelude.{is_none, None}
 use Prim.Native.Nat.{ℕ, zero, suc, ◌+◌, ◌-◌, ◌*◌}
 use mathlib.Core.Path.{◌≡◌, refl, sym, ap, ◌∙◌}
 use mathlib.Core.Bool.{Bool, true, false, ◌&&◌, cond}
@@ -43,11 +44,11 @@ module _ (n : ℕ) (link : ℕ → ℕ → Bool) (a b : ℕ) (r q : ℕ → ℕ)
   visit_alike zero j x w = refl
   visit_alike (suc f) j x w =
       ap (λ v. cond (ltb 32 x) (fail_at x w) (cond (get_or w.met (x - 1) false) (fail_at x w) (cond (ltb x j) (meet x w) v)))
-      (up_to-alike 48 _ _ (meet x w) (λ i p v. ap (λ z. elim (link (suc i) x) [ false ↦ v | true ↦ elim (eqb v.failed 0) [ false ↦ v | true ↦ z ] ]) (visit_alike f j (suc i) v)))
+      (up_to-alike 48 _ _ (meet x w) (λ i p v. ap (λ z. elim (link (suc i) x) [ false ↦ v | true ↦ elim (is_none v.failed) [ false ↦ v | true ↦ z ] ]) (visit_alike f j (suc i) v)))
 
   order_alike : (i j : ℕ) → in_order (system_of n a r link) i j ≡ in_order (system_of n b q link) i j
   unfolding in_order walk
-  order_alike i j = ap (λ (w : Walk). eqb w.failed 0) (visit_alike 34 j i (record { failed = 0; met = replicate 32 false }))
+  order_alike i j = ap (λ (w : Walk). is_none w.failed) (visit_alike 34 j i (record { failed = None; met = replicate 32 false }))
 
 pub same_cyclic : (s t : System) → SameLinks s t → cyclic s ≡ cyclic t
 same_cyclic s t S =

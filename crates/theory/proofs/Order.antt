@@ -1,4 +1,5 @@
 -- A task link is held by the walk exactly if some exclusive neighbourhood has all its frontier below j. Assumes nothing.
+use Rattle.std.specs.Prelude.{None}
 use Prim.Native.Nat.{ℕ, zero, suc, ◌-◌, ◌≤◌, ◌<◌}
 use mathlib.Core.Path.{◌≡◌, refl, sym, ap, subst, ◌∙◌}
 use mathlib.Core.Bool.{Bool, true, false, ◌||◌, ◌&&◌}
@@ -6,18 +7,18 @@ use mathlib.Core.Logic.{◌⊎◌, inl, inr, ◌↔◌}
 use native.Mathlib.Omega.{arith}
 use lib.ListN.{get_or, replicate, length-replicate, get_or-replicate, get_or-eq_default}
 use lib.Dec.{ltb, leb}
-use borrow.Author.Tests.{ltb-true, lt-ltb, leb-true, le-leb, eqb-true, eq-eqb}
+use borrow.Author.Tests.{ltb-true, lt-ltb, leb-true, le-leb}
 use Rattle.model.specs.declared.Walk.{Walk}
 use Rattle.model.specs.Basics.{up_to}
 use Rattle.model.specs.Graph.{System}
 use Rattle.model.specs.Order.{Set, InOrder, meet, visit, walk, in_order}
 use Rattle.lemmas.proofs.Tests.{Cmp, less, same, more, cmp, at_or_not, not_both, false_of, or_left, or_right, or_cases, and_left, and_right, both}
 use Rattle.theory.proofs.WellFormed.{Shaped, Loaded, IsTask, IsSource}
-use Rattle.theory.proofs.Walk.{M, Sized, meet_sized, meet_at, meet_other, met_place, step_to, visit_low, visit_high, step_skip, step_into, place_of, Up, Grown, Part, part, grown}
+use Rattle.theory.proofs.Walk.{M, Sized, meet_sized, meet_at, meet_other, met_place, step_to, visit_low, visit_high, step_skip, step_into, place_of, Up, Grown, Part, part, grown, none_is, is_none_true}
 
 -- the walk's start: nothing has been met
 abbrev fresh : Walk
-fresh = record { failed = 0; met = replicate 32 false }
+fresh = record { failed = None; met = replicate 32 false }
 
 fresh_none : (k : ℕ) → M fresh k ≡ false
 fresh_none zero = refl
@@ -91,7 +92,7 @@ module _ (s : System) (sh : Shaped s) (few : s.sources ≤ 16) (i j : ℕ) where
   pub walk_order : IsTask s i → in_order s i j ≡ true → InOrder s i j
   unfolding in_order walk
   walk_order t e =
-      found _ t (grown s j sh few 34 i fresh t.0 (length-replicate 32 false) refl (eqb-true _ 0 e))
+      found _ t (grown s j sh few 34 i fresh t.0 (length-replicate 32 false) refl (is_none_true _ e))
 
   -- the other way: with a neighbourhood whose frontier is below j, the walk does not fail
   module _ (rank : ℕ → ℕ) (falls : (p k : ℕ) → s.link p k ≡ true → rank k < rank p) (most : (p : ℕ) → rank p ≤ s.tasks) (o : InOrder s i j) where
@@ -109,7 +110,7 @@ module _ (s : System) (sh : Shaped s) (few : s.sources ≤ 16) (i j : ℕ) where
     -- where a visit of x may begin
     record Ready (x : ℕ) (w : Walk) : Type 0 where
       sized : Sized w
-      fine : w.failed ≡ 0
+      fine : w.failed ≡ None
       unmet : M w x ≡ false
       inside : (k : ℕ) → M w k ≡ true → (o.F k || o.N k) ≡ true
       here : (o.F x || o.N x) ≡ true
@@ -119,7 +120,7 @@ module _ (s : System) (sh : Shaped s) (few : s.sources ≤ 16) (i j : ℕ) where
 
     -- what it comes to
     record Fine (v : Walk) : Type 0 where
-      fine : v.failed ≡ 0
+      fine : v.failed ≡ None
       inside : (k : ℕ) → M v k ≡ true → (o.F k || o.N k) ≡ true
 
     abbrev Visits : ℕ → Type 0
@@ -209,7 +210,7 @@ module _ (s : System) (sh : Shaped s) (few : s.sources ≤ 16) (i j : ℕ) where
       unfolding up_to
       turns zero = record { fine = b_fine; inside = λ k e. from_b k e (λ c. rw c g.here) (g.inside k) }
         where
-          b_fine : b.failed ≡ 0
+          b_fine : b.failed ≡ None
           b_fine = g.fine
       turns (suc R) = go (s.link (suc R) x) refl (turns R)
         where
@@ -246,7 +247,7 @@ module _ (s : System) (sh : Shaped s) (few : s.sources ≤ 16) (i j : ℕ) where
     pub order_walk : s.tasks ≤ 32 → in_order s i j ≡ true
     unfolding in_order walk
     order_walk few_tasks =
-        eq-eqb _ 0
+        none_is _
         (visits 34 i fresh (omega arith)
         (record {
           sized = length-replicate 32 false;

@@ -6,8 +6,8 @@ use mathlib.Core.Logic.{◌⊎◌, inl, inr}
 use native.Mathlib.Omega.{arith}
 use lib.ListN.{length, get_or, replicate, length-set, get_or-eq_default}
 use lib.Seq.{get_or-set_same, get_or-set_other}
-use lib.Dec.{eqb}
-use borrow.Author.Tests.{eqb-true, eq-eqb, lt-ltb, le-ltb}
+use borrow.Author.Tests.{lt-ltb, le-ltb}
+use Rattle.std.specs.Prelude.{Option, Some, None, is_none}
 use Rattle.model.specs.declared.Walk.{Walk}
 use Rattle.model.specs.Basics.{up_to}
 use Rattle.model.specs.Graph.{System}
@@ -17,6 +17,21 @@ use Rattle.lemmas.proofs.Range.{up_to-alike}
 use Rattle.theory.proofs.WellFormed.{Shaped, IsTask, IsSource}
 
 -- whether a walk has met task k
+-- a walk that has not failed
+pub none_is : {A : Type 0} (o : Option A) → o ≡ None → is_none o ≡ true
+none_is o e = rw e refl
+
+pub is_none_true : {A : Type 0} (o : Option A) → is_none o ≡ true → o ≡ None
+is_none_true None e = refl
+is_none_true (Some x) e = absurd (let z : ◌≡◌ {A = ℕ} 0 1 = cc in omega arith)
+
+pub is_none_false : {A : Type 0} (o : Option A) → (o ≡ None → ⊥) → is_none o ≡ false
+is_none_false None n = absurd (n refl)
+is_none_false (Some x) n = refl
+
+pub some_none : {A C : Type 0} {x : A} → Some x ≡ None → C
+some_none e = absurd (let z : ◌≡◌ {A = ℕ} 0 1 = cc in omega arith)
+
 abbrev pub M : Walk → ℕ → Bool
 M w zero = false
 M w (suc k) = get_or w.met k false
@@ -63,7 +78,7 @@ module _ (s : System) (j : ℕ) where
   step_to n x r v =
       elim (s.link (suc r) x) [
         | false ↦ v
-        | true ↦ elim (eqb v.failed 0) [ false ↦ v | true ↦ visit n s j (suc r) v ]
+        | true ↦ elim (is_none v.failed) [ false ↦ v | true ↦ visit n s j (suc r) v ]
       ]
 
   -- what a visit does, by its tests
@@ -87,10 +102,10 @@ module _ (s : System) (j : ℕ) where
   pub step_skip : (n x r : ℕ) (v : Walk) → s.link (suc r) x ≡ false → step_to n x r v ≡ v
   step_skip n x r v e = rw (e, step_to)
 
-  pub step_into : (n x r : ℕ) (v : Walk) → s.link (suc r) x ≡ true → v.failed ≡ 0 → step_to n x r v ≡ visit n s j (suc r) v
-  step_into n x r v e z = rw (e, step_to, eq-eqb v.failed 0 z)
+  pub step_into : (n x r : ℕ) (v : Walk) → s.link (suc r) x ≡ true → v.failed ≡ None → step_to n x r v ≡ visit n s j (suc r) v
+  step_into n x r v e z = rw (e, step_to, none_is v.failed z)
 
-  pub step_stop : (n x r : ℕ) (v : Walk) → eqb v.failed 0 ≡ false → step_to n x r v ≡ v
+  pub step_stop : (n x r : ℕ) (v : Walk) → is_none v.failed ≡ false → step_to n x r v ≡ v
   step_stop n x r v q = go (s.link (suc r) x) refl
     where
       go : (a : Bool) → s.link (suc r) x ≡ a → step_to n x r v ≡ v
@@ -98,13 +113,13 @@ module _ (s : System) (j : ℕ) where
       go true e = rw (e, step_to, q)
 
   -- a step that has not failed was not begun after a failure
-  step_fine : (n x r : ℕ) (v : Walk) → (step_to n x r v).failed ≡ 0 → v.failed ≡ 0
-  step_fine n x r v = go (s.link (suc r) x) (eqb v.failed 0) refl
+  step_fine : (n x r : ℕ) (v : Walk) → (step_to n x r v).failed ≡ None → v.failed ≡ None
+  step_fine n x r v = go (s.link (suc r) x) (is_none v.failed) refl
     where
-      go : (a b : Bool) → eqb v.failed 0 ≡ b → (elim a as (λ _. Walk) [ false ↦ v | true ↦ elim b as (λ _. Walk) [ false ↦ v | true ↦ visit n s j (suc r) v ] ]).failed ≡ 0 → v.failed ≡ 0
+      go : (a b : Bool) → is_none v.failed ≡ b → (elim a as (λ _. Walk) [ false ↦ v | true ↦ elim b as (λ _. Walk) [ false ↦ v | true ↦ visit n s j (suc r) v ] ]).failed ≡ None → v.failed ≡ None
       go false b q e = e
       go true false q e = e
-      go true true q e = eqb-true v.failed 0 q
+      go true true q e = is_none_true v.failed q
 
   -- a successor of k at or above j that was met too
   abbrev pub Up : Walk → Walk → ℕ → Type 0
@@ -303,15 +318,15 @@ module _ (s : System) (j : ℕ) where
           lift k (inr (e, c)) = (x, root, high, e)
 
     -- the predecessors of x in turn
-    pub part : (n x : ℕ) (b : Walk) → Sized b → ((p : ℕ) (v : Walk) → 1 ≤ p → Sized v → v.failed ≡ 0 → (visit n s j p v).failed ≡ 0 → Grown p v (visit n s j p v)) → (R : ℕ) → (up_to R (step_to n x) b).failed ≡ 0 → Part x R b (up_to R (step_to n x) b)
+    pub part : (n x : ℕ) (b : Walk) → Sized b → ((p : ℕ) (v : Walk) → 1 ≤ p → Sized v → v.failed ≡ None → (visit n s j p v).failed ≡ None → Grown p v (visit n s j p v)) → (R : ℕ) → (up_to R (step_to n x) b).failed ≡ None → Part x R b (up_to R (step_to n x) b)
     unfolding up_to
     part n x b z ih zero e = part_none x b z
     part n x b z ih (suc R) e =
         let v : Walk = up_to R (step_to n x) b in
-        let f : v.failed ≡ 0 = step_fine n x R v e in
+        let f : v.failed ≡ None = step_fine n x R v e in
         go (s.link (suc R) x) refl (part n x b z ih R f) f
       where
-        go : (a : Bool) → s.link (suc R) x ≡ a → Part x R b (up_to R (step_to n x) b) → (up_to R (step_to n x) b).failed ≡ 0 → Part x (suc R) b (step_to n x R (up_to R (step_to n x) b))
+        go : (a : Bool) → s.link (suc R) x ≡ a → Part x R b (up_to R (step_to n x) b) → (up_to R (step_to n x) b).failed ≡ None → Part x (suc R) b (step_to n x R (up_to R (step_to n x) b))
         go false q g f = rw (step_skip n x R (up_to R (step_to n x) b) q) (part_skip x R b (up_to R (step_to n x) b) q g)
         go true q g f =
             let same : step_to n x R (up_to R (step_to n x) b) ≡ visit n s j (suc R) (up_to R (step_to n x) b) = step_into n x R (up_to R (step_to n x) b) q f in
@@ -319,26 +334,26 @@ module _ (s : System) (j : ℕ) where
             (ih (suc R) (up_to R (step_to n x) b) (omega arith) g.sized f (rw same at e)))
 
     -- a visit that has not failed
-    pub grown : (n x : ℕ) (w : Walk) → 1 ≤ x → Sized w → w.failed ≡ 0 → (visit n s j x w).failed ≡ 0 → Grown x w (visit n s j x w)
+    pub grown : (n x : ℕ) (w : Walk) → 1 ≤ x → Sized w → w.failed ≡ None → (visit n s j x w).failed ≡ None → Grown x w (visit n s j x w)
     unfolding visit
-    grown zero x w a z f e = absurd (omega arith)
+    grown zero x w a z f e = some_none e
     grown (suc n) x w a z f e = far (cmp 32 x) (λ p v. grown n p v)
       where
-        high : x ≤ 32 → get_or w.met (x - 1) false ≡ false → j ≤ x → ((p : ℕ) (v : Walk) → 1 ≤ p → Sized v → v.failed ≡ 0 → (visit n s j p v).failed ≡ 0 → Grown p v (visit n s j p v)) → Grown x w (visit (suc n) s j x w)
+        high : x ≤ 32 → get_or w.met (x - 1) false ≡ false → j ≤ x → ((p : ℕ) (v : Walk) → 1 ≤ p → Sized v → v.failed ≡ None → (visit n s j p v).failed ≡ None → Grown p v (visit n s j p v)) → Grown x w (visit (suc n) s j x w)
         high b q r ih =
             rw (visit_high n x w b q r) (grown_high x w a b z (sym (place_of x w a) ∙ q) _ r (part n x (meet x w) (meet_sized x w z) ih 48 (rw (visit_high n x w b q r) at e)))
 
-        low_or : x ≤ 32 → get_or w.met (x - 1) false ≡ false → Cmp x j → ((p : ℕ) (v : Walk) → 1 ≤ p → Sized v → v.failed ≡ 0 → (visit n s j p v).failed ≡ 0 → Grown p v (visit n s j p v)) → Grown x w (visit (suc n) s j x w)
+        low_or : x ≤ 32 → get_or w.met (x - 1) false ≡ false → Cmp x j → ((p : ℕ) (v : Walk) → 1 ≤ p → Sized v → v.failed ≡ None → (visit n s j p v).failed ≡ None → Grown p v (visit n s j p v)) → Grown x w (visit (suc n) s j x w)
         low_or b q (less r) ih = rw (visit_low n x w b q r) (grown_low x w a b z (sym (place_of x w a) ∙ q) r)
         low_or b q (same r) ih = high b q (omega arith) ih
         low_or b q (more r) ih = high b q (omega arith) ih
 
-        met_or : x ≤ 32 → (t : Bool) → get_or w.met (x - 1) false ≡ t → ((p : ℕ) (v : Walk) → 1 ≤ p → Sized v → v.failed ≡ 0 → (visit n s j p v).failed ≡ 0 → Grown p v (visit n s j p v)) → Grown x w (visit (suc n) s j x w)
-        met_or b true q ih = absurd (omega (arith, rw (visit_again n x w b q) at e))
+        met_or : x ≤ 32 → (t : Bool) → get_or w.met (x - 1) false ≡ t → ((p : ℕ) (v : Walk) → 1 ≤ p → Sized v → v.failed ≡ None → (visit n s j p v).failed ≡ None → Grown p v (visit n s j p v)) → Grown x w (visit (suc n) s j x w)
+        met_or b true q ih = some_none (rw (visit_again n x w b q) at e)
         met_or b false q ih = low_or b q (cmp x j) ih
 
-        far : Cmp 32 x → ((p : ℕ) (v : Walk) → 1 ≤ p → Sized v → v.failed ≡ 0 → (visit n s j p v).failed ≡ 0 → Grown p v (visit n s j p v)) → Grown x w (visit (suc n) s j x w)
-        far (less q) ih = absurd (omega (arith, rw (visit_source n x w q) at e))
+        far : Cmp 32 x → ((p : ℕ) (v : Walk) → 1 ≤ p → Sized v → v.failed ≡ None → (visit n s j p v).failed ≡ None → Grown p v (visit n s j p v)) → Grown x w (visit (suc n) s j x w)
+        far (less q) ih = some_none (rw (visit_source n x w q) at e)
         far (same q) ih = met_or (omega arith) (get_or w.met (x - 1) false) refl ih
         far (more q) ih = met_or (omega arith) (get_or w.met (x - 1) false) refl ih
 
@@ -353,16 +368,16 @@ module _ (a b : System) (agree : (i k : ℕ) → 1 ≤ i → i ≤ 48 → 1 ≤ 
       Alike = (r : ℕ) (v : Walk) → visit n a j (suc r) v ≡ visit n b j (suc r) v
 
       turn : Alike → x ≤ 32 → (r : ℕ) → r < 48 → (v : Walk) → step_to a j n x r v ≡ step_to b j n x r v
-      turn ih q r h v = go (a.link (suc r) x) refl (eqb v.failed 0) refl
+      turn ih q r h v = go (a.link (suc r) x) refl (is_none v.failed) refl
         where
           same_link : a.link (suc r) x ≡ b.link (suc r) x
           same_link = agree (suc r) x (omega arith) (omega arith) p q
 
-          go : (c : Bool) → a.link (suc r) x ≡ c → (e : Bool) → eqb v.failed 0 ≡ e → step_to a j n x r v ≡ step_to b j n x r v
+          go : (c : Bool) → a.link (suc r) x ≡ c → (e : Bool) → is_none v.failed ≡ e → step_to a j n x r v ≡ step_to b j n x r v
           go false l e f = step_skip a j n x r v l ∙ sym (step_skip b j n x r v (sym same_link ∙ l))
           go true l false f = step_stop a j n x r v f ∙ sym (step_stop b j n x r v f)
           go true l true f =
-              step_into a j n x r v l (eqb-true v.failed 0 f) ∙ ih r v ∙ sym (step_into b j n x r v (sym same_link ∙ l) (eqb-true v.failed 0 f))
+              step_into a j n x r v l (is_none_true v.failed f) ∙ ih r v ∙ sym (step_into b j n x r v (sym same_link ∙ l) (is_none_true v.failed f))
 
       turns : Alike → x ≤ 32 → (R : ℕ) → R ≤ 48 → up_to R (step_to a j n x) (meet x w) ≡ up_to R (step_to b j n x) (meet x w)
       turns ih q R h = up_to-alike R (step_to a j n x) (step_to b j n x) (meet x w) (λ r y v. turn ih q r (omega arith) v)
@@ -386,4 +401,4 @@ module _ (a b : System) (agree : (i k : ℕ) → 1 ≤ i → i ≤ 48 → 1 ≤ 
 
   pub in_order-alike : (i j : ℕ) → 1 ≤ i → in_order a i j ≡ in_order b i j
   unfolding in_order walk
-  in_order-alike i j p = ap (λ (v : Walk). eqb v.failed 0) (visit_alike 34 j i (record { failed = 0; met = replicate 32 false }) p)
+  in_order-alike i j p = ap (λ (v : Walk). is_none v.failed) (visit_alike 34 j i (record { failed = None; met = replicate 32 false }) p)

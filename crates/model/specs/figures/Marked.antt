@@ -1,5 +1,5 @@
 -- "Figures to keep, marked P": the files they speak of, and the figures as the rows of one statement.
-use Rattle.std.specs.Prelude.{ℕ, ◌+◌, ◌-◌, ◌%◌, Bool, true, false, ◌||◌, List, [], ◌∷◌, ◌++◌, ◌≡◌, length, replicate, eqb, Ok}
+use Rattle.std.specs.Prelude.{Some, ℕ, ◌+◌, ◌-◌, ◌%◌, Bool, true, false, ◌||◌, List, [], ◌∷◌, ◌++◌, ◌≡◌, length, replicate, eqb, Ok}
 use Rattle.model.specs.declared.Source.{Source}
 use Rattle.model.specs.declared.Source.TheVariants.{Fixed, Paced}
 use Rattle.model.specs.declared.SourceSlot.{SourceSlot}
@@ -144,9 +144,9 @@ pub record Figures : Type 0 where
   pub p5_dropped_at_21 : marks_of 2 (answers Preemptive (twin 7) (idle (twin 7)) (calls_where 22 sevenths)) ≡ replicate 21 (Done, false) ++ ((Done, true) ∷ [])
   pub p6_held : verdict_at Preemptive order 200 1 ≡ HeldOrder
   pub p6_doubtful : verdict_at Preemptive order_with_source 200 1 ≡ DoubtOrder
-  pub p6_source : (walk (system order_with_source) 3 2).failed ≡ 33
+  pub p6_source : (walk (system order_with_source) 3 2).failed ≡ Some 33
   pub p7_doubtful : verdict_at Preemptive met_twice 200 3 ≡ DoubtOrder
-  pub p7_met_twice : (walk (system met_twice) 4 2).failed ≡ 1
+  pub p7_met_twice : (walk (system met_twice) 4 2).failed ≡ Some 1
   pub p8_480 : spacing (Paced 480) 1200 ≡ 1041
   pub p8_24 : spacing (Paced 24) 1200 ≡ 20833
   pub p9_refused : page Preemptive pulse (calls_where 5 (λ x. eqb x 0 || eqb x 4)) ≡ 0 ∷ 0 ∷ 0 ∷ 0 ∷ 14 ∷ []

@@ -1,4 +1,5 @@
 -- `order_by` meets its contract. Assumes nothing.
+use Rattle.std.specs.Prelude.{is_none}
 use mathlib.Core.Path.{◌≡◌, sym, ap, ap₂, ◌∙◌}
 use mathlib.Core.Bool.{true, false}
 use lib.Dec.{eqb}
@@ -14,7 +15,7 @@ returns-then-between_tasks c =
     let a = c.args in
     let b : between_tasks a.link ≡ true = sym c.between_tasks.ensures ∙ c.if-between_tasks.true in
     let walked : c.walk_back.result ≡ walk (into_system a.into.now) a.link.from a.link.to = c.walk_back.ensures ∙ ap₂ (walk (into_system a.into.now)) c.from-from.ensures c.from-to.ensures in
-    rw b (ap (λ (v : Walk). eqb v.failed 0) walked)
+    rw b (ap (λ (v : Walk). is_none v.failed) walked)
 
 pub returns-else-between_tasks : goal.returns-else-between_tasks
 unfolding order_by

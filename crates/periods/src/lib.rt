@@ -86,7 +86,7 @@ fn joined(load: u64, gap: u32, wheel: usize, period: u64, most: u64) -> Option<u
 // The source to join a wheel next, and the period with it: the shorter, the better.
 fn choice(level: &Level, wheels: &[usize; 16], period: u64, most: u64) -> Option<(usize, u64)>
     requires { (period ≤ 1048576) × (most ≤ 1048576) }
-    ensures { IfSome result (λ best. (best.0 < 16) × (best.1 ≤ most)) }
+    ensures { IfSome result (λ best. (best.0 < level.now.count) × (best.1 ≤ most)) }
 {
     let mut best: Option<(usize, u64)> = None;
     for u in 0..level.count {

@@ -53,7 +53,7 @@ fn kept(wheel: usize, count: usize, load: u64, gap: u32, period: u64) -> usize
 
 // Takes the sources off a wheel that may not be on it.
 pub fn sift(level: &Level, plan: &mut Plan)
-    ensures { let its = level.now in Sifted its.loads.now its.gaps.now plan.new.wheels plan.new.periods its.count plan.new.count }
+    ensures { let its = level.now in Sifted its.loads.now its.gaps.now plan.new.wheels plan.new.periods its.count plan.new.count × (plan.new.periods ≡ plan.old.periods) × (plan.new.count ≡ plan.old.count) }
 {
     for u in 0..level.count {
         let wheel = plan.wheels[u];

@@ -1,7 +1,5 @@
 -- `fill` meets its contract: a period other than 1 is at most the most. Assumes nothing.
 use Prim.Native.Nat.{◌≤◌, ◌-◌}
-use mathlib.Core.Path.{◌≡◌}
-use lib.ListN.{length}
 use Rattle.periods.proofs.fill.Given as goal
 
 abbrev pub invariant-loop : goal.invariant-loop

@@ -79,6 +79,7 @@ pub fn arrive(
     since[one] = w.tick;
     fastest[one] = t;
     let mut rest = sets::rest(mask);
+    // By `first` and `rest`: an iterator over members, a type with laws of its own for two loops, would be no plainer.
     while rest != 0 {
         let u = sets::first(rest);
         out = out.union(rows[33 + u].out);

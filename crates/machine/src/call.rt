@@ -66,6 +66,7 @@ fn too_soon(
     ensures { SoonIs mask peak s.now.paces since.now fastest.now tick result }
 {
     let mut rest = mask;
+    // By `first` and `rest`, as `arrivals::arrive` goes through a mask.
     while rest != 0 {
         let u = sets::first(rest);
         if soon_at(u, peak, s, since, fastest, tick) {
@@ -142,7 +143,8 @@ fn run_on(p: Policy, wiring: &Wiring, finish: bool, w: Words, used: &mut [u32; 3
     }
 }
 
-// One call: refused, or else a tick.
+// One call: refused, or else a tick. What it may change is lent part by part, so that each step is lent what it writes and no contract has to say that the
+// rest stays.
 pub fn advance(
     p: Policy,
     wiring: &Wiring,

@@ -1,5 +1,5 @@
 -- Steps of the backward walk over the sets of links, for every bound on its depth that is enough. Assumes nothing.
-use Rattle.std.specs.Prelude.{None}
+use Rattle.std.specs.Prelude.{Option, Some, None, is_some}
 use Prim.Native.Nat.{ℕ, zero, suc, ◌+◌, ◌-◌, ◌/◌, ◌%◌, ◌^◌, ◌<◌, ◌≤◌}
 use mathlib.Core.Path.{◌≡◌, refl, ap, sym, ◌∙◌}
 use mathlib.Core.Bool.{Bool, true, false}
@@ -13,7 +13,7 @@ use Rattle.model.specs.Basics.{up_to}
 use Rattle.model.specs.Order.{fail_at, meet, visit}
 use Rattle.lemmas.proofs.Tests.{Cmp, less, same, more, cmp, not_both}
 use Rattle.lemmas.proofs.Range.{up_to-more}
-use Rattle.theory.proofs.Walk.{step_to, visit_source, visit_again, visit_low, visit_high, step_skip, step_into, step_stop, is_none_false}
+use Rattle.theory.proofs.Walk.{step_to, visit_source, visit_again, visit_low, visit_high, step_skip, step_into, step_stop, is_none_false, some_none}
 use Rattle.sets.specs.Sets.{member, FirstIn}
 use Rattle.sets.proofs.SetLaws.{member_none}
 use Rattle.neighbourhoods.specs.Into.{link_into, into_system, unmet, VisitIs}
@@ -34,6 +34,15 @@ unmet_falls (true ∷ l) zero b e = absurd (not_both refl e)
 unmet_falls (false ∷ l) zero b e = omega arith
 unmet_falls (true ∷ l) (suc x) b e = unmet_falls l x (omega arith) e
 unmet_falls (false ∷ l) (suc x) b e = omega (arith, unmet_falls l x (omega arith) e)
+
+-- whether a walk has failed
+pub some_failed : {A : Type 0} (o : Option A) → is_some o ≡ true → o ≡ None → ⊥
+some_failed None e f = not_both e refl
+some_failed (Some x) e f = some_none f
+
+pub none_failed : {A : Type 0} (o : Option A) → is_some o ≡ false → o ≡ None
+none_failed None e = refl
+none_failed (Some x) e = absurd (not_both refl e)
 
 module _ (into : List ℕ) (j x : ℕ) (w : Walk) where
   pub visit_is_far : 32 < x → VisitIs into j x w (fail_at x w)

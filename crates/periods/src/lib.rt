@@ -3,8 +3,6 @@
 
 ghost use Rattle.std.specs.Prelude.{◌≡◌, ◌*◌, ◌/◌, ◌≤◌, ◌<◌, ◌^◌, IfSome};
 
-use rounds::Level;
-
 // The blocks that a wheel's table goes by: 2^shift ticks each.
 #[derive(Clone, Copy)]
 pub struct Block {
@@ -41,6 +39,15 @@ impl Block {
 pub struct Plan {
     pub wheels: [usize; 16],
     pub periods: [u64; 16],
+    pub count: usize,
+    pub ghost few: { count ≤ 16 },
+}
+
+// The sources that wheels are looked for among: the loads and spacings of the first few.
+#[derive(Clone, Copy)]
+pub struct Candidates<'a> {
+    pub loads: &'a [u64; 16],
+    pub gaps: &'a [u32; 16],
     pub count: usize,
     pub ghost few: { count ≤ 16 },
 }
@@ -84,13 +91,19 @@ fn joined(load: u64, gap: u32, wheel: usize, period: u64, most: u64) -> Option<u
 }
 
 // The source to join a wheel next, and the period with it: the shorter, the better.
-fn choice(level: &Level, wheels: &[usize; 16], period: u64, most: u64) -> Option<(usize, u64)>
+fn choice(
+    sources: &Candidates,
+    wheels: &[usize; 16],
+    period: u64,
+    most: u64,
+) -> Option<(usize, u64)>
     requires { (period ≤ 1048576) × (most ≤ 1048576) }
-    ensures { IfSome result (λ best. (best.0 < level.now.count) × (best.1 ≤ most)) }
+    ensures { IfSome result (λ best. (best.0 < sources.now.count) × (best.1 ≤ most)) }
 {
     let mut best: Option<(usize, u64)> = None;
-    for u in 0..level.count {
-        let Some(multiple) = joined(level.loads[u], level.gaps[u], wheels[u], period, most) else {
+    for u in 0..sources.count {
+        let Some(multiple) = joined(sources.loads[u], sources.gaps[u], wheels[u], period, most)
+        else {
             continue;
         };
         let better = match best {
@@ -105,13 +118,13 @@ fn choice(level: &Level, wheels: &[usize; 16], period: u64, most: u64) -> Option
 }
 
 // One wheel: as long as a source can join it, the best one does. Its period, if that is more than 1.
-fn fill(level: &Level, k: usize, most: u64, wheels: &mut [usize; 16]) -> Option<u64>
+fn fill(sources: &Candidates, k: usize, most: u64, wheels: &mut [usize; 16]) -> Option<u64>
     requires { most ≤ 1048576 }
     ensures { IfSome result (λ period. period ≤ most) }
 {
     let mut period = 1;
-    for _ in 0..level.count {
-        let Some((u, multiple)) = choice(level, wheels, period, most) else {
+    for _ in 0..sources.count {
+        let Some((u, multiple)) = choice(sources, wheels, period, most) else {
             break;
         };
         period = multiple;
@@ -124,15 +137,17 @@ fn fill(level: &Level, k: usize, most: u64, wheels: &mut [usize; 16]) -> Option<
 }
 
 impl Plan {
-    // The wheels of a level, one after the other as long as there is room. All periods together are at most 65536 blocks
-    // less 10 for each of 16 wheels, and at most 3000000 ticks; one is at most a third of that.
-    pub fn new(level: &Level, block: Block) -> Plan {
+    // The wheels of some sources, one after the other as long as there is room. All periods together are at most 65536
+    // blocks of so many ticks less 10 for each of 16 wheels, and at most 3000000 ticks; one is at most a third of that.
+    pub fn new(sources: &Candidates, block: u64) -> Plan
+        requires { block ≤ 65536 }
+    {
         let mut wheels = [16; 16];
         let mut periods = [1; 16];
-        let mut room = (65376 * block.ticks()).min(3000000);
+        let mut room = (65376 * block).min(3000000);
         let largest = room / 3;
         for k in 0..15 {
-            let Some(period) = fill(level, k, largest.min(room), &mut wheels) else {
+            let Some(period) = fill(sources, k, largest.min(room), &mut wheels) else {
                 return Plan {
                     wheels,
                     periods,

@@ -46,12 +46,7 @@ pub fn quote(p: Policy, d: Description) -> Result<u32, Rejection>
     ensures { result ≡ quote_of p d }
 {
     let judged = files::examine_record(d)?;
-    quote_by(&tables_of(
-        p,
-        d,
-        &judged.worked.brings,
-        &judged.worked.works,
-    ))
+    quote_by(&tables_of(p, d, &judged.worked.brings, &judged.worked.works))
 }
 
 // The quote of a file.

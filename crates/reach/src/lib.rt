@@ -1,13 +1,14 @@
 // How far a level reaches: a few plain rounds first, and where they do not settle, rounds between stretches that cannot have a fixed point.
 #![tactic(auto)]
 
-ghost use Rattle.std.specs.Prelude.{◌≡◌, true, ◌≤◌, ◌<◌};
+ghost use Rattle.std.specs.Prelude.{◌≡◌, true, ◌≤◌, ◌<◌, ◌^◌};
 ghost use Rattle.rounds.specs.Level.{reach_in, OpenAt, ReachedBy};
+ghost use Rattle.wheels.specs.Wheel.{BuiltOn};
 ghost use Rattle.reach.specs.Far.{OpenOver};
 
-use periods::{Block, Plan};
+use periods::{Block, Candidates, Plan};
 use rounds::{Level, Reached};
-use wheels::stretches::Wheeled;
+use wheels::stretches::{Wheels, left_of};
 use wheels::tables::{build, sift};
 
 // Whether stretches of this size are passed too seldom to pay: a round costs as much as some twelve of them.
@@ -24,11 +25,10 @@ fn jumps(block: Block, rounds: u64, last: u64) -> bool {
 }
 
 // Rounds from a place on, between stretches that are passed: settled, or given up where stretches of this size are passed too seldom.
-fn rounds_between(wheels: &Wheeled, limit: u64, from: u64) -> Reached
-    requires { let level = wheels.now.level.now in (limit ≤ 1000000000) × OpenAt level.start level.loads.now level.gaps.now level.count limit from }
-    ensures { let level = wheels.now.level.now in ReachedBy level.start level.loads.now level.gaps.now level.count limit result × OpenOver wheels.now.block.shift result }
+fn rounds_between(level: &Level, wheels: &Wheels, limit: u64, from: u64) -> Reached
+    requires { let its = level.now in let w = wheels.now in (limit ≤ 1000000000) × OpenAt its.start its.loads.now its.gaps.now its.count limit from × BuiltOn its.loads.now its.gaps.now w.plan.now.wheels its.count w.plan.now.periods (2 ^ w.block.shift) w.places.now w.table.now w.built }
+    ensures { let its = level.now in ReachedBy its.start its.loads.now its.gaps.now its.count limit result × OpenOver wheels.now.block.shift result }
 {
-    let level = wheels.level;
     let mut ends = [0; 16];
     let mut shares = [0; 16];
     level.fill_shares(&mut shares);
@@ -49,7 +49,8 @@ fn rounds_between(wheels: &Wheeled, limit: u64, from: u64) -> Reached
         } else {
             sum
         };
-        d = wheels.pass(wheels.left_of(&ends), far, limit);
+        let rest = left_of(level, &wheels.plan.wheels, wheels.built.count, &ends);
+        d = wheels.pass(rest, far, limit);
         last = d - far;
         passed += last;
         sum = level.round_at(d, &mut ends);
@@ -65,18 +66,22 @@ fn attempt(level: &Level, limit: u64, from: u64, block: Block) -> Reached
 {
     let mut places = [0; 16];
     let mut table = [65535; 65536];
-    let mut plan = Plan::new(level, block);
+    let sources = Candidates {
+        loads: level.loads,
+        gaps: level.gaps,
+        count: level.count,
+    };
+    let mut plan = Plan::new(&sources, block.ticks());
     sift(level, &mut plan);
     let built = build(level, &plan, block.ticks(), &mut places, &mut table);
-    let wheels = Wheeled {
-        level,
+    let wheels = Wheels {
         plan: &plan,
         block,
         places: &places,
         table: &table,
         built,
     };
-    rounds_between(&wheels, limit, from)
+    rounds_between(level, &wheels, limit, from)
 }
 
 // The load of a source that may be on a wheel.

@@ -2,22 +2,36 @@
 
 ghost use Rattle.std.specs.Prelude.{◌≡◌, ℕ, ◌+◌, ◌*◌, ◌/◌, ◌%◌, ◌^◌, ◌≤◌, ◌<◌, get_or};
 ghost use Rattle.rounds.specs.Level.{RoundAt, Counted};
-ghost use Rattle.wheels.specs.Wheel.{BuiltOn, Turned, waste_on, left_in, Passes};
+ghost use Rattle.wheels.specs.Wheel.{Placed, Turned, waste_on, left_in, Passes};
 
 use crate::tables::Built;
 use periods::{Block, Plan};
 use rounds::{Level, brought};
 
-// A level with some of its sources on wheels: the plan, where the table of each wheel begins, and what is built of it.
+// Wheels with their tables, of no level in particular: the plan, where the table of each wheel begins, and what is built of it.
 #[derive(Clone, Copy)]
-pub struct Wheeled<'a> {
-    pub level: &'a Level<'a>,
+pub struct Wheels<'a> {
     pub plan: &'a Plan,
     pub block: Block,
     pub places: &'a [usize; 16],
     pub table: &'a [u16; 65536],
     pub built: Built,
-    pub ghost on: { BuiltOn level.now.loads.now level.now.gaps.now plan.now.wheels level.now.count plan.now.periods (2 ^ block.shift) places.now table.now built },
+    pub ghost placed: { Placed plan.now.periods places.now (2 ^ block.shift) built.count },
+    pub ghost flat: { built.slope ≤ 8589934592 },
+}
+
+// What the start and the counted firings of all sources bring that are on none of the first few wheels.
+pub fn left_of(level: &Level, wheels: &[usize; 16], count: usize, ends: &[u64; 16]) -> u64
+    requires { let its = level.now in RoundAt its.start its.loads.now its.gaps.now its.count ends.now }
+    ensures { let its = level.now in (p : ℕ) → Counted its.loads.now its.gaps.now its.count p ends.now → result ≡ left_in its.start its.loads.now its.gaps.now wheels.now its.count count p }
+{
+    let mut rest = level.start;
+    for u in 0..level.count {
+        if count <= wheels[u] {
+            rest += brought(level.loads[u], level.gaps[u], ends[u]);
+        }
+    }
+    rest
 }
 
 // Where a wheel stands some ticks on.
@@ -36,21 +50,7 @@ fn turned(turn: u64, width: u64, period: u64) -> u64
     far % period
 }
 
-impl Wheeled<'_> {
-    // What the start and the counted firings of all sources on no wheel bring.
-    pub fn left_of(&self, ends: &[u64; 16]) -> u64
-        requires { let level = self.now.level.now in RoundAt level.start level.loads.now level.gaps.now level.count ends.now }
-        ensures { let level = self.now.level.now in (p : ℕ) → Counted level.loads.now level.gaps.now level.count p ends.now → result ≡ left_in level.start level.loads.now level.gaps.now self.now.plan.now.wheels level.count self.now.built.count p }
-    {
-        let mut rest = self.level.start;
-        for u in 0..self.level.count {
-            if self.built.count <= self.plan.wheels[u] {
-                rest += brought(self.level.loads[u], self.level.gaps[u], ends[u]);
-            }
-        }
-        rest
-    }
-
+impl Wheels<'_> {
     // Where each wheel stands at d.
     fn turn_to(&self, d: u64, turns: &mut [u64; 16])
         requires { 1 ≤ d }

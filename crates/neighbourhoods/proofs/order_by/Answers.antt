@@ -1,3 +1,4 @@
+use Rattle.std.proofs.Common.{rules}
 -- `order_by` meets its contract. Assumes nothing.
 use Rattle.std.specs.Prelude.{is_none}
 use mathlib.Core.Path.{◌≡◌, sym, ap, ap₂, ◌∙◌}
@@ -15,7 +16,8 @@ returns-then-between_tasks c =
     let a = c.args in
     let b : between_tasks a.link ≡ true = sym c.between_tasks.ensures ∙ c.if-between_tasks.true in
     let walked : c.walk_back.result ≡ walk (into_system a.into.now) a.link.from a.link.to = c.walk_back.ensures ∙ ap₂ (walk (into_system a.into.now)) c.from-from.ensures c.from-to.ensures in
-    rw b (ap (λ (v : Walk). is_none v.failed) walked)
+    let n : c.is_none.result ≡ is_none c.walk_back.result.failed = search rules in
+    rw b (n ∙ ap (λ (v : Walk). is_none v.failed) walked)
 
 pub returns-else-between_tasks : goal.returns-else-between_tasks
 unfolding order_by

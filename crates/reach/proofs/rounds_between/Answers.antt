@@ -11,14 +11,14 @@ use Rattle.reach.proofs.rounds_between.Goals.{then-jumps, else-jumps}
 pub returns-then-sum-d : goal.returns-then-sum-d
 returns-then-sum-d c =
     let a = c.args in
-    let y = a.wheels.now.level.now in
+    let y = a.level.now in
     let L = c.loop-sum in
     (reach_fixed y.start y.loads.now y.gaps.now y.count a.limit L.d y.on_scale L.invariant.0.lower L.invariant.1 L.invariant.0.most (omega (arith, L.invariant.2, c.if-sum-d.true)), tt)
 
 pub jumped-far-requires : goal.jumped-far-requires
 jumped-far-requires c =
     let a = c.args in
-    let y = a.wheels.now.level.now in
+    let y = a.level.now in
     let L = c.loop-sum in
     let e : L.sum ≡ round_in y.start y.loads.now y.gaps.now y.count L.d = L.invariant.2 in (
       record {
@@ -39,9 +39,9 @@ pub pass-d-requires : goal.pass-d-requires
 pass-d-requires c =
     let a = c.args in
     let w = a.wheels.now in
-    let y = w.level.now in
+    let y = a.level.now in
     let L = c.loop-sum in
-    let e : c.left_of.result ≡ left_in y.start y.loads.now y.gaps.now w.plan.now.wheels y.count w.built.count L.d = c.left_of.ensures L.d L.invariant.3 in
+    let e : c.left_of-rest.result ≡ left_in y.start y.loads.now y.gaps.now w.plan.now.wheels y.count w.built.count L.d = c.left_of-rest.ensures L.d L.invariant.3 in
     let far : L.sum ≤ c.if-jumps.far = elim c.if-jumps.branch [ then-jumps w ↦ rw w.far-is w.jumped-far.ensures.1 | else-jumps w ↦ rw w.far-is (omega arith) ] in
     let near : c.if-jumps.far ≤ a.limit = elim c.if-jumps.branch [ then-jumps w ↦ rw w.far-is w.jumped-far.ensures.0.most | else-jumps w ↦ rw w.far-is (omega (arith, c.loop-sum-test.true)) ] in (
       omega (arith, e, left_most y.start y.loads.now y.gaps.now w.plan.now.wheels y.count w.built.count L.d, L.invariant.2, c.loop-sum-test.true, c.requires.0),
@@ -54,7 +54,7 @@ pub loop-sum-preserved : goal.loop-sum-preserved
 loop-sum-preserved c =
     let a = c.args in
     let w = a.wheels.now in
-    let y = w.level.now in
+    let y = a.level.now in
     let L = c.loop-sum in
     let e : L.sum ≡ round_in y.start y.loads.now y.gaps.now y.count L.d = L.invariant.2 in
     let plain : Jump y.start y.loads.now y.gaps.now y.count a.limit L.sum = record { lower = rw e (lower_round y.start y.loads.now y.gaps.now y.count L.d y.on_scale L.invariant.0.lower); most = omega (arith, c.loop-sum-test.true) } in
@@ -62,9 +62,9 @@ loop-sum-preserved c =
     let far : L.sum ≤ c.if-jumps.far = elim c.if-jumps.branch [ then-jumps w ↦ rw w.far-is w.jumped-far.ensures.1 | else-jumps w ↦ rw w.far-is (omega arith) ] in
     -- the next d is above d
     let up : L.d < c.pass-d.result = omega (arith, c.pass-d.ensures.1, far, c.if-sum-d.false) in
-    let rest : RestFrom y.start y.loads.now y.gaps.now w.plan.now.wheels y.count w.built.count c.if-jumps.far c.left_of.result = λ Z z. omega (arith, c.left_of.ensures L.d L.invariant.3, left_mono y.start y.loads.now y.gaps.now w.plan.now.wheels y.count w.built.count L.d Z y.on_scale (omega (arith, far, c.if-sum-d.false))) in (
+    let rest : RestFrom y.start y.loads.now y.gaps.now w.plan.now.wheels y.count w.built.count c.if-jumps.far c.left_of-rest.result = λ Z z. omega (arith, c.left_of-rest.ensures L.d L.invariant.3, left_mono y.start y.loads.now y.gaps.now w.plan.now.wheels y.count w.built.count L.d Z y.on_scale (omega (arith, far, c.if-sum-d.false))) in (
       record {
-        lower = c.pass-d.ensures.0 y.start y.loads.now y.gaps.now w.plan.now.wheels y.count y.on_scale w.on.on w.on.leaves rest next.lower;
+        lower = c.pass-d.ensures.0 y.start y.loads.now y.gaps.now w.plan.now.wheels y.count y.on_scale c.requires.2.on c.requires.2.leaves rest next.lower;
         most = c.pass-d.ensures.2;
       },
       omega (arith, up, L.invariant.1),
@@ -77,6 +77,6 @@ loop-sum-preserved c =
 pub returns : goal.returns
 returns c =
     let a = c.args in
-    let y = a.wheels.now.level.now in
+    let y = a.level.now in
     let L = c.loop-sum in
     (reach_over y.start y.loads.now y.gaps.now y.count a.limit L.d y.on_scale L.invariant.0.lower (omega (arith, L.invariant.2, c.loop-sum-test.false)), tt)

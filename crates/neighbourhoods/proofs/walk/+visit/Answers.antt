@@ -7,7 +7,7 @@ use Rattle.theory.proofs.Walk.{step_to}
 use Rattle.sets.specs.Sets.{FirstIn}
 use Rattle.neighbourhoods.specs.Into.{into_system, unmet}
 use Rattle.neighbourhoods.proofs.IntoLaws.{rest_node}
-use Rattle.neighbourhoods.proofs.WalkLaws.{unmet_le, unmet_falls, visit_is_far, visit_is_again, visit_is_low, visit_is_high, turn_on, turn_none, turn_failed}
+use Rattle.neighbourhoods.proofs.WalkLaws.{unmet_le, unmet_falls, visit_is_far, visit_is_again, visit_is_low, visit_is_high, turn_on, turn_none, turn_failed, some_failed, none_failed}
 use Rattle.neighbourhoods.proofs.walk.+visit.Goals as goal
 use Rattle.neighbourhoods.proofs.walk.+visit.Goals.{then-x-gt32-via-then-x-gt32, then-x-gt32-via-else-x-gt32+then-w-x}
 
@@ -43,8 +43,8 @@ visit-next-requires t c =
     unmet_falls a.w.met (a.x - 1) (omega (arith, z, c.if-x-gt32.false, c.requires.0)) c.if-w-x.false in
     (omega (arith, c.decreases, L.invariant.4, falls_at_x), (omega arith, omega (arith, inside), L.invariant.2))
 
-pub returns-then-next-ne0 : goal.returns-then-next-ne0
-returns-then-next-ne0 t c =
+pub returns-then-is_some : goal.returns-then-is_some
+returns-then-is_some t c =
     let a = c.args in
     let L = c.loop-rest in
     let k = c.first-k.result in
@@ -60,7 +60,7 @@ returns-then-next-ne0 t c =
     let turn : (f : ℕ) → unmet (meet a.x a.w).met < f → v ≡ up_to (L.r + k + 1) (step_to (into_system a.into.now) a.j f a.x) (meet a.x a.w) =
     λ f b. visited f (omega (arith, b, L.invariant.4)) ∙ turn_on a.into.now a.j a.x f L.r (meet a.x a.w) L.next (L.invariant.3 f b) k L.invariant.2 found in (
       visit_is_high a.into.now a.j a.x a.w v c.if-x-gt32.false c.if-w-x.false c.if-x-j.false
-          (λ f b. turn_failed a.into.now a.j a.x f (L.r + k + 1) (meet a.x a.w) v (turn f (omega (arith, falls_at_x, b))) (omega (arith, inside)) c.if-next-ne0.true),
+          (λ f b. turn_failed a.into.now a.j a.x f (L.r + k + 1) (meet a.x a.w) v (turn f (omega (arith, falls_at_x, b))) (omega (arith, inside)) (λ e. some_failed v.failed (sym c.is_some.ensures ∙ c.if-is_some.true) e)),
       omega (arith, falls_at_x, L.invariant.4, c.visit-next.ensures.1),
     )
 
@@ -77,7 +77,7 @@ loop-rest-preserved t c =
     rw passed (
       omega (arith, inside),
       ap (λ z. z / 2 ^ k / 2) L.invariant.1 ∙ ap (λ z. z / 2) (shr-shr s L.r k) ∙ shr-shr s (L.r + k) 1,
-      c.if-next-ne0.false,
+      none_failed c.visit-next.result.failed (sym c.is_some.ensures ∙ c.if-is_some.false),
       (λ f b. visited f (omega (arith, b, L.invariant.4)) ∙ turn_on a.into.now a.j a.x f L.r (meet a.x a.w) L.next (L.invariant.3 f b) k L.invariant.2 found),
       omega (arith, L.invariant.4, c.visit-next.ensures.1),
     )

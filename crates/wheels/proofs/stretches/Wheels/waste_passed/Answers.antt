@@ -6,7 +6,7 @@ use Rattle.lemmas.proofs.Table.{stored}
 use Rattle.wheels.specs.Wheel.{waste_on}
 use Rattle.wheels.proofs.Steps.{waste_none, waste_more, turn_far}
 use native.Mathlib.Omega.{arith}
-use Rattle.wheels.proofs.stretches.Wheeled.waste_passed.Goals as goal
+use Rattle.wheels.proofs.stretches.Wheels.waste_passed.Goals as goal
 
 pub loop-k-init : goal.loop-k-init
 loop-k-init c =
@@ -23,7 +23,7 @@ loop-k-preserved c =
     let standing : c.of.result ≡ get_or a.turns.now L.k 0 / 2 ^ w.block.shift = c.of.ensures ∙ ap (λ x. x / 2 ^ w.block.shift) (L.invariant.2 L.k (omega arith)) in
     let e : get_or w.table.now (get_or w.places.now L.k 0 + c.of.result) 0 ≡ get_or w.table.now (get_or w.places.now L.k 0 + get_or a.turns.now L.k 0 / 2 ^ w.block.shift) 0 = ap (λ x. get_or w.table.now (get_or w.places.now L.k 0 + x) 0) standing in (
       length-set L.turns L.k v ∙ L.invariant.0,
-      stored (λ j x. x ≡ (get_or a.turns.now j 0 + a.width) % get_or w.plan.now.periods j 0) 0 L.turns L.k v (omega (arith, L.invariant.0, w.on.placed.few)) L.invariant.1
+      stored (λ j x. x ≡ (get_or a.turns.now j 0 + a.width) % get_or w.plan.now.periods j 0) 0 L.turns L.k v (omega (arith, L.invariant.0, w.placed.few)) L.invariant.1
           (c.turned.ensures ∙ ap (λ x. (x + a.width) % get_or w.plan.now.periods L.k 0) (L.invariant.2 L.k (omega arith))),
       (λ j p. get_or-set_other L.turns L.k j v 0 (λ e. omega arith) ∙ L.invariant.2 j (omega arith)),
       omega (arith, L.invariant.3, e, waste_more (2 ^ w.block.shift) w.places.now w.table.now a.turns.now L.k),
@@ -37,6 +37,6 @@ returns c =
     let L = c.loop-k in
     let e : L.k ≡ w.built.count = omega arith in (
       L.invariant.3 ∙ ap (λ x. waste_on (2 ^ w.block.shift) w.places.now w.table.now a.turns.now x) e,
-      omega (arith, L.invariant.4, w.on.placed.few),
+      omega (arith, L.invariant.4, w.placed.few),
       λ d o t. record { sized = L.invariant.0; at = λ k p. turn_far d a.width (get_or w.plan.now.periods k 0) (get_or a.turns.now k 0) (get_or L.turns k 0) o (t.at k p) (L.invariant.1 k (omega arith)) },
     )

@@ -4,7 +4,7 @@ use lib.Pow.{pow_pos}
 use Rattle.wheels.specs.Wheel.{waste_on}
 use Rattle.wheels.proofs.Laws.{stretch_free}
 use native.Mathlib.Omega.{arith}
-use Rattle.wheels.proofs.stretches.Wheeled.pass.Goals as goal
+use Rattle.wheels.proofs.stretches.Wheels.pass.Goals as goal
 
 pub loop-preserved : goal.loop-preserved
 loop-preserved c =
@@ -22,6 +22,6 @@ loop-preserved c =
       omega (arith, c.if-limit-d.false),
       c.waste_passed-waste.ensures.2 L.d o L.invariant.4,
       λ start loads gaps wheels n g on l r b Z z.
-          let free = stretch_free start loads gaps wheels n (2 ^ s.block.shift) s.plan.now.periods s.places.now s.table.now L.turns s.built.count L.d s.built.slope a.rest g on s.on.placed (pow_pos s.block.shift) o L.invariant.4 l (λ X x. r X (omega (arith, L.invariant.2))) t (L.invariant.5 start loads gaps wheels n g on l r b) Z z in
+          let free = stretch_free start loads gaps wheels n (2 ^ s.block.shift) s.plan.now.periods s.places.now s.table.now L.turns s.built.count L.d s.built.slope a.rest g on s.placed (pow_pos s.block.shift) o L.invariant.4 l (λ X x. r X (omega (arith, L.invariant.2))) t (L.invariant.5 start loads gaps wheels n g on l r b) Z z in
           omega (arith, e, free),
     )

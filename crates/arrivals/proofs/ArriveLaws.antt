@@ -1,5 +1,5 @@
 -- The links out of all arriving sources, joined in a loop over the mask and fired together. Assumes nothing.
-use Prim.Native.Nat.{ℕ, zero, suc, ◌+◌, ◌-◌, ◌*◌, ◌≤◌, ◌<◌, min}
+use Prim.Native.Nat.{ℕ, zero, suc, ◌+◌, ◌-◌, ◌≤◌, ◌<◌, min}
 use mathlib.Core.Path.{◌≡◌, refl, sym, ap, subst, ◌∙◌}
 use mathlib.Core.Bool.{Bool, true, false, ◌||◌, ◌&&◌, cond}
 use mathlib.Core.List.{List}
@@ -21,14 +21,14 @@ use Rattle.assurance.proofs.Arriving.{Arrived, arrived, comes, comes_of}
 use Rattle.sets.specs.declared.wide.Wide.{Wide}
 use Rattle.sets.specs.Sets.{member}
 use Rattle.sets.specs.Wide.{inside}
-use Rattle.wiring.specs.Rows.{RowsOf}
+use Rattle.wiring.specs.declared.Row.{Row}
+use Rattle.wiring.specs.Rows.{row_at, RowsOf}
 use Rattle.words.specs.declared.Words.{Words}
 use Rattle.model.specs.Run.{heard, marks_in}
 use Rattle.arrivals.specs.Parts.{Known}
-use Rattle.words.specs.Words.{wide_at, enters, Ages, Holds}
+use Rattle.words.specs.Words.{enters, Ages, Holds}
 use Rattle.arrivals.specs.Arrivals.{Sent, Stored}
 use Rattle.arrivals.proofs.MaskLaws.{Turn, mark_in, heard_under, passed, any_turn}
-use Rattle.words.proofs.WordLaws.{row_out}
 use Rattle.arrivals.proofs.FireLaws.{woken, marks_sent}
 use Rattle.lemmas.proofs.Table.{get_d_set}
 
@@ -61,26 +61,26 @@ pub stored_all : (mask r v : ℕ) (l₀ l : List ℕ) → ((u : ℕ) → heard m
 stored_all mask r v l₀ l under s = record { many = s.many; here = λ u h on. s.here u (under u on) on; others = s.others }
 
 -- the links out of the sources of a mask below r, and the tasks that they wake
-pub record Joined (rows : List ℕ) (mask r : ℕ) (out : Wide) (wakes : ℕ) : Type 0 where
-  pub links : (l : ℕ) → inside out l ≡ any_n (λ u. heard mask u && inside (wide_at rows (9 * (33 + u))) l) 0 r
-  pub tasks : (k : ℕ) → member wakes k ≡ any_n (λ u. heard mask u && member (get_or rows (9 * (33 + u) + 8) 0) k) 0 r
+pub record Joined (rows : List Row) (mask r : ℕ) (out : Wide) (wakes : ℕ) : Type 0 where
+  pub links : (l : ℕ) → inside out l ≡ any_n (λ u. heard mask u && inside (row_at rows (33 + u)).out l) 0 r
+  pub tasks : (k : ℕ) → member wakes k ≡ any_n (λ u. heard mask u && member (row_at rows (33 + u)).wakes k) 0 r
 
 -- of the first, and of one more
-pub joined_one : (rows : List ℕ) (mask u rest' : ℕ) → Turn mask 0 u rest' → Joined rows mask (u + 1) (wide_at rows (9 * (33 + u))) (get_or rows (9 * (33 + u) + 8) 0)
+pub joined_one : (rows : List Row) (mask u rest' : ℕ) → Turn mask 0 u rest' → Joined rows mask (u + 1) (row_at rows (33 + u)).out (row_at rows (33 + u)).wakes
 unfolding any_n
 joined_one rows mask u rest' T = record {
-  links = λ l. sym (any_turn (λ v. inside (wide_at rows (9 * (33 + v))) l) mask 0 u rest' T);
-  tasks = λ k. sym (any_turn (λ v. member (get_or rows (9 * (33 + v) + 8) 0) k) mask 0 u rest' T);
+  links = λ l. sym (any_turn (λ v. inside (row_at rows (33 + v)).out l) mask 0 u rest' T);
+  tasks = λ k. sym (any_turn (λ v. member (row_at rows (33 + v)).wakes k) mask 0 u rest' T);
 }
 
-pub joined_more : (rows : List ℕ) (mask r : ℕ) (out out' : Wide) (wakes wakes' u rest' : ℕ) → Turn mask r u rest' → ((l : ℕ) → inside out' l ≡ (inside out l || inside (wide_at rows (9 * (33 + u))) l)) → ((k : ℕ) → member wakes' k ≡ (member wakes k || member (get_or rows (9 * (33 + u) + 8) 0) k)) → Joined rows mask r out wakes → Joined rows mask (u + 1) out' wakes'
+pub joined_more : (rows : List Row) (mask r : ℕ) (out out' : Wide) (wakes wakes' u rest' : ℕ) → Turn mask r u rest' → ((l : ℕ) → inside out' l ≡ (inside out l || inside (row_at rows (33 + u)).out l)) → ((k : ℕ) → member wakes' k ≡ (member wakes k || member (row_at rows (33 + u)).wakes k)) → Joined rows mask r out wakes → Joined rows mask (u + 1) out' wakes'
 joined_more rows mask r out out' wakes wakes' u rest' T a b j = record {
-  links = λ l. a l ∙ ap (λ i. i || inside (wide_at rows (9 * (33 + u))) l) (j.links l) ∙ sym (any_turn (λ v. inside (wide_at rows (9 * (33 + v))) l) mask r u rest' T);
-  tasks = λ k. b k ∙ ap (λ i. i || member (get_or rows (9 * (33 + u) + 8) 0) k) (j.tasks k) ∙ sym (any_turn (λ v. member (get_or rows (9 * (33 + v) + 8) 0) k) mask r u rest' T);
+  links = λ l. a l ∙ ap (λ i. i || inside (row_at rows (33 + u)).out l) (j.links l) ∙ sym (any_turn (λ v. inside (row_at rows (33 + v)).out l) mask r u rest' T);
+  tasks = λ k. b k ∙ ap (λ i. i || member (row_at rows (33 + u)).wakes k) (j.tasks k) ∙ sym (any_turn (λ v. member (row_at rows (33 + v)).wakes k) mask r u rest' T);
 }
 
 -- all of a mask's sources are passed: what has come is what comes in the record
-module _ (d : Description) (rows : List ℕ) (mask r tick : ℕ) (since₀ since : List ℕ) (out : Wide) (wakes : ℕ) (j : Joined rows mask r out wakes) (s : Stored mask 16 tick since₀ since) (under : (u : ℕ) → heard mask u ≡ true → u < r) (g : WellFormed d) (w : RowsOf d d.link_count rows) (k : Known d mask) where
+module _ (d : Description) (rows : List Row) (mask r tick : ℕ) (since₀ since : List ℕ) (out : Wide) (wakes : ℕ) (j : Joined rows mask r out wakes) (s : Stored mask 16 tick since₀ since) (under : (u : ℕ) → heard mask u ≡ true → u < r) (g : WellFormed d) (w : RowsOf d d.link_count rows) (k : Known d mask) where
   on : (u : ℕ) → heard mask u ≡ true → (u < d.source_count) × (get_or (marks_in mask) u false ≡ true)
   on u e =
       let h : u < d.source_count = heard_under mask d.source_count u k.1 e in
@@ -94,7 +94,7 @@ module _ (d : Description) (rows : List ℕ) (mask r tick : ℕ) (since₀ since
   tasks_are i = j.tasks i ∙ same_test (any_n p 0 r) (any_n q 33 d.source_count) to back
     where
       p : ℕ → Bool
-      p u = heard mask u && member (get_or rows (9 * (33 + u) + 8) 0) i
+      p u = heard mask u && member (row_at rows (33 + u)).wakes i
 
       q : ℕ → Bool
       q x = get_or (marks_in mask) (x - 33) false && linked d x i
@@ -123,14 +123,14 @@ module _ (d : Description) (rows : List ℕ) (mask r tick : ℕ) (since₀ since
       x = (link_at d l).from
 
       p : ℕ → Bool
-      p u = heard mask u && inside (wide_at rows (9 * (33 + u))) l
+      p u = heard mask u && inside (row_at rows (33 + u)).out l
 
       to : any_n p 0 r ≡ true → comes (marks_in mask) d.source_count x ≡ true
       to e =
           let z = any_found p 0 r e in
           let u : ℕ = z.at in
           let o = on u (and_left (heard mask u) _ z.passes) in
-          let f : x ≡ 33 + u = eqb-true x (33 + u) (and_right (ltb l d.link_count) _ (sym (row_out d rows (33 + u) g w l) ∙ and_right (heard mask u) _ z.passes)) in
+          let f : x ≡ 33 + u = eqb-true x (33 + u) (and_right (ltb l d.link_count) _ (sym (w.out (33 + u) l) ∙ and_right (heard mask u) _ z.passes)) in
           let y : u ≡ x - 33 = omega arith in
           comes_of (marks_in mask) d.source_count x (omega arith) (omega (arith, o.0)) (ap (λ n. get_or (marks_in mask) n false) (sym y) ∙ o.1)
 
@@ -139,11 +139,11 @@ module _ (d : Description) (rows : List ℕ) (mask r tick : ℕ) (since₀ since
           let a : 32 < x = ltb-true 32 x (and_left (ltb 32 x) _ e) in
           let b : (ltb (x - 33) d.source_count && get_or (marks_in mask) (x - 33) false) ≡ true = and_right (ltb 32 x) _ e in
           let o = heard_of (x - 33) (ltb-true (x - 33) d.source_count (and_left (ltb (x - 33) d.source_count) _ b)) (and_right (ltb (x - 33) d.source_count) _ b) in
-          any_at p 0 r (x - 33) (omega arith) (omega (arith, under (x - 33) o)) (both (heard mask (x - 33)) _ o (row_out d rows (33 + (x - 33)) g w l ∙ both (ltb l d.link_count) _ (lt-ltb l d.link_count h) (eq-eqb x (33 + (x - 33)) (omega arith))))
+          any_at p 0 r (x - 33) (omega arith) (omega (arith, under (x - 33) o)) (both (heard mask (x - 33)) _ o (w.out (33 + (x - 33)) l ∙ both (ltb l d.link_count) _ (lt-ltb l d.link_count h) (eq-eqb x (33 + (x - 33)) (omega arith))))
 
   links_past : (l : ℕ) → d.link_count ≤ l → inside out l ≡ false
   links_past l h =
-      j.links l ∙ any_none (λ u. heard mask u && inside (wide_at rows (9 * (33 + u))) l) 0 r (λ u a b. and_false_right (heard mask u) _ (row_out d rows (33 + u) g w l ∙ rw (le-ltb l d.link_count h) refl))
+      j.links l ∙ any_none (λ u. heard mask u && inside (row_at rows (33 + u)).out l) 0 r (λ u a b. and_false_right (heard mask u) _ (w.out (33 + u) l ∙ rw (le-ltb l d.link_count h) refl))
 
   pub all_arrived : (w₀ w' : Words) (used : List ℕ) (m : Machine) → tick ≡ w₀.tick → Sent w₀ out wakes w' → Holds d w₀ used since₀ m → Holds d w' used since (arrive d (marks_in mask) m)
   all_arrived w₀ w' used m same sent h = record {
@@ -166,7 +166,7 @@ module _ (d : Description) (rows : List ℕ) (mask r tick : ℕ) (since₀ since
 
       some : (i : ℕ) → member wakes i ≡ true → (1 ≤ i) × (i ≤ d.task_count)
       some i e =
-          let z = any_found (λ u. heard mask u && member (get_or rows (9 * (33 + u) + 8) 0) i) 0 r (sym (j.tasks i) ∙ e) in
+          let z = any_found (λ u. heard mask u && member (row_at rows (33 + u)).wakes i) 0 r (sym (j.tasks i) ∙ e) in
           woken d rows g w (33 + z.at) i (and_right (heard mask z.at) _ z.passes)
 
       waits : (l : ℕ) → Dec (l < d.link_count) → waiting_at m' l ≡ (waiting_at m l || inside out l)

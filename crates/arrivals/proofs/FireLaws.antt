@@ -1,11 +1,10 @@
 -- Words of bits and the marks they hold: what a firing does to them. Assumes nothing.
-use Prim.Native.Nat.{ℕ, ◌+◌, ◌*◌, ◌≤◌, ◌<◌}
+use Prim.Native.Nat.{ℕ, ◌≤◌, ◌<◌}
 use mathlib.Core.Path.{◌≡◌, refl, sym, ap, ◌∙◌}
 use mathlib.Core.Bool.{Bool, true, false, ◌||◌, ◌&&◌}
 use mathlib.Core.List.{List}
 use native.Mathlib.Omega.{arith}
 use native.Mathlib.Decide.{dec_lt}
-use lib.ListN.{get_or}
 use lib.Dec.{eqb, ltb}
 use borrow.Author.Tests.{eqb-true, lt-ltb, le-ltb}
 use Rattle.model.specs.declared.Description.{Description}
@@ -19,15 +18,15 @@ use Rattle.assurance.proofs.Firing.{Sized, Fired, fired}
 use Rattle.sets.specs.declared.wide.Wide.{Wide}
 use Rattle.sets.specs.Sets.{member}
 use Rattle.sets.specs.Wide.{inside}
-use Rattle.wiring.specs.Rows.{RowsOf}
+use Rattle.wiring.specs.declared.Row.{Row}
+use Rattle.wiring.specs.Rows.{row_at, RowsOf}
 use Rattle.words.specs.declared.Words.{Words}
-use Rattle.words.specs.Words.{wide_at, awake_in, waiting_in, enters, Marks}
-use Rattle.words.proofs.WordLaws.{row_out}
+use Rattle.words.specs.Words.{awake_in, waiting_in, enters, Marks}
 use Rattle.arrivals.specs.Arrivals.{Sent}
 use Rattle.theory.proofs.Links.{to_most}
 
 -- a task that some link of a node wakes is one of the description's
-pub woken : (d : Description) (rows : List ℕ) → WellFormed d → RowsOf d d.link_count rows → (x k : ℕ) → member (get_or rows (9 * x + 8) 0) k ≡ true → (1 ≤ k) × (k ≤ d.task_count)
+pub woken : (d : Description) (rows : List Row) → WellFormed d → RowsOf d d.link_count rows → (x k : ℕ) → member (row_at rows x).wakes k ≡ true → (1 ≤ k) × (k ≤ d.task_count)
 unfolding system
 woken d rows g r x k e =
     let z = any_found (λ l. eqb (link_at d l).from x && eqb (link_at d l).to k) 0 d.link_count (sym (r.wakes x k) ∙ e) in
@@ -82,14 +81,14 @@ module _ (d : Description) (w w' : Words) (out : Wide) (wakes : ℕ) (s : Sent w
   }
 
 -- node x fires
-pub marks_fired : (d : Description) (rows : List ℕ) (x : ℕ) (w w' : Words) → Sent w (wide_at rows (9 * x)) (get_or rows (9 * x + 8) 0) w' → (m : Machine) → WellFormed d → RowsOf d d.link_count rows → Marks d w m → Marks d w' (fire d x m)
+pub marks_fired : (d : Description) (rows : List Row) (x : ℕ) (w w' : Words) → Sent w (row_at rows x).out (row_at rows x).wakes w' → (m : Machine) → WellFormed d → RowsOf d d.link_count rows → Marks d w m → Marks d w' (fire d x m)
 marks_fired d rows x w w' s m g r h =
     let f : Fired d x d.link_count m (fire d x m) = fired d g x m h.sized in
-    marks_sent d w w' (wide_at rows (9 * x)) (get_or rows (9 * x + 8) 0) s m (fire d x m) (woken d rows g r x) f.sized f.used (λ k p. rw (r.wakes x k) (f.awake k p)) (λ k p. rw (r.wakes x k) (f.again k p)) (λ l. rw (row_out d rows x g r l) (f.waiting l)) (λ l. f.late l ∙ ap (λ i. late_at m l || i) (entered l (dec_lt l d.link_count))) (λ l. rw (row_out d rows x g r l) (f.dropped l)) h
+    marks_sent d w w' (row_at rows x).out (row_at rows x).wakes s m (fire d x m) (woken d rows g r x) f.sized f.used (λ k p. rw (r.wakes x k) (f.awake k p)) (λ k p. rw (r.wakes x k) (f.again k p)) (λ l. rw (r.out x l) (f.waiting l)) (λ l. f.late l ∙ ap (λ i. late_at m l || i) (entered l (dec_lt l d.link_count))) (λ l. rw (r.out x l) (f.dropped l)) h
   where
     n : ℕ
     n = d.link_count
 
-    entered : (l : ℕ) → Dec (l < n) → (ltb l n && (eqb (link_at d l).from x && ltb 0 (used_at m (link_at d l).to))) ≡ (inside (wide_at rows (9 * x)) l && enters d w.part l)
-    entered l (yes p) = rw (row_out d rows x g r l, lt-ltb l n p, h.part (link_at d l).to (to_most d g.fields l p).0) refl
-    entered l (no p) = rw (row_out d rows x g r l, le-ltb l n (omega arith)) refl
+    entered : (l : ℕ) → Dec (l < n) → (ltb l n && (eqb (link_at d l).from x && ltb 0 (used_at m (link_at d l).to))) ≡ (inside (row_at rows x).out l && enters d w.part l)
+    entered l (yes p) = rw (r.out x l, lt-ltb l n p, h.part (link_at d l).to (to_most d g.fields l p).0) refl
+    entered l (no p) = rw (r.out x l, le-ltb l n (omega arith)) refl

@@ -7,6 +7,7 @@ use Rattle.theory.proofs.WellFormed.{WellFormed}
 use Rattle.sets.specs.declared.wide.Wide.{Wide}
 use Rattle.sets.specs.Sets.{member}
 use Rattle.sets.specs.Wide.{inside}
+use Rattle.wiring.specs.declared.Row.{Row}
 use Rattle.wiring.specs.Rows.{RowsOf}
 use Rattle.words.specs.declared.Words.{Words}
 use Rattle.model.specs.Run.{heard, marks_in}
@@ -24,7 +25,7 @@ pub record Sent (w : Words) (out : Wide) (wakes : ℕ) (w' : Words) : Type 0 whe
   pub runs : w'.running ≡ w.running
 
 -- node x has fired
-pub record Fires (rows : List ℕ) (x : ℕ) (w w' : Words) : Type 0 where
+pub record Fires (rows : List Row) (x : ℕ) (w w' : Words) : Type 0 where
   pub fired : (d : Description) (m : Machine) → WellFormed d → RowsOf d d.link_count rows → Marks d w m → Marks d w' (fire d x m)
   pub then : w'.tick ≡ w.tick
   pub knob : (w'.low ≡ w.low) × (w'.peak ≡ w.peak)
@@ -46,7 +47,7 @@ abbrev pub at_tempos : ℕ → ℕ → Words → Words
 at_tempos low peak w = record { woken = w.woken; part = w.part; running = w.running; fresh = w.fresh; taken = w.taken; dropped = w.dropped; tick = w.tick; low = low; peak = peak }
 
 -- the sources of a mask have arrived at tempo t, kept tempos being raised to the fastest given first
-pub record Arrives (rows : List ℕ) (t peak mask : ℕ) (w : Words) (since fastest : List ℕ) (w' : Words) (since' fastest' : List ℕ) : Type 0 where
+pub record Arrives (rows : List Row) (t peak mask : ℕ) (w : Words) (since fastest : List ℕ) (w' : Words) (since' fastest' : List ℕ) : Type 0 where
   pub arrived : (d : Description) (used : List ℕ) (m : Machine) → WellFormed d → RowsOf d d.link_count rows → Known d mask
       → Holds d w used since m → Holds d w' used since' (arrive d (marks_in mask) m)
   pub many : length fastest' ≡ 16

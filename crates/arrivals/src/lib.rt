@@ -6,60 +6,44 @@ ghost use Rattle.arrivals.specs.Parts.{Sourced};
 ghost use Rattle.words.specs.Words.{raised_to};
 ghost use Rattle.arrivals.specs.Arrivals.{Sent, Fires, at_tempos, Arrives, Folds};
 
-use sets::wide;
+use sets::Set;
 use sets::wide::Wide;
-use words::{Words, row};
+use wiring::Row;
+use words::Words;
 
 // Links fire together: each that is fresh is dropped, each is fresh anew, and their tasks are woken.
 fn send(w: Words, out: Wide, wakes: u64) -> Words
     ensures { Sent w out wakes result }
 {
-    let fresh = w.fresh;
-    let taken = w.taken;
-    let dropped = w.dropped;
-    let missed = wide::both(fresh, out);
     Words {
-        woken: sets::union(w.woken, wakes),
-        part: w.part,
-        running: w.running,
-        fresh: wide::union(fresh, out),
-        taken,
-        dropped: wide::union(dropped, missed),
-        tick: w.tick,
-        low: w.low,
-        peak: w.peak,
+        woken: w.woken.union(wakes),
+        fresh: w.fresh.union(out),
+        dropped: w.dropped.union(w.fresh.both(out)),
+        ..w
     }
 }
 
 // Node x fires: each link out of it that is fresh is dropped, is fresh anew and wakes its task.
-pub fn fire(rows: &[u64; 576], x: usize, w: Words) -> Words
+pub fn fire(rows: &[Row; 64], x: usize, w: Words) -> Words
     requires { x < 64 }
     ensures { Fires rows.now x w result }
 {
-    send(w, row(rows, 9 * x), rows[9 * x + 8])
+    send(w, rows[x].out, rows[x].wakes)
 }
 
 // What a kept tempo becomes by a faster one: the larger of the two; 0 stays 0.
 fn raised(f: u32, t: u32) -> u32
     ensures { result ≡ raised_to t f }
 {
-    if f == 0 {
-        return 0;
-    }
-    if f < t {
-        return t;
-    }
-    f
+    if f == 0 { 0 } else { f.max(t) }
 }
 
 pub fn raise(t: u32, fastest: &mut [u32; 16])
     requires { length fastest.old ≡ 16 }
     ensures { (length fastest.new ≡ 16) × ((u : ℕ) → u < 16 → get_or fastest.new u 0 ≡ raised_to t (get_or fastest.old u 0)) }
 {
-    let mut u: usize = 0;
-    while u < 16 {
-        fastest[u] = raised(fastest[u], t);
-        u += 1;
+    for kept in fastest.iter_mut() {
+        *kept = raised(*kept, t);
     }
 }
 
@@ -77,7 +61,7 @@ fn fold(t: u32, peak: u32, low: u32, fastest: &mut [u32; 16])
 // Step 1 at tempo t, peak being the fastest given since the last arrival: each arriving source fires, its age becomes 0, and it keeps t. Links out of
 // different sources are different links, so those out of all that arrive fire together. Most often one arrives.
 pub fn arrive(
-    rows: &[u64; 576],
+    rows: &[Row; 64],
     t: u32,
     peak: u32,
     mask: u64,
@@ -88,17 +72,18 @@ pub fn arrive(
     requires { (0 < mask) × Sourced mask × (length since.old ≡ 16) × (length fastest.old ≡ 16) }
     ensures { Arrives rows.now t peak mask w since.old fastest.old result since.new fastest.new }
 {
-    fold(t, peak, w.low, &mut *fastest);
+    fold(t, peak, w.low, fastest);
     let one = sets::first(mask);
-    let mut out = row(rows, 9 * (33 + one));
-    let mut wakes = rows[9 * (33 + one) + 8];
+    let mut out = rows[33 + one].out;
+    let mut wakes = rows[33 + one].wakes;
     since[one] = w.tick;
     fastest[one] = t;
     let mut rest = sets::rest(mask);
+    // By `first` and `rest`: an iterator over members, a type with laws of its own for two loops, would be no plainer.
     while rest != 0 {
         let u = sets::first(rest);
-        out = wide::union(out, row(rows, 9 * (33 + u)));
-        wakes = sets::union(wakes, rows[9 * (33 + u) + 8]);
+        out = out.union(rows[33 + u].out);
+        wakes = wakes.union(rows[33 + u].wakes);
         since[u] = w.tick;
         fastest[u] = t;
         rest = sets::rest(rest);
@@ -110,18 +95,5 @@ pub fn arrive(
 pub fn at_tempos(low: u32, peak: u32, w: Words) -> Words
     ensures { result ≡ at_tempos low peak w }
 {
-    let fresh = w.fresh;
-    let taken = w.taken;
-    let dropped = w.dropped;
-    Words {
-        woken: w.woken,
-        part: w.part,
-        running: w.running,
-        fresh,
-        taken,
-        dropped,
-        tick: w.tick,
-        low,
-        peak,
-    }
+    Words { low, peak, ..w }
 }

@@ -32,6 +32,10 @@ use Rattle.theory.proofs.WellFormed.{WellFormed}
 use Rattle.theory.proofs.Spacing.{gap_anti}
 use Rattle.assurance.proofs.Arriving.{arrived}
 use Rattle.assurance.proofs.Stepping.{over_at, Stepped, step}
+use Rattle.wiring.specs.declared.Wiring.{Wiring}
+use Rattle.spacings.specs.declared.Pace.{Pace}
+use Rattle.spacings.specs.declared.Sources.{Sources}
+use Rattle.spacings.specs.Sources.{ticks_at, pulses_at}
 use Rattle.spacings.proofs.SourceLaws.{plain_pulses}
 use Rattle.spacings.proofs.GapLaws.{plain_gap}
 use Rattle.words.specs.declared.Words.{Words}
@@ -44,7 +48,7 @@ use Rattle.steps.proofs.StepLaws.{ages_same}
 use Rattle.machine.specs.declared.call.Call.{Call}
 use Rattle.machine.specs.declared.call.Advanced.{Advanced}
 use Rattle.model.specs.History.{is_done}
-use Rattle.machine.specs.Calls.{plan_ticks, plan_pulses, SourcesIn, TablesOf, Tracks, due_by, Timed, KeepsAfter, arrivals_end, plain_answer, Heard, Hears}
+use Rattle.machine.specs.Calls.{SourcesIn, TablesOf, Tracks, due_by, Timed, KeepsAfter, arrivals_end, plain_answer, Heard, Hears}
 
 -- a mask with nothing left above s sources
 pub known : (d : Description) (mask s a : ℕ) → d.source_count ≡ s → s ≤ 16 → a ≡ mask / 2 ^ s → a ≡ 0 → Known d mask
@@ -127,15 +131,15 @@ pub rests_on : (t peak : ℕ) → 200 ≤ t → t ≤ peak → peak ≤ 3000 →
 rests_on t peak a b c = both (leb 200 t) (leb t 3000) (le-leb 200 t a) (le-leb t 3000 (omega arith))
 
 -- an arrival that is too soon, and none that is
-module _ (d : Description) (t mask peak tick : ℕ) (plan since fastest : List ℕ) (w : Words) (m : Machine) (g : WellFormed d) (s : SourcesIn d plan) (k : Known d mask) (l : rules_kept d m ≡ true) (a : Ages d tick since m) (K : Keeps w fastest m) (q : peak ≡ max w.peak t) (low : 200 ≤ t) where
+module _ (d : Description) (t mask peak tick : ℕ) (paces : List Pace) (since fastest : List ℕ) (w : Words) (m : Machine) (g : WellFormed d) (s : SourcesIn d paces) (k : Known d mask) (l : rules_kept d m ≡ true) (a : Ages d tick since m) (K : Keeps w fastest m) (q : peak ≡ max w.peak t) (low : 200 ≤ t) where
   abbrev due : ℕ → ℕ
-  due u = due_by plan fastest peak u
+  due u = due_by paces fastest peak u
 
   abbrev due_in : ℕ → ℕ
   due_in u = spacing_of d (max (fastest_at m u) t) (33 + u)
 
   due_gap : (u : ℕ) → u < d.source_count → due u ≡ spacing_of d (max (get_or fastest u 0) peak) (33 + u)
-  due_gap u p = plain_gap d (max (get_or fastest u 0) peak) u (plan_ticks plan u) (plan_pulses plan u) (s u p)
+  due_gap u p = plain_gap d (max (get_or fastest u 0) peak) u (ticks_at paces u) (pulses_at paces u) (s u p)
 
   most : (u x : ℕ) → u < d.source_count → 200 ≤ x → spacing_of d x (33 + u) ≤ longest_gap d u
   most u x p h = gap_anti d g (33 + u) (omega arith) (omega arith) 200 x (omega arith) h
@@ -269,8 +273,8 @@ kept_most d w fastest m g e K u p = go (get_or fastest u 0) refl
         omega (arith, (within 200 (fastest_at m u) 3000 o).1)
 
 -- so that the spacings of arriving sources can be worked out
-pub timed : (pol : Policy) (d : Description) (t mask peak : ℕ) (w : Words) (rows plan used since fastest : List ℕ) (m : Machine) → TablesOf d rows plan → Tracks pol d w used since fastest m → rules_kept d m ≡ true → w.tick < 2 ^ 63 → Sourced mask → Known d mask → on_knob t ≡ true → peak ≡ max w.peak t → Timed mask peak plan since fastest
-timed pol d t mask peak w rows plan used since fastest m T R l early sourced k knob q = record {
+pub timed : (pol : Policy) (d : Description) (t mask peak : ℕ) (w : Words) (wires : Wiring) (sources : Sources) (used since fastest : List ℕ) (m : Machine) → TablesOf d wires sources → Tracks pol d w used since fastest m → rules_kept d m ≡ true → w.tick < 2 ^ 63 → Sourced mask → Known d mask → on_knob t ≡ true → peak ≡ max w.peak t → Timed mask peak sources.paces since fastest
+timed pol d t mask peak w wires sources used since fastest m T R l early sourced k knob q = record {
   sourced = sourced;
   at = λ u e. record {
     here = sourced u e;
@@ -422,9 +426,9 @@ keeps_given t mask w w' fastest m high a b K = record {
 }
 
 -- a refused call leaves all as it was, and ends as the plain machine's
-pub refused_hears : (rows plan : List ℕ) (call : Call) (w : Words) (since fastest : List ℕ) (why : Refusal) (r : Advanced) → r ≡ record { outcome = Refused why 0; words = w } → ((p : Policy) (d : Description) (used : List ℕ) (m : Machine) → TablesOf d rows plan → judge d ≡ Done → lawful p d m ≡ true → Tracks p d w used since fastest m → record { outcome = Refused why 0; machine = m } ≡ plain_answer p d m call)
-    → Hears rows plan call w since fastest r since fastest
-refused_hears rows plan call w since fastest why r e plain = record {
+pub refused_hears : (wires : Wiring) (sources : Sources) (call : Call) (w : Words) (since fastest : List ℕ) (why : Refusal) (r : Advanced) → r ≡ record { outcome = Refused why 0; words = w } → ((p : Policy) (d : Description) (used : List ℕ) (m : Machine) → TablesOf d wires sources → judge d ≡ Done → lawful p d m ≡ true → Tracks p d w used since fastest m → record { outcome = Refused why 0; machine = m } ≡ plain_answer p d m call)
+    → Hears wires sources call w since fastest r since fastest
+refused_hears wires sources call w since fastest why r e plain = record {
   refuses = λ x place q p d used m T j l R.
       (ap (λ (o : Outcome). record { outcome = o; machine = m }) (ap (λ (x : Advanced). x.outcome) e) ∙ plain p d used m T j l R, subst (λ (k : Words). Tracks p d k used since fastest m) (sym (ap (λ (x : Advanced). x.words) e)) R);
   hears = λ q. absurd (not_both (ap is_done q) (ap is_done (ap (λ (x : Advanced). x.outcome) e)));
@@ -433,9 +437,9 @@ refused_hears rows plan call w since fastest why r e plain = record {
 }
 
 -- one that is not refused
-pub admitted_hears : (rows plan : List ℕ) (call : Call) (w w' : Words) (since fastest since' fastest' : List ℕ) (r : Advanced) → r ≡ record { outcome = Done; words = w' } → ((p : Policy) (d : Description) (used : List ℕ) (m : Machine) → TablesOf d rows plan → judge d ≡ Done → lawful p d m ≡ true → Tracks p d w used since fastest m → Heard d call w' used since' fastest' m) → w'.tick ≡ w.tick → w'.running ≡ w.running
-    → Hears rows plan call w since fastest r since' fastest'
-admitted_hears rows plan call w w' since fastest since' fastest' r e come then runs = record {
+pub admitted_hears : (wires : Wiring) (sources : Sources) (call : Call) (w w' : Words) (since fastest since' fastest' : List ℕ) (r : Advanced) → r ≡ record { outcome = Done; words = w' } → ((p : Policy) (d : Description) (used : List ℕ) (m : Machine) → TablesOf d wires sources → judge d ≡ Done → lawful p d m ≡ true → Tracks p d w used since fastest m → Heard d call w' used since' fastest' m) → w'.tick ≡ w.tick → w'.running ≡ w.running
+    → Hears wires sources call w since fastest r since' fastest'
+admitted_hears wires sources call w w' since fastest since' fastest' r e come then runs = record {
   refuses = λ why place q. absurd (not_both (ap is_done (ap (λ (x : Advanced). x.outcome) e)) (ap is_done q));
   hears = λ q p d used m T j l R. subst (λ (k : Words). Heard d call k used since' fastest' m) (sym (ap (λ (x : Advanced). x.words) e)) (come p d used m T j l R);
   then = ap (λ (x : Advanced). x.words.tick) e ∙ then;

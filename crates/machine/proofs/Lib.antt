@@ -1,4 +1,4 @@
 -- Laws that the proofs of this crate's functions share; a run of calls cites some of them.
-pub mod PlanLaws
+pub mod TableLaws
 pub mod CallLaws
 pub mod TickLaws

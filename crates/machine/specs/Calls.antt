@@ -19,7 +19,8 @@ use Rattle.theory.proofs.WellFormed.{WellFormed}
 use Rattle.wiring.specs.declared.Wiring.{Wiring}
 use Rattle.wiring.specs.Rows.{RowsOf, WiringOf}
 use Rattle.spacings.specs.declared.Sources.{Sources}
-use Rattle.spacings.specs.Sources.{spacing_by, PlainOf, SourcesOf}
+use Rattle.spacings.specs.declared.Pace.{Pace}
+use Rattle.spacings.specs.Sources.{ticks_at, pulses_at, spacing_by, PlainOf, SourcesOf}
 use Rattle.spacings.specs.Gaps.{GapsOf}
 use Rattle.words.specs.declared.Words.{Words}
 use Rattle.arrivals.specs.Parts.{Known, Sourced}
@@ -28,33 +29,17 @@ use Rattle.steps.specs.Steps.{worked, RunsIn}
 use Rattle.machine.specs.declared.call.Call.{Call}
 use Rattle.machine.specs.declared.call.Advanced.{Advanced}
 
--- in a plan the ticks of source 33 + u, its pulses, and how many sources there are
-abbrev pub plan_ticks : List ℕ → ℕ → ℕ
-plan_ticks plan u = get_or plan (32 + u) 0
+-- the numbers are those of a description's sources
+abbrev pub SourcesIn : Description → List Pace → Type 0
+SourcesIn d paces = (u : ℕ) → u < d.source_count → PlainOf (get_or d.sources u no_source).source (ticks_at paces u) (pulses_at paces u)
 
-abbrev pub plan_pulses : List ℕ → ℕ → ℕ
-plan_pulses plan u = get_or plan (48 + u) 0
-
-abbrev pub plan_sources : List ℕ → ℕ
-plan_sources plan = get_or plan 64 0
-
--- they are those of a description's sources
-abbrev pub SourcesIn : Description → List ℕ → Type 0
-SourcesIn d plan = (u : ℕ) → u < d.source_count → PlainOf (get_or d.sources u no_source).source (plan_ticks plan u) (plan_pulses plan u)
-
--- a plan is made of longest runs, the numbers of sources, and their count
-pub record PlanOf (runs paces : List ℕ) (sources : ℕ) (plan : List ℕ) : Type 0 where
-  pub runs_at : (k : ℕ) → k < 32 → get_or plan k 0 ≡ get_or runs k 0
-  pub paces_at : (k : ℕ) → k < 32 → get_or plan (32 + k) 0 ≡ get_or paces k 0
-  pub counted : plan_sources plan ≡ sources
-
--- the tables of an accepted description: its rows and its plan
-pub record TablesOf (d : Description) (rows plan : List ℕ) : Type 0 where
+-- the tables of an accepted description: its wiring and its sources
+pub record TablesOf (d : Description) (wires : Wiring) (sources : Sources) : Type 0 where
   pub formed : WellFormed d
-  pub rowed : RowsOf d d.link_count rows
-  pub same_runs : RunsIn d plan
-  pub same_sources : SourcesIn d plan
-  pub as_wide : d.source_count ≡ plan_sources plan
+  pub rowed : RowsOf d d.link_count wires.rows
+  pub same_runs : RunsIn d wires.runs
+  pub same_sources : SourcesIn d sources.paces
+  pub as_wide : d.source_count ≡ wires.sources
 
 -- the words and tables that hold a whole record
 pub record Tracks (p : Policy) (d : Description) (w : Words) (used since fastest : List ℕ) (m : Machine) : Type 0 where
@@ -63,33 +48,33 @@ pub record Tracks (p : Policy) (d : Description) (w : Words) (used since fastest
   pub keeps : Keeps w fastest m
 
 -- a source's numbers are such that its spacing can be worked out
-pub record TimedAt (u peak : ℕ) (plan since fastest : List ℕ) : Type 0 where
+pub record TimedAt (u peak : ℕ) (paces : List Pace) (since fastest : List ℕ) : Type 0 where
   pub here : u < 16
   pub low : 200 ≤ peak
   pub high : peak ≤ 3000
-  pub few : plan_pulses plan u ≤ 960
+  pub few : pulses_at paces u ≤ 960
   pub kept : get_or fastest u 0 ≤ 3000
   pub early : get_or since u 0 < 2 ^ 63
 
 -- and so are those of every arriving source
-pub record Timed (mask peak : ℕ) (plan since fastest : List ℕ) : Type 0 where
+pub record Timed (mask peak : ℕ) (paces : List Pace) (since fastest : List ℕ) : Type 0 where
   pub sourced : Sourced mask
-  pub at : (u : ℕ) → heard mask u ≡ true → TimedAt u peak plan since fastest
+  pub at : (u : ℕ) → heard mask u ≡ true → TimedAt u peak paces since fastest
 
 -- a source's spacing at the fastest tempo given
-abbrev pub due_by : List ℕ → List ℕ → ℕ → ℕ → ℕ
-due_by plan fastest peak u = spacing_by (plan_ticks plan u) (plan_pulses plan u) (max (get_or fastest u 0) peak)
+abbrev pub due_by : List Pace → List ℕ → ℕ → ℕ → ℕ
+due_by paces fastest peak u = spacing_by (ticks_at paces u) (pulses_at paces u) (max (get_or fastest u 0) peak)
 
 -- whether an arriving source comes too soon, peak being the fastest tempo given since the last arrival
-abbrev pub SoonIs : ℕ → ℕ → List ℕ → List ℕ → List ℕ → ℕ → Bool → Type 0
-SoonIs mask peak plan since fastest tick r =
-    (d : Description) (t : ℕ) (w : Words) (m : Machine) → WellFormed d → SourcesIn d plan → Known d mask → rules_kept d m ≡ true
+abbrev pub SoonIs : ℕ → ℕ → List Pace → List ℕ → List ℕ → ℕ → Bool → Type 0
+SoonIs mask peak paces since fastest tick r =
+    (d : Description) (t : ℕ) (w : Words) (m : Machine) → WellFormed d → SourcesIn d paces → Known d mask → rules_kept d m ≡ true
     → Ages d tick since m → Keeps w fastest m → peak ≡ max w.peak t → 200 ≤ t → r ≡ too_soon d t (marks_in mask) m
 
 -- steps 2 to 4 are made
-pub record RunsOn (p : Policy) (rows plan : List ℕ) (finish : Bool) (w : Words) (used : List ℕ) (r : Advanced) (used' : List ℕ) : Type 0 where
+pub record RunsOn (p : Policy) (wires : Wiring) (finish : Bool) (w : Words) (used : List ℕ) (r : Advanced) (used' : List ℕ) : Type 0 where
   pub done : r.outcome ≡ Done
-  pub ran : (d : Description) (since : List ℕ) (m : Machine) → WellFormed d → RowsOf d d.link_count rows → RunsIn d plan
+  pub ran : (d : Description) (since : List ℕ) (m : Machine) → WellFormed d → RowsOf d d.link_count wires.rows → RunsIn d wires.runs
       → Goes p w.running used → Holds d w used since m → Holds d r.words used' since (age_all d (worked p d finish m))
   pub goes : length used ≡ 32 → Goes p w.running used → Goes p r.words.running used'
   pub then : r.words.tick ≡ w.tick + 1
@@ -111,11 +96,11 @@ arrivals_end d t mask m =
     Done)
 
 -- a call may be made: its tables are those of some accepted description, and the words hold a record that keeps the rules
-pub record Going (p : Policy) (rows plan : List ℕ) (mask : ℕ) (w : Words) (used since fastest : List ℕ) : Type 0 where
+pub record Going (p : Policy) (wires : Wiring) (sources : Sources) (mask : ℕ) (w : Words) (used since fastest : List ℕ) : Type 0 where
   pub description : Description
   pub machine : Machine
   pub judged : judge description ≡ Done
-  pub tables : TablesOf description rows plan
+  pub tables : TablesOf description wires sources
   pub tracks : Tracks p description w used since fastest machine
   pub keeps : lawful p description machine ≡ true
   pub sourced : Sourced mask
@@ -123,10 +108,10 @@ pub record Going (p : Policy) (rows plan : List ℕ) (mask : ℕ) (w : Words) (u
   pub early : w.tick < 2 ^ 63
 
 -- the same with some model and what tasks have used
-pub record Hearing (rows plan : List ℕ) (mask : ℕ) (w : Words) (since fastest : List ℕ) : Type 0 where
+pub record Hearing (wires : Wiring) (sources : Sources) (mask : ℕ) (w : Words) (since fastest : List ℕ) : Type 0 where
   pub policy : Policy
   pub used : List ℕ
-  pub going : Going policy rows plan mask w used since fastest
+  pub going : Going policy wires sources mask w used since fastest
 
 -- the plain machine's answer to a call
 abbrev pub plain_answer : Policy → Description → Machine → Call → Ticked
@@ -141,19 +126,19 @@ pub record Heard (d : Description) (call : Call) (w : Words) (used since fastest
   pub high : (call.tempo ≤ w.peak) × (call.tempo ≤ 3000)
 
 -- a call is refused as by the plain machine, and all is as it was; or else it is not
-pub record Hears (rows plan : List ℕ) (call : Call) (w : Words) (since fastest : List ℕ) (r : Advanced) (since' fastest' : List ℕ) : Type 0 where
-  pub refuses : (why : Refusal) (place : ℕ) → r.outcome ≡ Refused why place → (p : Policy) (d : Description) (used : List ℕ) (m : Machine) → TablesOf d rows plan → judge d ≡ Done → lawful p d m ≡ true → Tracks p d w used since fastest m
+pub record Hears (wires : Wiring) (sources : Sources) (call : Call) (w : Words) (since fastest : List ℕ) (r : Advanced) (since' fastest' : List ℕ) : Type 0 where
+  pub refuses : (why : Refusal) (place : ℕ) → r.outcome ≡ Refused why place → (p : Policy) (d : Description) (used : List ℕ) (m : Machine) → TablesOf d wires sources → judge d ≡ Done → lawful p d m ≡ true → Tracks p d w used since fastest m
       → (record { outcome = r.outcome; machine = m } ≡ plain_answer p d m call) × Tracks p d r.words used since' fastest' m
-  pub hears : r.outcome ≡ Done → (p : Policy) (d : Description) (used : List ℕ) (m : Machine) → TablesOf d rows plan → judge d ≡ Done → lawful p d m ≡ true → Tracks p d w used since fastest m
+  pub hears : r.outcome ≡ Done → (p : Policy) (d : Description) (used : List ℕ) (m : Machine) → TablesOf d wires sources → judge d ≡ Done → lawful p d m ≡ true → Tracks p d w used since fastest m
       → Heard d call r.words used since' fastest' m
   pub then : r.words.tick ≡ w.tick
   pub runs : r.words.running ≡ w.running
 
 -- the call ends as the plain machine's, and its words hold the record which that leaves
-pub record Advances (p : Policy) (rows plan : List ℕ) (call : Call) (w : Words) (used since fastest : List ℕ) (r : Advanced) (used' since' fastest' : List ℕ) : Type 0 where
-  pub ends : (d : Description) (m : Machine) → TablesOf d rows plan → judge d ≡ Done → lawful p d m ≡ true → Tracks p d w used since fastest m
+pub record Advances (p : Policy) (wires : Wiring) (sources : Sources) (call : Call) (w : Words) (used since fastest : List ℕ) (r : Advanced) (used' since' fastest' : List ℕ) : Type 0 where
+  pub ends : (d : Description) (m : Machine) → TablesOf d wires sources → judge d ≡ Done → lawful p d m ≡ true → Tracks p d w used since fastest m
       → r.outcome ≡ (plain_answer p d m call).outcome
-  pub leaves : (d : Description) (m : Machine) → TablesOf d rows plan → judge d ≡ Done → lawful p d m ≡ true → Tracks p d w used since fastest m
+  pub leaves : (d : Description) (m : Machine) → TablesOf d wires sources → judge d ≡ Done → lawful p d m ≡ true → Tracks p d w used since fastest m
       → Tracks p d r.words used' since' fastest' (plain_answer p d m call).machine
   pub soon : r.words.tick ≤ w.tick + 1
 

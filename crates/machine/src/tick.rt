@@ -6,10 +6,10 @@ ghost use Rattle.model.specs.Run.{marks_in};
 ghost use Rattle.arrivals.specs.Parts.{Sourced};
 ghost use Rattle.machine.specs.Calls.{Accepted, TickIs};
 
-use crate::call::{Call, advance, plan_of};
+use crate::call::{Call, advance};
 use arrivals::raise;
 use model::{Arrivals, Machine, Outcome, Policy, Refusal, Ticked};
-use records::{pack, unpack, word_in};
+use records::{marked_from, pack, unpack};
 use rules::lawful;
 use spacings::Sources;
 use wiring::Wiring;
@@ -18,17 +18,15 @@ use wiring::Wiring;
 fn mask_of(a: Arrivals) -> u64
     ensures { Sourced result × (marks_in result ≡ a.marks) }
 {
-    let marks = a.marks;
-    word_in(&marks, 0, 16)
+    marked_from(0, &a.marks)
 }
 
 // A refused tick leaves the record as it was.
 pub fn refused(why: Refusal, m: Machine) -> Ticked
     ensures { result ≡ record { outcome = Refused why 0; machine = m } }
 {
-    let outcome = Outcome::Refused(why, 0);
     Ticked {
-        outcome,
+        outcome: Outcome::Refused(why, 0),
         machine: m,
     }
 }
@@ -47,7 +45,7 @@ pub fn tick_judged(
     requires { Accepted w s longest }
     ensures { TickIs p w s longest t m a finish result }
 {
-    if !lawful(p, w, longest, m) {
+    if !lawful(p, &w, &longest, &m) {
         return refused(Refusal::ForeignState, m);
     }
     let call = Call {
@@ -56,27 +54,24 @@ pub fn tick_judged(
         finish,
     };
     let packed = pack(p, &w.rows, m);
-    let words = packed.words;
-    let mut since = packed.since;
     let mut used = m.used;
+    let mut since = packed.since;
     let mut fastest = m.fastest;
-    let sources = w.sources;
-    let plan = plan_of(&w.runs, &s.paces, sources);
     let done = advance(
         p,
-        &w.rows,
-        &plan,
+        &w,
+        &s,
         call,
-        words,
+        packed.words,
         &mut used,
         &mut since,
         &mut fastest,
     );
-    let outcome = done.outcome;
-    let left = done.words;
-    raise(left.peak, &mut fastest);
+    raise(done.words.peak, &mut fastest);
     Ticked {
-        outcome,
-        machine: unpack(&w.rows, &longest, sources, left, used, &since, fastest),
+        outcome: done.outcome,
+        machine: unpack(
+            &w.rows, &longest, w.sources, done.words, used, &since, fastest,
+        ),
     }
 }

@@ -1,5 +1,5 @@
 -- A call at a place of some bytes, and calls that are passed.
-use Rattle.std.specs.Prelude.{ℕ, ◌+◌, ◌*◌, ◌/◌, ◌%◌, ◌≤◌, ◌<◌, List, ◌++◌, ◌≡◌, length, get_or, take, drop}
+use Rattle.std.specs.Prelude.{ℕ, ◌+◌, ◌*◌, ◌/◌, ◌%◌, ◌≤◌, ◌<◌, Bool, true, List, ◌++◌, ◌≡◌, length, get_or, take, drop}
 use Rattle.model.specs.Header.{number_in}
 use Rattle.words.specs.declared.Words.{Words}
 
@@ -8,19 +8,15 @@ pub record Head (calls : List ℕ) (at head : ℕ) : Type 0 where
   pub mask : head / 65536 ≡ number_in calls at 2
   pub tempo : head % 65536 ≡ number_in calls (at + 2) 2
 
--- calls that are passed: nothing comes, the tempo is one of the knob up to the fastest given, and their codes are 0
-pub record Skips (calls : List ℕ) (from n peak : ℕ) (outcomes : List ℕ) (r : ℕ) (outcomes' : List ℕ) : Type 0 where
+-- calls that are passed: nothing comes, the tempo is one of the knob up to the fastest given, in a run nothing ends, and their codes are 0
+pub record Skips (runs : Bool) (calls : List ℕ) (from n peak : ℕ) (outcomes : List ℕ) (r : ℕ) (outcomes' : List ℕ) : Type 0 where
   pub on : from ≤ r
   pub most : r ≤ n
   pub sized : length outcomes' ≡ length outcomes
   pub quiet : (k : ℕ) → from ≤ k → k < r → (number_in calls (6 * k) 2 ≡ 0) × (200 ≤ number_in calls (6 * k + 2) 2) × (number_in calls (6 * k + 2) 2 ≤ peak)
+  pub unfinished : runs ≡ true → (k : ℕ) → from ≤ k → k < r → get_or calls (6 * k + 4) 0 ≡ 0
   pub stored : (text out₀ : List ℕ) → r ≤ length text → r ≤ length out₀ → ((k : ℕ) → from ≤ k → k < r → get_or text k 0 ≡ 0)
       → outcomes ≡ take from text ++ drop from out₀ → outcomes' ≡ take r text ++ drop r out₀
-
--- and calls in which nothing ends either
-pub record RunsAlong (calls : List ℕ) (from to peak : ℕ) (outcomes : List ℕ) (r : ℕ) (outcomes' : List ℕ) : Type 0 where
-  pub skips : Skips calls from to peak outcomes r outcomes'
-  pub unfinished : (k : ℕ) → from ≤ k → k < r → get_or calls (6 * k + 4) 0 ≡ 0
 
 -- words so many ticks later
 abbrev pub later_by : ℕ → Words → Words

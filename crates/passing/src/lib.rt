@@ -4,7 +4,7 @@
 ghost use Rattle.std.specs.Prelude.{◌≡◌, ◌&&◌, cond, ◌+◌, ◌-◌, ◌*◌, ◌/◌, ◌%◌, ◌≤◌, ◌<◌, ◌^◌, min, length, leb, eqb};
 ghost use Rattle.model.specs.Header.{number_in};
 ghost use Rattle.model.specs.Refusals.{of_outcome};
-ghost use Rattle.passing.specs.Passing.{Head, Skips, RunsAlong, later_by};
+ghost use Rattle.passing.specs.Passing.{Head, Skips, later_by};
 
 use headers::half_at;
 use model::Outcome;
@@ -28,7 +28,7 @@ fn head_at(calls: &[u8], at: usize) -> u32
 {
     let mask = half_at(calls, at);
     let tempo = half_at(calls, at + 2);
-    mask as u32 * 65536 + tempo as u32
+    u32::from(mask) * 65536 + u32::from(tempo)
 }
 
 // The same of call i of n. What it is behind the last does not matter.
@@ -36,17 +36,14 @@ pub fn peek(calls: &[u8], i: usize, n: usize) -> u32
     requires { 6 * n ≤ length calls.now }
     ensures { i < n → Head calls.now (6 * i) result }
 {
-    if i < n {
-        return head_at(calls, 6 * i);
-    }
-    0
+    if i < n { head_at(calls, 6 * i) } else { 0 }
 }
 
 // The mask as a word.
 pub fn mask_in(head: u32) -> u64
     ensures { (result ≡ head / 65536) × (result < 2 ^ 16) }
 {
-    (head / 65536) as u64
+    u64::from(head / 65536)
 }
 
 // And the tempo.
@@ -61,6 +58,7 @@ fn quiet_at(calls: &[u8], at: usize, peak: u32) -> bool
     requires { (at + 4 ≤ length calls.now) × (200 ≤ peak) × (peak ≤ 3000) }
     ensures { result ≡ (eqb (number_in calls.now at 2) 0 && (leb (number_in calls.now (at + 2) 2) peak && leb 200 (number_in calls.now (at + 2) 2))) }
 {
+    // Three tests one after the other, of which the first is met most often: as one condition all are made at each call.
     let head = head_at(calls, at);
     if head == peak {
         return true;
@@ -71,21 +69,30 @@ fn quiet_at(calls: &[u8], at: usize, peak: u32) -> bool
     200 <= head
 }
 
-// Where no task is awake, passes the calls from a place on in which nothing comes and no faster tempo is given: each is a tick that only counts, and
-// its code is 0. The place of the first other one.
-pub fn skip(calls: &[u8], from: usize, n: usize, peak: u32, outcomes: &mut [u8]) -> usize
-    requires { (from ≤ n) × (6 * n ≤ length calls.now) × (n ≤ length outcomes.old) × (200 ≤ peak) × (peak ≤ 3000) }
-    ensures { Skips calls.now from n peak outcomes.old result outcomes.new }
+// Passes the calls from a place up to another in which nothing comes and no faster tempo is given, and of a run that has begun and goes on those in which
+// nothing ends: each is a tick that only counts, or one of the run, and its code is 0. The place of the first other one.
+#[inline(always)]
+pub fn skip(
+    runs: bool,
+    calls: &[u8],
+    from: usize,
+    to: usize,
+    peak: u32,
+    outcomes: &mut [u8],
+) -> usize
+    requires { (from ≤ to) × (6 * to ≤ length calls.now) × (to ≤ length outcomes.old) × (200 ≤ peak) × (peak ≤ 3000) }
+    ensures { Skips runs calls.now from to peak outcomes.old result outcomes.new }
 {
-    let mut i = from;
-    while i < n {
-        if !quiet_at(calls, 6 * i, peak) {
-            return i;
+    for k in from..to {
+        if !quiet_at(calls, 6 * k, peak) {
+            return k;
         }
-        outcomes[i] = 0;
-        i += 1;
+        if runs && calls[6 * k + 4] != 0 {
+            return k;
+        }
+        outcomes[k] = 0;
     }
-    i
+    to
 }
 
 // How many ticks a run has before its last, if it has begun; else 0.
@@ -93,10 +100,7 @@ pub fn room(run: u32, spent: u32) -> u32
     requires { spent < run }
     ensures { result ≡ cond (eqb spent 0) 0 (run - spent - 1) }
 {
-    if spent == 0 {
-        return 0;
-    }
-    run - spent - 1
+    if spent == 0 { 0 } else { run - spent - 1 }
 }
 
 // The place that so many calls reach from another on, n at the most.
@@ -104,31 +108,7 @@ pub fn reach(from: usize, calls: u32, n: usize) -> usize
     requires { from ≤ n }
     ensures { result ≡ min n (from + calls) }
 {
-    let count = calls as usize;
-    if n - from <= count {
-        return n;
-    }
-    from + count
-}
-
-// Where a run that has begun goes on, passes the calls from a place up to another in which nothing comes, no faster tempo is given and nothing ends: each
-// is a tick of the run, and its code is 0. The place of the first other one.
-pub fn along(calls: &[u8], from: usize, to: usize, peak: u32, outcomes: &mut [u8]) -> usize
-    requires { (from ≤ to) × (6 * to ≤ length calls.now) × (to ≤ length outcomes.old) × (200 ≤ peak) × (peak ≤ 3000) }
-    ensures { RunsAlong calls.now from to peak outcomes.old result outcomes.new }
-{
-    let mut k = from;
-    while k < to {
-        if !quiet_at(calls, 6 * k, peak) {
-            return k;
-        }
-        if calls[6 * k + 4] != 0 {
-            return k;
-        }
-        outcomes[k] = 0;
-        k += 1;
-    }
-    k
+    from.saturating_add(calls as usize).min(n)
 }
 
 // The words so many ticks later, in which nothing happened.
@@ -136,18 +116,8 @@ pub fn later(w: Words, ticks: usize) -> Words
     requires { w.tick + ticks < 2 ^ 64 }
     ensures { result ≡ later_by ticks w }
 {
-    let fresh = w.fresh;
-    let taken = w.taken;
-    let dropped = w.dropped;
     Words {
-        woken: w.woken,
-        part: w.part,
-        running: w.running,
-        fresh,
-        taken,
-        dropped,
         tick: w.tick + ticks as u64,
-        low: w.low,
-        peak: w.peak,
+        ..w
     }
 }

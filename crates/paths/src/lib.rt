@@ -7,7 +7,7 @@ ghost use Rattle.theory.proofs.WellFormed.{Fielded};
 ghost use Rattle.paths.specs.Rows.{SuccessorsOf, Grown, Allowed, Closed, self_in};
 
 use model::Description;
-use sets::{below, has, union, with};
+use sets::{Set, below, has, with};
 
 // The links of a description by the node they leave: bit j - 1 of entry i - 1 for a link from node i to task j.
 pub fn successors(d: Description) -> [u64; 48]
@@ -28,7 +28,7 @@ fn grown(row: u64, low: u64, v: usize) -> u64
     requires { v < 64 }
     ensures { Grown row low v result }
 {
-    if has(row, v) { union(row, low) } else { row }
+    if has(row, v) { row.union(low) } else { row }
 }
 
 // The same for each of n tasks.

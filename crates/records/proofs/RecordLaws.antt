@@ -1,12 +1,13 @@
 -- A record and the words that hold it: marks one by one, ages, the start, and the rules. Assumes nothing.
-use Prim.Native.Nat.{ℕ, zero, suc, ◌+◌, ◌-◌, ◌*◌, ◌/◌, ◌%◌, ◌≤◌, ◌<◌, min}
-use mathlib.Core.Path.{◌≡◌, refl, sym, ap, subst, ◌∙◌}
+use Prim.Native.Nat.{ℕ, zero, suc, ◌+◌, ◌-◌, ◌/◌, ◌%◌, ◌≤◌, ◌<◌, min}
+use mathlib.Core.Path.{◌≡◌, refl, sym, ap, ◌∙◌}
 use mathlib.Core.Bool.{Bool, true, false, ◌||◌, ◌&&◌, not, cond}
 use mathlib.Core.List.{List, [], ◌∷◌}
 use mathlib.Core.Logic.{inl}
 use native.Mathlib.Omega.{arith}
 use native.Mathlib.Decide.{dec_lt}
-use lib.ListN.{get_or, length, replicate, get_or-eq_default}
+use lib.ListN.{get_or, length, replicate, take, drop, get_or-eq_default}
+use Rattle.std.proofs.lemmas.List.{get_or-take, get_or-drop}
 use lib.Seq.{ext_get_or}
 use lib.Dec.{eqb, ltb, leb}
 use borrow.Author.Tests.{eqb-true, eq-eqb, ne_eqb, leb-true, le-leb, lt-ltb, le-ltb, lt-leb, ltb-true, not-true}
@@ -18,9 +19,9 @@ use Rattle.model.specs.Basics.{all_n, any_n}
 use Rattle.model.specs.Graph.{link_at, run_of}
 use Rattle.model.specs.Verdicts.{on_knob}
 use Rattle.model.specs.Machine.{awake_at, used_at, waiting_at, dropped_at, again_at, late_at, age_at, fastest_at, longest_gap, idle, task_rule, links_rule, source_rule, again_rule, late_rule, lates_rule, rules_kept, parts_done, alone_rule}
-use Rattle.lemmas.proofs.Tests.{Cmp, less, same, more, cmp, same_test, not_both, false_of, both, and_left, and_right, and_false_left, and_false_right, or_new, or_else, or_false}
+use Rattle.lemmas.proofs.Tests.{Cmp, less, same, more, cmp, same_test, not_both, both, and_left, and_right, and_false_left, and_false_right, or_new, or_else, or_false}
 use Rattle.lemmas.proofs.Table.{get_d_tab, length-tab, is_tab, get_d_same, unset_at}
-use Rattle.lemmas.proofs.Range.{any_at, any_found, all_at, one_only}
+use Rattle.lemmas.proofs.Range.{any_at, any_found, any_more, all_at, one_only}
 use Rattle.theory.proofs.Links.{to_most}
 use Rattle.theory.proofs.WellFormed.{WellFormed}
 use Rattle.theory.proofs.Spacing.{gap_most}
@@ -31,65 +32,56 @@ use Rattle.sets.specs.Wide.{word_in, inside}
 use Rattle.sets.proofs.SetLaws.{member_none}
 use Rattle.words.specs.declared.Words.{Words}
 use Rattle.spacings.specs.Gaps.{GapsOf}
-use Rattle.wiring.specs.Rows.{RowsOf}
-use Rattle.words.specs.Words.{wide_at, awake_in, again_in, waiting_in, dropped_in, enters, late_in, Holds, holds_on, Goes, Keeps, raised_to}
+use Rattle.wiring.specs.declared.Row.{Row}
+use Rattle.wiring.specs.Rows.{row_at, RowsOf}
+use Rattle.words.specs.Words.{awake_in, again_in, waiting_in, dropped_in, enters, late_in, Holds, holds_on, Goes, Keeps, raised_to}
 use Rattle.records.specs.Record.{OnePart, TasksIn, PartIn, Into, AgesOf, SinceOf, Begins}
-use Rattle.words.proofs.WordLaws.{row_into}
-use Rattle.lemmas.proofs.Bools.{and_off, and_swap, less_more}
+use Rattle.lemmas.proofs.Bools.{and_off}
 
 -- a number that is marked
 pub on : (a b c : Bool) → b ≡ true → (a || c) ≡ (a || (b && c))
 on a b c e = rw e refl
 
--- one mark more of a word
-pub word_more : (f : ℕ → Bool) (set k set' : ℕ) → ((j : ℕ) → member set j ≡ (ltb j k && f j)) → ((j : ℕ) → member set' j ≡ (member set j || (f k && eqb j k))) → (j : ℕ) → member set' j ≡ (ltb j (k + 1) && f j)
-word_more f set k set' h e j =
-    let n : suc k ≡ k + 1 = omega arith in
-    e j ∙ rw (h j) (ap (λ b. (ltb j k && f j) || b) (and_swap (f k) (eqb j k)) ∙ sym (less_more f j k) ∙ ap (λ i. ltb j i && f j) n)
+-- no mark is numbered below the first
+pub none_numbered : (first j : ℕ) (b : Bool) → member 0 j ≡ (ltb j (first + 0) && (leb first j && b))
+none_numbered first j b = member_none j ∙ go (dec_lt j first)
+  where
+    go : Dec (j < first) → false ≡ (ltb j (first + 0) && (leb first j && b))
+    go (yes p) = sym (and_false_right (ltb j (first + 0)) _ (and_false_left (leb first j) b (lt-leb first j p)))
+    go (no p) = sym (and_false_left (ltb j (first + 0)) _ (le-ltb j (first + 0) (omega arith)))
 
-pub word_none : (f : ℕ → Bool) (j : ℕ) → member 0 j ≡ (ltb j 0 && f j)
-word_none f j = member_none j ∙ rw (le-ltb j 0 (omega arith)) refl
+-- the marks of a word, numbered from 0
+abbrev pub MarksFrom0 : ℕ → List Bool → Type 0
+MarksFrom0 w marks = (j : ℕ) → member w j ≡ (leb 0 j && get_or marks (j - 0) false)
 
 -- four words of 64 marks each
-pub links_words : (s : Wide) (marks : List Bool) → length marks ≡ 256 → ((j : ℕ) → member s.w0 j ≡ (ltb j 64 && get_or marks (0 + j) false)) → ((j : ℕ) → member s.w1 j ≡ (ltb j 64 && get_or marks (64 + j) false)) → ((j : ℕ) → member s.w2 j ≡ (ltb j 64 && get_or marks (128 + j) false)) → ((j : ℕ) → member s.w3 j ≡ (ltb j 64 && get_or marks (192 + j) false)) → (l : ℕ) → inside s l ≡ get_or marks l false
+pub links_words : (a b c d : ℕ) (marks : List Bool) → length marks ≡ 256 → MarksFrom0 a (take 64 marks) → MarksFrom0 b (take 64 (drop 64 marks)) → MarksFrom0 c (take 64 (drop 128 marks)) → MarksFrom0 d (take 64 (drop 192 marks)) → (l : ℕ) → inside (record { words = a ∷ b ∷ c ∷ d ∷ [] }) l ≡ get_or marks l false
 unfolding inside word_in
-links_words s marks z p q r t l = go (l / 64) refl
+links_words a b c d marks z p q r t l = go (l / 64) refl
   where
-    at : (w n : ℕ) → ((j : ℕ) → member w j ≡ (ltb j 64 && get_or marks (n + j) false)) → n + l % 64 ≡ l → member w (l % 64) ≡ get_or marks l false
-    at w n h e = h (l % 64) ∙ rw (lt-ltb (l % 64) 64 (omega arith)) (ap (λ i. get_or marks i false) e)
+    at : (w n : ℕ) (part : List Bool) → MarksFrom0 w part → get_or part (l % 64) false ≡ get_or marks (n + l % 64) false → n + l % 64 ≡ l → member w (l % 64) ≡ get_or marks l false
+    at w n part h e f = let o : l % 64 - 0 ≡ l % 64 = omega arith in h (l % 64) ∙ rw (le-leb 0 (l % 64) (omega arith)) (ap (λ i. get_or part i false) o ∙ e ∙ ap (λ i. get_or marks i false) f)
 
-    go : (v : ℕ) → l / 64 ≡ v → member (word_in s v) (l % 64) ≡ get_or marks l false
-    go zero e = at s.w0 0 p (omega arith)
-    go (suc zero) e = at s.w1 64 q (omega arith)
-    go (suc (suc zero)) e = at s.w2 128 r (omega arith)
-    go (suc (suc (suc zero))) e = at s.w3 192 t (omega arith)
+    half : (n : ℕ) → get_or (take 64 (drop n marks)) (l % 64) false ≡ get_or marks (n + l % 64) false
+    half n = let h : l % 64 < 64 = omega arith in get_or-take 64 (drop n marks) (l % 64) false h ∙ get_or-drop n marks (l % 64) false
+
+    go : (v : ℕ) → l / 64 ≡ v → member (word_in (record { words = a ∷ b ∷ c ∷ d ∷ [] }) v) (l % 64) ≡ get_or marks l false
+    go zero e = at a 0 (take 64 marks) p (half 0) (omega arith)
+    go (suc zero) e = at b 64 _ q (half 64) (omega arith)
+    go (suc (suc zero)) e = at c 128 _ r (half 128) (omega arith)
+    go (suc (suc (suc zero))) e = at d 192 _ t (half 192) (omega arith)
     go (suc (suc (suc (suc v)))) e = member_none (l % 64) ∙ sym (get_or-eq_default marks false {n = l} (omega arith))
 
-pub link_word : (s : Wide) (l : ℕ) → l < 256 → member (get_or (s.w0 ∷ s.w1 ∷ s.w2 ∷ s.w3 ∷ []) (l / 64) 0) (l % 64) ≡ inside s l
-unfolding inside word_in
-link_word s l h = go (l / 64) (omega arith)
-  where
-    go : (v : ℕ) → v < 4 → member (get_or (s.w0 ∷ s.w1 ∷ s.w2 ∷ s.w3 ∷ []) v 0) (l % 64) ≡ member (word_in s v) (l % 64)
-    go zero p = refl
-    go (suc zero) p = refl
-    go (suc (suc zero)) p = refl
-    go (suc (suc (suc zero))) p = refl
-    go (suc (suc (suc (suc v)))) p = absurd (omega arith)
+-- the tasks of a word that are marked, and those that are part done
+pub tasks_marked : (marks : List Bool) (r : ℕ) → ((j : ℕ) → member r j ≡ (leb 1 j && get_or marks (j - 1) false)) → TasksIn marks r
+tasks_marked marks r h = (h 0, λ k p. h k ∙ rw (le-leb 1 k p) refl)
 
--- the tasks of a word that pass a test, up to k
-pub part_more : (f : ℕ → Bool) (set k set' : ℕ) → (member set 0 ≡ false) × ((j : ℕ) → member set (suc j) ≡ (ltb j k && f j)) → ((j : ℕ) → member set' j ≡ (member set j || (f k && eqb j (k + 1)))) → (member set' 0 ≡ false) × ((j : ℕ) → member set' (suc j) ≡ (ltb j (k + 1) && f j))
-part_more f set k set' h e =
-    (e 0 ∙ rw (h.0, ne_eqb 0 (k + 1) (λ z. omega arith)) (and_off (f k)), λ j. e (suc j) ∙ rw (h.1 j, step j) (ap (λ b. (ltb j k && f j) || b) (and_swap (f k) (eqb j k)) ∙ sym (less_more f j k) ∙ ap (λ i. ltb j i && f j) next))
+pub part_marked : (used : List ℕ) (marks : List Bool) (r : ℕ) → length used ≡ 32 → length marks ≡ 32 → ((k : ℕ) → k < 32 → get_or marks k false ≡ ltb 0 (get_or used k 0)) → TasksIn marks r → PartIn used r
+part_marked used marks r z y e h = (h.0, λ k p. h.1 k p ∙ go (k - 1) (dec_lt (k - 1) 32))
   where
-    next : suc k ≡ k + 1
-    next = omega arith
-
-    step : (j : ℕ) → eqb (suc j) (k + 1) ≡ eqb j k
-    step j = go (eqb j k) refl
-      where
-        go : (b : Bool) → eqb j k ≡ b → eqb (suc j) (k + 1) ≡ eqb j k
-        go true f = eq-eqb (suc j) (k + 1) (omega (arith, eqb-true j k f)) ∙ sym f
-        go false f = false_of (eqb (suc j) (k + 1)) (λ y. not_both (eq-eqb j k (omega (arith, eqb-true (suc j) (k + 1) y))) f) ∙ sym f
+    go : (k : ℕ) → Dec (k < 32) → get_or marks k false ≡ ltb 0 (get_or used k 0)
+    go k (yes p) = e k p
+    go k (no p) = get_or-eq_default marks false {n = k} (omega arith) ∙ sym (ap (ltb 0) (get_or-eq_default used 0 {n = k} (omega arith)))
 
 -- who goes on: nobody where none is part done, and on the hold-on model the one that is
 pub going_none : (p : Policy) (used : List ℕ) (part : ℕ) → part ≡ 0 → PartIn used part → Goes p 0 used
@@ -144,25 +136,32 @@ one_part HoldOn m e h = λ j k p q u v.
     let z : 1 + j ≡ 1 + k = one_only (λ i. ltb 0 (used_at m i)) 1 32 (leb-true _ 1 e) (1 + j) (1 + k) (omega arith) (omega arith) (omega arith) (omega arith) (rw a (lt-ltb 0 (get_or m.used j 0) u)) (rw b (lt-ltb 0 (get_or m.used k 0) v)) in
     omega arith
 
--- the tasks of a word, all passed
-pub tasks_done : (f : ℕ → Bool) (set : ℕ) → ((j : ℕ) → 32 ≤ j → f j ≡ false) → (member set 0 ≡ false) × ((j : ℕ) → member set (suc j) ≡ (ltb j 32 && f j)) → (member set 0 ≡ false) × ((k : ℕ) → 1 ≤ k → member set k ≡ f (k - 1))
-tasks_done f set beyond h = (h.0, λ k p. let e : suc (k - 1) ≡ k = omega arith in subst (λ i. member set i ≡ f (k - 1)) e (h.1 (k - 1) ∙ at (k - 1) (dec_lt (k - 1) 32)))
+-- one task more of those whose links are joined
+pub into_more : (rows : List Row) (tasks k : ℕ) → k < 33 → (set set' : Wide) (b : Bool) → b ≡ member tasks k → ((l : ℕ) → inside set' l ≡ cond b (inside set l || inside (row_at (take 33 rows) k).into l) (inside set l)) → ((l : ℕ) → inside set l ≡ any_n (λ j. member tasks j && inside (row_at rows j).into l) 0 k) → (l : ℕ) → inside set' l ≡ any_n (λ j. member tasks j && inside (row_at rows j).into l) 0 (k + 1)
+into_more rows tasks k p set set' b m e h l = e l ∙ go b m ∙ ap (λ x. x || (member tasks k && inside (row_at rows k).into l)) (h l) ∙ sym (any_more (λ j. member tasks j && inside (row_at rows j).into l) k)
   where
-    at : (j : ℕ) → Dec (j < 32) → (ltb j 32 && f j) ≡ f j
-    at j (yes p) = rw (lt-ltb j 32 p) refl
-    at j (no p) = rw (le-ltb j 32 (omega arith)) (sym (beyond j (omega arith)))
+    row : row_at (take 33 rows) k ≡ row_at rows k
+    row = get_or-take 33 rows k _ p
+
+    none : (x : Bool) → x ≡ (x || false)
+    none true = refl
+    none false = refl
+
+    go : (b : Bool) → b ≡ member tasks k → cond b (inside set l || inside (row_at (take 33 rows) k).into l) (inside set l) ≡ (inside set l || (member tasks k && inside (row_at rows k).into l))
+    go true q = rw (row, sym q) refl
+    go false q = rw (sym q) (none (inside set l))
 
 -- the links into some tasks, by the description
-pub into_is : (d : Description) (rows : List ℕ) (tasks : ℕ) (r : Wide) → WellFormed d → RowsOf d d.link_count rows → Into rows tasks r → (l : ℕ) → inside r l ≡ enters d tasks l
+pub into_is : (d : Description) (rows : List Row) (tasks : ℕ) (r : Wide) → WellFormed d → RowsOf d d.link_count rows → Into rows tasks r → (l : ℕ) → inside r l ≡ enters d tasks l
 into_is d rows tasks r g w h l = h l ∙ same_test (any_n p 0 33) (enters d tasks l) to back
   where
     p : ℕ → Bool
-    p k = member tasks k && inside (wide_at rows (9 * k + 4)) l
+    p k = member tasks k && inside (row_at rows k).into l
 
     to : any_n p 0 33 ≡ true → enters d tasks l ≡ true
     to e =
         let z = any_found p 0 33 e in
-        let y : (ltb l d.link_count && eqb (link_at d l).to z.at) ≡ true = sym (row_into d rows z.at g w l) ∙ and_right (member tasks z.at) _ z.passes in
+        let y : (ltb l d.link_count && eqb (link_at d l).to z.at) ≡ true = sym (w.into z.at l) ∙ and_right (member tasks z.at) _ z.passes in
         let q : (link_at d l).to ≡ z.at = eqb-true (link_at d l).to z.at (and_right (ltb l d.link_count) _ y) in
         both (ltb l d.link_count) _ (and_left (ltb l d.link_count) _ y) (ap (member tasks) q ∙ and_left (member tasks z.at) _ z.passes)
 
@@ -171,7 +170,7 @@ into_is d rows tasks r g w h l = h l ∙ same_test (any_n p 0 33) (enters d task
         let a : ltb l d.link_count ≡ true = and_left (ltb l d.link_count) _ e in
         let i : l < d.link_count = ltb-true l d.link_count a in
         let k : ℕ = (link_at d l).to in
-        any_at p 0 33 k (omega arith) (omega (arith, (to_most d g.fields l i).1)) (both (member tasks k) _ (and_right (ltb l d.link_count) _ e) (row_into d rows k g w l ∙ both (ltb l d.link_count) _ a (eq-eqb k k refl)))
+        any_at p 0 33 k (omega arith) (omega (arith, (to_most d g.fields l i).1)) (both (member tasks k) _ (and_right (ltb l d.link_count) _ e) (w.into k l ∙ both (ltb l d.link_count) _ a (eq-eqb k k refl)))
 
 -- the record that words hold is the record of their lists
 pub record Listed (d : Description) (gaps : List ℕ) (sources : ℕ) (w : Words) (since : List ℕ) (aw wa dr : List Bool) (ages : List ℕ) (ag la : List Bool) : Type 0 where

@@ -1,5 +1,5 @@
 -- The machine's record from words of bits, and words from a record.
-use Rattle.std.specs.Prelude.{ℕ, ◌+◌, ◌-◌, ◌*◌, ◌≤◌, ◌<◌, min, Bool, true, false, ◌&&◌, List, ◌≡◌, get_or, length, ltb}
+use Rattle.std.specs.Prelude.{ℕ, ◌+◌, ◌-◌, ◌≤◌, ◌<◌, min, Bool, true, false, ◌&&◌, List, ◌≡◌, get_or, length, ltb}
 use Rattle.model.specs.declared.Description.{Description}
 use Rattle.model.specs.declared.Policy.{Policy}
 use Rattle.model.specs.declared.Machine.{Machine}
@@ -9,10 +9,11 @@ use Rattle.theory.proofs.WellFormed.{WellFormed}
 use Rattle.sets.specs.declared.wide.Wide.{Wide}
 use Rattle.sets.specs.Sets.{member}
 use Rattle.sets.specs.Wide.{inside}
-use Rattle.wiring.specs.Rows.{RowsOf}
+use Rattle.wiring.specs.declared.Row.{Row}
+use Rattle.wiring.specs.Rows.{row_at, RowsOf}
 use Rattle.words.specs.declared.Words.{Words}
 use Rattle.spacings.specs.Gaps.{GapsOf}
-use Rattle.words.specs.Words.{wide_at, Holds, Goes}
+use Rattle.words.specs.Words.{Holds, Goes}
 
 -- lists of marks, of the bits of words
 abbrev pub TasksOf : ℕ → List Bool → Type 0
@@ -26,8 +27,8 @@ abbrev pub PartIn : List ℕ → ℕ → Type 0
 PartIn used r = (member r 0 ≡ false) × ((k : ℕ) → 1 ≤ k → member r k ≡ ltb 0 (get_or used (k - 1) 0))
 
 -- the links into some tasks
-abbrev pub Into : List ℕ → ℕ → Wide → Type 0
-Into rows tasks r = (l : ℕ) → inside r l ≡ any_n (λ k. member tasks k && inside (wide_at rows (9 * k + 4)) l) 0 33
+abbrev pub Into : List Row → ℕ → Wide → Type 0
+Into rows tasks r = (l : ℕ) → inside r l ≡ any_n (λ k. member tasks k && inside (row_at rows k).into l) 0 33
 
 abbrev pub LinksOf : Wide → List Bool → Type 0
 LinksOf set r = (length r ≡ 256) × ((l : ℕ) → l < 256 → get_or r l false ≡ inside set l)
@@ -55,7 +56,7 @@ pub record Begins (w : Words) : Type 0 where
   pub knob : (w.low ≡ 0) × (w.peak ≡ 200)
 
 -- the record that words hold, the spacings being those for 20.0
-abbrev pub Unpacks : List ℕ → List ℕ → ℕ → Words → List ℕ → List ℕ → List ℕ → Machine → Type 0
+abbrev pub Unpacks : List Row → List ℕ → ℕ → Words → List ℕ → List ℕ → List ℕ → Machine → Type 0
 Unpacks rows gaps sources w used since fastest r =
     (d : Description) (m : Machine) → WellFormed d → RowsOf d d.link_count rows → d.source_count ≡ sources → GapsOf d 200 gaps → Holds d w used since m → fastest ≡ m.fastest → r ≡ m
 
@@ -64,7 +65,7 @@ abbrev pub OnePart : List ℕ → Type 0
 OnePart used = (j k : ℕ) → j < 32 → k < 32 → 0 < get_or used j 0 → 0 < get_or used k 0 → j ≡ k
 
 -- words that hold a record which keeps the rules
-pub record Packs (p : Policy) (rows : List ℕ) (m : Machine) (w : Words) (since : List ℕ) : Type 0 where
+pub record Packs (p : Policy) (rows : List Row) (m : Machine) (w : Words) (since : List ℕ) : Type 0 where
   pub holds : (d : Description) → WellFormed d → RowsOf d d.link_count rows → rules_kept d m ≡ true → Holds d w m.used since m
   pub goes : alone_rule p m ≡ true → Goes p w.running m.used
   pub first : w.tick ≡ 4294967296

@@ -1,24 +1,33 @@
 // A run of many tick calls from the start: the description is judged and tabulated once, and the record is kept as words of bits.
 #![tactic(auto)]
 
-ghost use Rattle.std.specs.Prelude.{◌≡◌};
+ghost use Rattle.std.specs.Prelude.{◌≡◌, ◌-◌, ◌≤◌, ◌<◌, get_or};
 ghost use Rattle.model.specs.declared.Outcome.TheVariants.{Done};
 ghost use Rattle.model.specs.File.{judge};
 ghost use Rattle.theory.proofs.WellFormed.{WellFormed};
 ghost use Rattle.machine.specs.Calls.{Accepted};
 ghost use Rattle.model.specs.Run.{calls_in};
-ghost use Rattle.runs.specs.Run.{RunIs, RunOf};
+ghost use Rattle.runs.specs.Run.{RoomOf, RunIs, RunOf};
 
 use arrivals::raise;
-use machine::call::{Call, advance, plan_of};
+use machine::call::{Call, advance};
 use machine::tick::refused;
 use model::{Description, Outcome, Policy, Refusal, Ticked};
-use passing::{along, code, later, mask_in, peek, reach, room, skip, tempo_in};
+use passing::{code, later, mask_in, peek, reach, room, skip, tempo_in};
 use records::{begin, since_of, unpack};
 use refusals::blank_machine;
+use sets::Set;
 use spacings::{Sources, gaps_by, sources_of};
 use steps::chosen;
 use wiring::{Wiring, wiring_of};
+
+// How many ticks a run of task h has before its last, if it has begun; else 0.
+fn room_of(w: &Wiring, h: usize, used: &[u32; 32]) -> u32
+    requires { (1 ≤ h) × (h ≤ 32) × (get_or used.now (h - 1) 0 < get_or w.now.runs (h - 1) 0) }
+    ensures { RoomOf w.now h used.now result }
+{
+    room(w.runs[h - 1], used[h - 1])
+}
 
 // The calls of a wiring from the start, six bytes each. Each call's refusal, or 0, goes to its place of the buffer; one that does
 // not hold them all is refused as too short (13). A call's head is read while the one before is worked out, so that nothing waits
@@ -38,13 +47,12 @@ pub fn run_wired(
     if outcomes.len() < n {
         return refused(Refusal::ShortPage, blank_machine());
     }
-    let sources = w.sources;
-    let plan = plan_of(&w.runs, &s.paces, sources);
     let mut words = begin();
-    let mut used = [0u32; 32];
+    let mut used = [0; 32];
     let mut since = since_of(&longest);
-    let mut fastest = [0u32; 16];
-    let mut i: usize = 0;
+    let mut fastest = [0; 16];
+    // No `for`: a turn goes past all calls that it passes.
+    let mut i = 0;
     let mut head = peek(calls, 0, n);
     while i < n {
         let ahead = peek(calls, i + 1, n);
@@ -53,22 +61,12 @@ pub fn run_wired(
             tempo: tempo_in(head),
             finish: calls[6 * i + 4] != 0,
         };
-        let done = advance(
-            p,
-            &w.rows,
-            &plan,
-            call,
-            words,
-            &mut used,
-            &mut since,
-            &mut fastest,
-        );
-        let outcome = done.outcome;
-        outcomes[i] = code(outcome);
+        let done = advance(p, &w, &s, call, words, &mut used, &mut since, &mut fastest);
+        outcomes[i] = code(done.outcome);
         let next = done.words;
-        let awake = sets::union(next.woken, next.part);
+        let awake = next.woken.union(next.part);
         if awake == 0 {
-            let to = skip(calls, i + 1, n, next.peak, &mut *outcomes);
+            let to = skip(false, calls, i + 1, n, next.peak, outcomes);
             words = later(next, to - i - 1);
             i = to;
             head = peek(calls, to, n);
@@ -81,30 +79,31 @@ pub fn run_wired(
             continue;
         }
         let h = chosen(next.running, awake);
-        let spent = used[h - 1];
-        let left = room(w.runs[h - 1], spent);
+        let left = room_of(&w, h, &used);
         if left == 0 {
             words = next;
             i += 1;
             head = ahead;
             continue;
         }
-        let to = along(
+        let end = skip(
+            true,
             calls,
             i + 1,
             reach(i + 1, left, n),
             next.peak,
-            &mut *outcomes,
+            outcomes,
         );
-        used[h - 1] = spent + (to - i - 1) as u32;
-        words = later(next, to - i - 1);
-        i = to;
-        head = peek(calls, to, n);
+        used[h - 1] += (end - i - 1) as u32;
+        words = later(next, end - i - 1);
+        i = end;
+        head = peek(calls, end, n);
     }
     raise(words.peak, &mut fastest);
-    let machine = unpack(&w.rows, &longest, sources, words, used, &since, fastest);
-    let outcome = Outcome::Done;
-    Ticked { outcome, machine }
+    Ticked {
+        outcome: Outcome::Done,
+        machine: unpack(&w.rows, &longest, w.sources, words, used, &since, fastest),
+    }
 }
 
 // The same of a description that is judged as done.
@@ -113,6 +112,6 @@ pub fn run_judged(p: Policy, d: Description, calls: &[u8], outcomes: &mut [u8]) 
     ensures { RunOf p d (calls_in calls.now) outcomes.old outcomes.new result }
 {
     let s = sources_of(d);
-    let longest = gaps_by(&s.paces, s.count, 200);
+    let longest = gaps_by(&s, 200);
     run_wired(p, wiring_of(d), s, longest, calls, outcomes)
 }

@@ -1,108 +1,22 @@
 -- Laws of sets as bits. Assumes nothing.
 use Prim.Native.Nat.{ℕ, zero, suc, ◌+◌, ◌-◌, ◌*◌, ◌/◌, ◌%◌, ◌^◌, ◌≤◌, ◌<◌, max, min}
 use mathlib.Core.Path.{◌≡◌, refl, sym, ap, ◌∙◌}
-use mathlib.Core.Bool.{true, false, ◌||◌, ◌&&◌, not}
+use mathlib.Core.Bool.{Bool, true, false, ◌||◌, ◌&&◌, not}
 use native.Mathlib.Omega.{arith}
-use native.Mathlib.Nat.{div-eq_of_lt, div-eq_of_lt-le, div-one, pow-suc, mod-lt, lt_of_lt_of_le}
+use native.Mathlib.Nat.{div-eq_of_lt, div-eq_of_lt-le, div-one, pow-suc}
 use native.Mathlib.Decide.{dec_lt}
 use lib.Dec.{eqb, ltb}
-use lib.Bits.{bit_or, bit_and, bit_xor, differ, or_step, or_shr, and_step, and_shr, and_self, xor_step, xor_shr, and_mask, shifted_even}
-use lib.Pow.{pow_pos, pow_mono, pow-lt, pow-add, shl-shr, shl_exact, shr-shr, field, mod-mod-pow}
-use lib.Count.{count_trailing_zeros, count_leading_zeros, under, leading_top}
-use borrow.Author.Tests.{eq-eqb, eqb-true, lt-ltb, le-ltb, ltb-true}
-use Rattle.lemmas.proofs.Tests.{Cmp, less, same, more, cmp, not_both, false_of, same_test, and_false_right}
+use lib.Bits.{bit_or, bit_and, and_step, and_self}
+use lib.Pow.{pow_pos, pow_mono, shl_exact, shr-shr}
+use lib.Count.{count_leading_zeros, leading_top}
+use borrow.Author.Tests.{eq-eqb, eqb-true, eqb-false, lt-ltb, le-ltb, ltb-true}
+use Rattle.lemmas.proofs.Tests.{not_both, same_test, and_false_right}
+use Rattle.std.specs.Int.{bit_at}
+use Rattle.std.specs.Int.Width.{w64}
+use Rattle.std.proofs.lemmas.Nat.{and_le_l}
+use Rattle.std.proofs.lemmas.Nat.Bits.{bit_at_and, bit_at_or, bit_at_not, bit_at_ones, bit_at-pow_same, bit_at-pow_other, bit_at-lt}
 use Rattle.sets.specs.Sets.{member}
 use Rattle.lemmas.proofs.Bools.{and_on}
-
-odd_of : (z b m : ℕ) → z ≡ b * 2 + m → m < 2 → z % 2 ≡ m
-odd_of z b m e p = omega arith
-
-bit_or_lem : (p q : ℕ) → p < 2 → q < 2 → eqb (max p q) 1 ≡ (eqb p 1 || eqb q 1)
-bit_or_lem zero zero h k = refl
-bit_or_lem zero (suc zero) h k = refl
-bit_or_lem (suc zero) zero h k = refl
-bit_or_lem (suc zero) (suc zero) h k = refl
-bit_or_lem (suc (suc p)) q h k = absurd (omega arith)
-bit_or_lem zero (suc (suc q)) h k = absurd (omega arith)
-bit_or_lem (suc zero) (suc (suc q)) h k = absurd (omega arith)
-
-pub member_or : (a b k : ℕ) → member (bit_or a b) k ≡ (member a k || member b k)
-unfolding member
-member_or a b k =
-    let x = a / 2 ^ k in
-    let y = b / 2 ^ k in
-    ap (λ z. eqb (z % 2) 1) (or_shr a b k)
-    ∙ ap (λ z. eqb z 1) (odd_of (bit_or x y) (bit_or (x / 2) (y / 2)) (max (x % 2) (y % 2)) (or_step x y) (omega arith))
-    ∙ bit_or_lem (x % 2) (y % 2) (omega arith) (omega arith)
-
-one_here : (k : ℕ) → member (1 * 2 ^ k) k ≡ true
-unfolding member
-one_here k = ap (λ z. eqb (z % 2) 1) (shl-shr 1 k)
-
-one_above : (k j : ℕ) → k < j → member (1 * 2 ^ k) j ≡ false
-unfolding member
-one_above k j p =
-    let small : 1 * 2 ^ k < 2 ^ j = omega (arith, pow-lt p) in
-    ap (λ z. eqb (z % 2) 1) (div-eq_of_lt small)
-
-shifted : (i j : ℕ) → 1 * 2 ^ (suc i + j) / 2 ^ j ≡ 1 * 2 ^ suc i
-shifted i j = ap (λ z. z / 2 ^ j) (omega (arith, pow-add 2 (suc i) j)) ∙ shl-shr (1 * 2 ^ suc i) j
-
-one_below : (k j i : ℕ) → k ≡ suc i + j → member (1 * 2 ^ k) j ≡ false
-unfolding member
-one_below k j i e = ap (λ k. eqb (1 * 2 ^ k / 2 ^ j % 2) 1) e ∙ ap (λ z. eqb (z % 2) 1) (shifted i j) ∙ ap (λ z. eqb z 1) (shifted_even 1 i)
-
--- the set of k alone
-pub member_one : (k j : ℕ) → member (1 * 2 ^ k) j ≡ eqb j k
-member_one k j = go (cmp j k)
-  where
-    go : Cmp j k → member (1 * 2 ^ k) j ≡ eqb j k
-    go (less p) = one_below k j (k - suc j) (omega arith) ∙ sym (false_of (eqb j k) (λ e. omega (arith, eqb-true j k e)))
-    go (same e) = ap (λ j. member (1 * 2 ^ k) j) e ∙ one_here k ∙ sym (eq-eqb j k e)
-    go (more p) = one_above k j p ∙ sym (false_of (eqb j k) (λ e. omega (arith, eqb-true j k e)))
-
--- the set with k besides
-pub member_with : (set k j : ℕ) → k < 64 → member (bit_or set (1 * 2 ^ k % 18446744073709551616)) j ≡ (member set j || eqb j k)
-member_with set k j p =
-    ap (λ z. member (bit_or set z) j) (shl_exact 1 k 64 (omega arith) (omega arith))
-    ∙ member_or set (1 * 2 ^ k) j
-    ∙ ap (λ b. member set j || b) (member_one k j)
-
-mod_odd : (y i : ℕ) → y % 2 ^ suc i % 2 ≡ y % 2
-mod_odd y i = let e : suc i ≡ i + 1 = omega arith in ap (λ z. y % 2 ^ z % 2) e ∙ mod-mod-pow y i 1
-
--- bits below k stay, the others go
-low_bit : (set i j : ℕ) → member (set % 2 ^ (suc i + j)) j ≡ member set j
-unfolding member
-low_bit set i j = ap (λ z. eqb (z % 2) 1) (field set (suc i) j) ∙ ap (λ z. eqb z 1) (mod_odd (set / 2 ^ j) i)
-
-high_bit : (set k j : ℕ) → k ≤ j → member (set % 2 ^ k) j ≡ false
-unfolding member
-high_bit set k j p =
-    let small : set % 2 ^ k < 2 ^ j = lt_of_lt_of_le (mod-lt set (pow_pos k)) (pow_mono p) in
-    ap (λ z. eqb (z % 2) 1) (div-eq_of_lt small)
-
-member_mod : (set k j : ℕ) → member (set % 2 ^ k) j ≡ (member set j && ltb j k)
-member_mod set k j = go (dec_lt j k)
-  where
-    go : Dec (j < k) → member (set % 2 ^ k) j ≡ (member set j && ltb j k)
-    go (yes p) =
-        let e : k ≡ suc (k - suc j) + j = omega arith in
-        ap (λ z. member (set % 2 ^ z) j) e ∙ low_bit set (k - suc j) j ∙ sym (and_on (member set j) (ltb j k) (lt-ltb j k p))
-    go (no p) = high_bit set k j (omega arith) ∙ sym (and_false_right (member set j) (ltb j k) (le-ltb j k (omega arith)))
-
-pub member_below : (set k j : ℕ) → k < 64 → member (bit_and set (1 * 2 ^ k % 18446744073709551616 - 1)) j ≡ (member set j && ltb j k)
-member_below set k j p =
-    let e : 1 * 2 ^ k ≡ 2 ^ k = omega arith in
-    ap (λ z. member (bit_and set (z - 1)) j) (shl_exact 1 k 64 (omega arith) (omega arith) ∙ e)
-    ∙ ap (λ z. member z j) (and_mask set k)
-    ∙ member_mod set k j
-
--- a word that a shift makes is above 0
-pub one_pos : (k : ℕ) → k < 64 → 1 ≤ 1 * 2 ^ k % 18446744073709551616
-one_pos k p =
-    let e : 1 * 2 ^ k % 18446744073709551616 ≡ 1 * 2 ^ k = shl_exact 1 k 64 (omega arith) (omega arith) in
-    omega (arith, pow_pos k)
 
 -- nothing is in the set of no bits
 pub member_none : (k : ℕ) → member 0 k ≡ false
@@ -118,6 +32,71 @@ pub member_past : (s n k : ℕ) → s < 2 ^ n → n ≤ k → member s k ≡ fal
 unfolding member
 member_past s n k p q = let small : s < 2 ^ k = omega (arith, pow_mono q) in ap (λ z. eqb (z % 2) 1) (div-eq_of_lt small)
 
+-- what holds of two bits holds of whether they are 1
+or_bits : (p q : ℕ) → p < 2 → q < 2 → eqb (max p q) 1 ≡ (eqb p 1 || eqb q 1)
+or_bits zero zero h k = refl
+or_bits zero (suc zero) h k = refl
+or_bits (suc zero) zero h k = refl
+or_bits (suc zero) (suc zero) h k = refl
+or_bits (suc (suc p)) q h k = absurd (omega arith)
+or_bits zero (suc (suc q)) h k = absurd (omega arith)
+or_bits (suc zero) (suc (suc q)) h k = absurd (omega arith)
+
+pub member_or : (a b k : ℕ) → member (bit_or a b) k ≡ (member a k || member b k)
+unfolding member
+member_or a b k = ap (λ z. eqb z 1) (bit_at_or a b k) ∙ or_bits (bit_at a k) (bit_at b k) (bit_at-lt a k) (bit_at-lt b k)
+
+and_bits : (p q : ℕ) → p < 2 → q < 2 → eqb (min p q) 1 ≡ (eqb p 1 && eqb q 1)
+and_bits zero zero h k = refl
+and_bits zero (suc zero) h k = refl
+and_bits (suc zero) zero h k = refl
+and_bits (suc zero) (suc zero) h k = refl
+and_bits (suc (suc p)) q h k = absurd (omega arith)
+and_bits zero (suc (suc q)) h k = absurd (omega arith)
+and_bits (suc zero) (suc (suc q)) h k = absurd (omega arith)
+
+pub member_and : (a b k : ℕ) → member (bit_and a b) k ≡ (member a k && member b k)
+unfolding member
+member_and a b k = ap (λ z. eqb z 1) (bit_at_and a b k) ∙ and_bits (bit_at a k) (bit_at b k) (bit_at-lt a k) (bit_at-lt b k)
+
+-- the set of k alone
+pub member_one : (k j : ℕ) → member (1 * 2 ^ k) j ≡ eqb j k
+unfolding member
+member_one k j = let e : 1 * 2 ^ k ≡ 2 ^ k = omega arith in ap (λ s. eqb (bit_at s j) 1) e ∙ go (eqb j k) refl
+  where
+    go : (b : Bool) → eqb j k ≡ b → eqb (bit_at (2 ^ k) j) 1 ≡ eqb j k
+    go true q = ap (λ i. eqb (bit_at (2 ^ k) i) 1) (eqb-true j k q) ∙ ap (λ z. eqb z 1) (bit_at-pow_same k) ∙ sym q
+    go false q = ap (λ z. eqb z 1) (bit_at-pow_other k j (eqb-false j k q)) ∙ sym q
+
+-- the set with k besides
+pub member_with : (set k j : ℕ) → k < 64 → member (bit_or set (1 * 2 ^ k % 18446744073709551616)) j ≡ (member set j || eqb j k)
+member_with set k j p =
+    ap (λ z. member (bit_or set z) j) (shl_exact 1 k 64 (omega arith) (omega arith))
+    ∙ member_or set (1 * 2 ^ k) j
+    ∙ ap (λ b. member set j || b) (member_one k j)
+
+-- bits below k stay, the others go
+member_ones : (k j : ℕ) → member (2 ^ k - 1) j ≡ ltb j k
+unfolding member
+member_ones k j = go (dec_lt j k)
+  where
+    go : Dec (j < k) → member (2 ^ k - 1) j ≡ ltb j k
+    go (yes p) = ap (λ z. eqb z 1) (bit_at_ones k j p) ∙ sym (lt-ltb j k p)
+    go (no p) = member_past (2 ^ k - 1) k j (omega (arith, pow_pos k)) (omega arith) ∙ sym (le-ltb j k (omega arith))
+
+pub member_below : (set k j : ℕ) → k < 64 → member (bit_and set (1 * 2 ^ k % 18446744073709551616 - 1)) j ≡ (member set j && ltb j k)
+member_below set k j p =
+    let e : 1 * 2 ^ k ≡ 2 ^ k = omega arith in
+    ap (λ z. member (bit_and set (z - 1)) j) (shl_exact 1 k 64 (omega arith) (omega arith) ∙ e)
+    ∙ member_and set (2 ^ k - 1) j
+    ∙ ap (λ b. member set j && b) (member_ones k j)
+
+-- a word that a shift makes is above 0
+pub one_pos : (k : ℕ) → k < 64 → 1 ≤ 1 * 2 ^ k % 18446744073709551616
+one_pos k p =
+    let e : 1 * 2 ^ k % 18446744073709551616 ≡ 1 * 2 ^ k = shl_exact 1 k 64 (omega arith) (omega arith) in
+    omega (arith, pow_pos k)
+
 -- the number 0, and the numbers above it
 member_zero : (s : ℕ) → member s 0 ≡ eqb (s % 2) 1
 unfolding member
@@ -126,66 +105,30 @@ member_zero s = ap (λ z. eqb (z % 2) 1) (div-one s)
 member_half : (s k : ℕ) → member s (suc k) ≡ member (s / 2) k
 member_half s k = let e : suc k ≡ 1 + k = omega arith in ap (λ i. member s i) e ∙ sym (member_shift s 1 k)
 
--- zeros below the lowest bit
-pub first_none : (n s k : ℕ) → k < count_trailing_zeros n s → member s k ≡ false
-unfolding count_trailing_zeros
-first_none zero s k p = absurd (omega arith)
-first_none (suc n) s k p = go (s % 2) refl k p (first_none n (s / 2))
-  where
-    go : (b : ℕ) → s % 2 ≡ b → (k : ℕ) → k < under b (count_trailing_zeros n (s / 2)) → ((k : ℕ) → k < count_trailing_zeros n (s / 2) → member (s / 2) k ≡ false) → member s k ≡ false
-    go zero e zero p ih = member_zero s ∙ ap (λ z. eqb z 1) e
-    go zero e (suc k) p ih = member_half s k ∙ ih k (omega arith)
-    go (suc b) e k p ih = absurd (omega arith)
-
-pub first_some : (n s : ℕ) → 0 < s → s < 2 ^ n → (count_trailing_zeros n s < n) × (member s (count_trailing_zeros n s) ≡ true)
-unfolding count_trailing_zeros
-first_some zero s p q = absurd (omega arith)
-first_some (suc n) s p q = go (s % 2) refl (first_some n (s / 2))
-  where
-    go : (b : ℕ) → s % 2 ≡ b → (0 < s / 2 → s / 2 < 2 ^ n → (count_trailing_zeros n (s / 2) < n) × (member (s / 2) (count_trailing_zeros n (s / 2)) ≡ true)) → (under b (count_trailing_zeros n (s / 2)) < suc n) × (member s (under b (count_trailing_zeros n (s / 2))) ≡ true)
-    go zero e ih = let x = ih (omega arith) (omega (arith, pow-suc 2 n)) in (omega (arith, x.0), member_half s (count_trailing_zeros n (s / 2)) ∙ x.1)
-    go (suc b) e ih = (omega arith, member_zero s ∙ eq-eqb (s % 2) 1 (omega arith))
-
--- the members that both have
-bit_and_lem : (p q : ℕ) → p < 2 → q < 2 → (min p q < 2) × (eqb (min p q) 1 ≡ (eqb p 1 && eqb q 1))
-bit_and_lem zero zero h k = (omega arith, refl)
-bit_and_lem zero (suc zero) h k = (omega arith, refl)
-bit_and_lem (suc zero) zero h k = (omega arith, refl)
-bit_and_lem (suc zero) (suc zero) h k = (omega arith, refl)
-bit_and_lem (suc (suc p)) q h k = absurd (omega arith)
-bit_and_lem zero (suc (suc q)) h k = absurd (omega arith)
-bit_and_lem (suc zero) (suc (suc q)) h k = absurd (omega arith)
-
-pub member_and : (a b k : ℕ) → member (bit_and a b) k ≡ (member a k && member b k)
-unfolding member
-member_and a b k =
-    let x = a / 2 ^ k in
-    let y = b / 2 ^ k in
-    let w = bit_and_lem (x % 2) (y % 2) (omega arith) (omega arith) in
-    ap (λ z. eqb (z % 2) 1) (and_shr a b k)
-    ∙ ap (λ z. eqb z 1) (odd_of (bit_and x y) (bit_and (x / 2) (y / 2)) (min (x % 2) (y % 2)) (and_step x y) w.0)
-    ∙ w.1
-
 -- the members of a that b does not have
-bit_less : (p q : ℕ) → p < 2 → q < 2 → (differ p (min p q) < 2) × (eqb (differ p (min p q)) 1 ≡ (eqb p 1 && not (eqb q 1)))
-bit_less zero zero h k = (omega arith, refl)
-bit_less zero (suc zero) h k = (omega arith, refl)
-bit_less (suc zero) zero h k = (omega arith, refl)
-bit_less (suc zero) (suc zero) h k = (omega arith, refl)
-bit_less (suc (suc p)) q h k = absurd (omega arith)
-bit_less zero (suc (suc q)) h k = absurd (omega arith)
-bit_less (suc zero) (suc (suc q)) h k = absurd (omega arith)
+less_lem : (p q : ℕ) → p < 2 → q < 2 → eqb (min p (1 - q)) 1 ≡ (eqb p 1 && not (eqb q 1))
+less_lem zero zero h k = refl
+less_lem zero (suc zero) h k = refl
+less_lem (suc zero) zero h k = refl
+less_lem (suc zero) (suc zero) h k = refl
+less_lem (suc (suc p)) q h k = absurd (omega arith)
+less_lem zero (suc (suc q)) h k = absurd (omega arith)
+less_lem (suc zero) (suc (suc q)) h k = absurd (omega arith)
 
-pub member_less : (a b k : ℕ) → member (bit_xor a (bit_and a b)) k ≡ (member a k && not (member b k))
+pub member_less : (a b k : ℕ) → a < 2 ^ 64 → b < 2 ^ 64 → member (bit_and a (2 ^ 64 - 1 - b)) k ≡ (member a k && not (member b k))
 unfolding member
-member_less a b k =
-    let x = a / 2 ^ k in
-    let y = b / 2 ^ k in
-    let w = bit_less (x % 2) (y % 2) (omega arith) (omega arith) in
-    let n : bit_and x y % 2 ≡ min (x % 2) (y % 2) = odd_of (bit_and x y) (bit_and (x / 2) (y / 2)) (min (x % 2) (y % 2)) (and_step x y) (bit_and_lem (x % 2) (y % 2) (omega arith) (omega arith)).0 in
-    ap (λ z. eqb (z % 2) 1) (xor_shr a (bit_and a b) k ∙ ap (bit_xor x) (and_shr a b k))
-    ∙ ap (λ z. eqb z 1) (odd_of (bit_xor x (bit_and x y)) (bit_xor (x / 2) (bit_and x y / 2)) (differ (x % 2) (min (x % 2) (y % 2))) (xor_step x (bit_and x y) ∙ ap (λ z. bit_xor (x / 2) (bit_and x y / 2) * 2 + differ (x % 2) z) n) w.0)
-    ∙ w.1
+member_less a b k p q = go (dec_lt k 64)
+  where
+    small : bit_and a (2 ^ 64 - 1 - b) < 2 ^ 64
+    small = omega (arith, and_le_l a (2 ^ 64 - 1 - b))
+
+    go : Dec (k < 64) → member (bit_and a (2 ^ 64 - 1 - b)) k ≡ (member a k && not (member b k))
+    go (yes h) =
+        ap (λ z. eqb z 1) (bit_at_and a (2 ^ 64 - 1 - b) k ∙ ap (min (bit_at a k)) (bit_at_not w64 b k q h))
+        ∙ less_lem (bit_at a k) (bit_at b k) (bit_at-lt a k) (bit_at-lt b k)
+    go (no h) =
+        member_past (bit_and a (2 ^ 64 - 1 - b)) 64 k small (omega arith)
+        ∙ ap (λ x. x && not (member b k)) (sym (member_past a 64 k p (omega arith)))
 
 -- the set of k alone, as a shift makes it
 pub member_alone : (k j : ℕ) → k < 64 → member (1 * 2 ^ k % 18446744073709551616) j ≡ eqb j k

@@ -1,10 +1,51 @@
 // Sets of numbers below 64, as the bits of a word.
 #![tactic(auto)]
 
-ghost use Rattle.std.specs.Prelude.{◌≡◌, ◌||◌, ◌&&◌, not, ℕ, ◌<◌, eqb, ltb};
+ghost use Rattle.std.specs.Prelude.{◌≡◌, Bool, false, ◌||◌, ◌&&◌, not, ℕ, ◌<◌, eqb, ltb};
 ghost use Rattle.sets.specs.Sets.{member, FirstIn, LastIn, RestOf};
 
 pub mod wide;
+
+// What sets of every size have in common. Whether a number is in one is `holds`.
+pub trait Set: Copy {
+    ghost holds: { Self → ℕ → Bool };
+
+    // The empty set.
+    fn none() -> Self
+        ensures { (j : ℕ) → holds result j ≡ false };
+
+    // The members of both sets together.
+    fn union(self, other: Self) -> Self
+        ensures { (j : ℕ) → holds result j ≡ (holds self j || holds other j) };
+
+    // The members that both sets have.
+    fn both(self, other: Self) -> Self
+        ensures { (j : ℕ) → holds result j ≡ (holds self j && holds other j) };
+
+    // The members that the other set does not have.
+    fn without(self, other: Self) -> Self
+        ensures { (j : ℕ) → holds result j ≡ (holds self j && not (holds other j)) };
+}
+
+impl Set for u64 {
+    ghost holds = { member };
+
+    fn none() -> Self {
+        0
+    }
+
+    fn union(self, other: Self) -> Self {
+        self | other
+    }
+
+    fn both(self, other: Self) -> Self {
+        self & other
+    }
+
+    fn without(self, other: Self) -> Self {
+        self & !other
+    }
+}
 
 // Whether k is in the set.
 pub fn has(set: u64, k: usize) -> bool
@@ -20,27 +61,6 @@ pub fn with(set: u64, k: usize) -> u64
     ensures { (j : ℕ) → member result j ≡ (member set j || eqb j k) }
 {
     set | (1 << k)
-}
-
-// The members of both sets together.
-pub fn union(a: u64, b: u64) -> u64
-    ensures { (j : ℕ) → member result j ≡ (member a j || member b j) }
-{
-    a | b
-}
-
-// The members that both sets have.
-pub fn both(a: u64, b: u64) -> u64
-    ensures { (j : ℕ) → member result j ≡ (member a j && member b j) }
-{
-    a & b
-}
-
-// The members of a that are not in b.
-pub fn without(a: u64, b: u64) -> u64
-    ensures { (j : ℕ) → member result j ≡ (member a j && not (member b j)) }
-{
-    a ^ (a & b)
 }
 
 // The set of k alone.
@@ -64,7 +84,7 @@ pub fn first(set: u64) -> usize
     requires { 0 < set }
     ensures { FirstIn set result }
 {
-    u64::trailing_zeros(set) as usize
+    set.trailing_zeros() as usize
 }
 
 // The members but the least, of a set that has one.
@@ -80,5 +100,5 @@ pub fn last(set: u64) -> usize
     requires { 0 < set }
     ensures { LastIn set result }
 {
-    63 - u64::leading_zeros(set) as usize
+    63 - set.leading_zeros() as usize
 }

@@ -1,60 +1,62 @@
 // Sets of numbers below 256, as the bits of four words.
 
-ghost use Rattle.std.specs.Prelude.{◌≡◌, false, ◌||◌, ◌&&◌, not, ℕ};
+ghost use Rattle.std.specs.Prelude.{◌≡◌, ◌||◌, ℕ, ◌<◌, eqb};
 ghost use Rattle.sets.specs.Wide.{inside};
+
+use crate::Set;
 
 #[derive(Clone, Copy)]
 pub struct Wide {
-    pub w0: u64,
-    pub w1: u64,
-    pub w2: u64,
-    pub w3: u64,
+    pub words: [u64; 4],
 }
 
-// The empty set.
-pub fn none() -> Wide
-    ensures { (l : ℕ) → inside result l ≡ false }
-{
-    Wide {
-        w0: 0,
-        w1: 0,
-        w2: 0,
-        w3: 0,
+impl Wide {
+    // Whether l is in the set.
+    pub fn has(self, l: usize) -> bool
+        requires { l < 256 }
+        ensures { result ≡ inside self l }
+    {
+        crate::has(self.words[l / 64], l % 64)
+    }
+
+    // The set with l besides.
+    pub fn with(mut self, l: usize) -> Wide
+        requires { l < 256 }
+        ensures { (j : ℕ) → inside result j ≡ (inside self j || eqb j l) }
+    {
+        self.words[l / 64] = crate::with(self.words[l / 64], l % 64);
+        self
     }
 }
 
-// The members of both sets together.
-pub fn union(x: Wide, y: Wide) -> Wide
-    ensures { (l : ℕ) → inside result l ≡ (inside x l || inside y l) }
-{
-    Wide {
-        w0: crate::union(x.w0, y.w0),
-        w1: crate::union(x.w1, y.w1),
-        w2: crate::union(x.w2, y.w2),
-        w3: crate::union(x.w3, y.w3),
-    }
-}
+impl Set for Wide {
+    ghost holds = { inside };
 
-// The members that both sets have.
-pub fn both(x: Wide, y: Wide) -> Wide
-    ensures { (l : ℕ) → inside result l ≡ (inside x l && inside y l) }
-{
-    Wide {
-        w0: crate::both(x.w0, y.w0),
-        w1: crate::both(x.w1, y.w1),
-        w2: crate::both(x.w2, y.w2),
-        w3: crate::both(x.w3, y.w3),
+    fn none() -> Self {
+        Wide { words: [0; 4] }
     }
-}
 
-// The members of x that are not in y.
-pub fn without(x: Wide, y: Wide) -> Wide
-    ensures { (l : ℕ) → inside result l ≡ (inside x l && not (inside y l)) }
-{
-    Wide {
-        w0: crate::without(x.w0, y.w0),
-        w1: crate::without(x.w1, y.w1),
-        w2: crate::without(x.w2, y.w2),
-        w3: crate::without(x.w3, y.w3),
+    fn union(self, other: Self) -> Self {
+        let [a, b, c, d] = self.words;
+        let [e, f, g, h] = other.words;
+        Wide {
+            words: [a.union(e), b.union(f), c.union(g), d.union(h)],
+        }
+    }
+
+    fn both(self, other: Self) -> Self {
+        let [a, b, c, d] = self.words;
+        let [e, f, g, h] = other.words;
+        Wide {
+            words: [a.both(e), b.both(f), c.both(g), d.both(h)],
+        }
+    }
+
+    fn without(self, other: Self) -> Self {
+        let [a, b, c, d] = self.words;
+        let [e, f, g, h] = other.words;
+        Wide {
+            words: [a.without(e), b.without(f), c.without(g), d.without(h)],
+        }
     }
 }

@@ -1,5 +1,5 @@
 -- Words of bits and the marks they hold: what the end of a run, its beginning and a change of another part do to them. Assumes nothing.
-use Prim.Native.Nat.{ℕ, zero, suc, ◌+◌, ◌-◌, ◌*◌, ◌≤◌, ◌<◌}
+use Prim.Native.Nat.{ℕ, zero, suc, ◌-◌, ◌≤◌, ◌<◌}
 use mathlib.Core.Path.{◌≡◌, refl, sym, ap, ◌∙◌}
 use mathlib.Core.Bool.{Bool, true, false, ◌||◌, ◌&&◌, not, cond}
 use mathlib.Core.List.{List}
@@ -19,10 +19,10 @@ use Rattle.assurance.proofs.Ending.{highest_above, highest_awake, Cleared, clear
 use Rattle.sets.specs.declared.wide.Wide.{Wide}
 use Rattle.sets.specs.Sets.{member, LastIn}
 use Rattle.sets.specs.Wide.{inside}
-use Rattle.wiring.specs.Rows.{RowsOf}
+use Rattle.wiring.specs.declared.Row.{Row}
+use Rattle.wiring.specs.Rows.{row_at, RowsOf}
 use Rattle.words.specs.declared.Words.{Words}
-use Rattle.words.specs.Words.{wide_at, awake_in, enters, Marks}
-use Rattle.words.proofs.WordLaws.{row_into}
+use Rattle.words.specs.Words.{awake_in, enters, Marks}
 use Rattle.steps.specs.Steps.{ended}
 
 -- the run of task h is over: each part of the record that it leaves
@@ -167,13 +167,16 @@ begun_dropped false true false false g = refl
 begun_dropped false false t x g = refl
 
 -- task h, the links into it, and the words before and after
-module _ (d : Description) (rows : List ℕ) (h : ℕ) (w w' : Words) (alone : ℕ) (into : Wide) (o : into ≡ wide_at rows (9 * h + 4)) (only : (k : ℕ) → member alone k ≡ eqb k h) (m : Machine) (g : WellFormed d) (r : RowsOf d d.link_count rows) (p : 1 ≤ h) (q : h ≤ 32) (H : Marks d w m) where
+module _ (d : Description) (rows : List Row) (h : ℕ) (w w' : Words) (alone : ℕ) (only : (k : ℕ) → member alone k ≡ eqb k h) (m : Machine) (g : WellFormed d) (r : RowsOf d d.link_count rows) (p : 1 ≤ h) (q : h ≤ 32) (H : Marks d w m) where
+  abbrev into : Wide
+  into = (row_at rows h).into
+
   -- the link at place l enters h
   abbrev own : ℕ → Bool
   own l = ltb l d.link_count && eqb (link_at d l).to h
 
   into_is : (l : ℕ) → inside into l ≡ own l
-  into_is l = ap (λ i. inside i l) o ∙ row_into d rows h g r l
+  into_is l = r.into h l
 
   -- by whether its task is part done
   own_enters : (b : Bool) → member w.part h ≡ b → (l : ℕ) → own l ≡ true → enters d w.part l ≡ b

@@ -80,7 +80,7 @@ ended_any : (d : Description) (h more : ℕ) (m : Machine) → ended d h (set_us
 ended_any d h more m = ap (λ (us : List ℕ). clear_into d h (record { awake = set m.awake (h - 1) (again_at m h); used = us; waiting = m.waiting; dropped = m.dropped; ages = m.ages; fastest = m.fastest; again = set m.again (h - 1) false; late = m.late })) (set_twice m.used (h - 1) more 0)
 
 -- h is the task that runs, which had used so much before
-module _ (pol : Policy) (d : Description) (w : Words) (used since plan : List ℕ) (finish : Bool) (m : Machine) (g : WellFormed d) (s : RunsIn d plan) (going : 0 < w.running → awake_in w w.running ≡ true) (r : Goes pol w.running used) (H : Holds d w used since m) (awake : ℕ) (set_is : (k : ℕ) → member awake k ≡ awake_in w k) (h : ℕ) (l : Chosen w.running awake h) (p : 1 ≤ h) (q : h ≤ 32) where
+module _ (pol : Policy) (d : Description) (w : Words) (used since runs : List ℕ) (finish : Bool) (m : Machine) (g : WellFormed d) (s : RunsIn d runs) (going : 0 < w.running → awake_in w w.running ≡ true) (r : Goes pol w.running used) (H : Holds d w used since m) (awake : ℕ) (set_is : (k : ℕ) → member awake k ≡ awake_in w k) (h : ℕ) (l : Chosen w.running awake h) (p : 1 ≤ h) (q : h ≤ 32) where
   abbrev spent : ℕ
   spent = get_or used (h - 1) 0
 
@@ -102,18 +102,18 @@ module _ (pol : Policy) (d : Description) (w : Words) (used since plan : List �
   work_is : worked pol d finish m ≡ end_run d h finish (set_used h more m)
   work_is = ap (λ k. end_run d k finish (run_task k m)) (choose_is pol d w used since m g r H going awake h set_is l) ∙ ap (end_run d h finish) ran_is
 
-  run_is : get_or plan (h - 1) 0 ≡ run_of d h
+  run_is : get_or runs (h - 1) 0 ≡ run_of d h
   run_is = s (h - 1) (omega arith)
 
-  test_is : (eqb more (get_or plan (h - 1) 0) || finish) ≡ (eqb (used_at (set_used h more m) h) (run_of d h) || finish)
+  test_is : (eqb more (get_or runs (h - 1) 0) || finish) ≡ (eqb (used_at (set_used h more m) h) (run_of d h) || finish)
   test_is = rw (run_is, get_or-set_same m.used (h - 1) more 0 (omega (arith, H.marks.sized.useds))) refl
 
   -- a run of one tick at the most has used nothing, and ends
-  pub single_spent : get_or plan (h - 1) 0 ≡ 1 → spent ≡ 0
+  pub single_spent : get_or runs (h - 1) 0 ≡ 1 → spent ≡ 0
   single_spent e = omega (arith, H.below h p here, spent_is, run_is)
 
-  pub single_ends : get_or plan (h - 1) 0 ≡ 1 → (eqb more (get_or plan (h - 1) 0) || finish) ≡ true
-  single_ends e = or_left (eqb more (get_or plan (h - 1) 0)) finish (eq-eqb more (get_or plan (h - 1) 0) (omega (arith, single_spent e)))
+  pub single_ends : get_or runs (h - 1) 0 ≡ 1 → (eqb more (get_or runs (h - 1) 0) || finish) ≡ true
+  single_ends e = or_left (eqb more (get_or runs (h - 1) 0)) finish (eq-eqb more (get_or runs (h - 1) 0) (omega (arith, single_spent e)))
 
   below_else : (us : List ℕ) (x : ℕ) → us ≡ set m.used (h - 1) x → x < run_of d h → (k : ℕ) → 1 ≤ k → k ≤ d.task_count → get_or us (k - 1) 0 < run_of d k
   below_else us x e b k o t = rw (e, get_d_task m.used h x 0 k o p (omega (arith, H.marks.sized.useds))) (by (eqb k h) refl)
@@ -123,9 +123,9 @@ module _ (pol : Policy) (d : Description) (w : Words) (used since plan : List �
       by false f = rw f (H.below k o t)
 
   -- it goes on
-  pub work_on : (w' : Words) → Marks d w' (set_used h more m) → w'.tick ≡ w.tick → (eqb more (get_or plan (h - 1) 0) || finish) ≡ false → Holds d w' (set used (h - 1) more) since (worked pol d finish m)
+  pub work_on : (w' : Words) → Marks d w' (set_used h more m) → w'.tick ≡ w.tick → (eqb more (get_or runs (h - 1) 0) || finish) ≡ false → Holds d w' (set used (h - 1) more) since (worked pol d finish m)
   work_on w' marks n f =
-      let ne : more ≡ get_or plan (h - 1) 0 → ⊥ = eqb-false more (get_or plan (h - 1) 0) (or_false_left (eqb more (get_or plan (h - 1) 0)) finish f) in
+      let ne : more ≡ get_or runs (h - 1) 0 → ⊥ = eqb-false more (get_or runs (h - 1) 0) (or_false_left (eqb more (get_or runs (h - 1) 0)) finish f) in
       subst (λ (k : Machine). Holds d w' (set used (h - 1) more) since k) (sym (work_is ∙ end_off d h finish (set_used h more m) (sym test_is ∙ f)))
       (record {
         marks = marks;
@@ -135,7 +135,7 @@ module _ (pol : Policy) (d : Description) (w : Words) (used since plan : List �
       })
 
   -- it is over
-  pub work_over : (w₁ w₂ : Words) (used' : List ℕ) → used' ≡ set used (h - 1) 0 → (eqb more (get_or plan (h - 1) 0) || finish) ≡ true → Marks d w₁ (ended d h m) → ((k : Machine) → Marks d w₁ k → Marks d w₂ (fire d h k)) → w₂.tick ≡ w.tick → Holds d w₂ used' since (worked pol d finish m)
+  pub work_over : (w₁ w₂ : Words) (used' : List ℕ) → used' ≡ set used (h - 1) 0 → (eqb more (get_or runs (h - 1) 0) || finish) ≡ true → Marks d w₁ (ended d h m) → ((k : Machine) → Marks d w₁ k → Marks d w₂ (fire d h k)) → w₂.tick ≡ w.tick → Holds d w₂ used' since (worked pol d finish m)
   work_over w₁ w₂ used' e f over fires n =
       let m₁ : Machine = complete h m in
       let z₁ : Sized m₁ = record { awakes = length-set m.awake (h - 1) (again_at m h) ∙ H.marks.sized.awakes; useds = length-set m.used (h - 1) 0 ∙ H.marks.sized.useds; waitings = H.marks.sized.waitings; droppeds = H.marks.sized.droppeds; ages = H.marks.sized.ages; fastests = H.marks.sized.fastests; agains = length-set m.again (h - 1) false ∙ H.marks.sized.agains; lates = H.marks.sized.lates } in

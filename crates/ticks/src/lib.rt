@@ -98,7 +98,7 @@ fn tick_value(p: Policy, d: Description, t: u32, m: Machine, a: Arrivals, finish
         return refused_tick(why, place, m);
     }
     let s = sources_of(d);
-    let longest = gaps_by(&s.paces, s.count, 200);
+    let longest = gaps_by(&s, 200);
     tick_judged(p, wiring_of(d), s, longest, t, m, a, finish)
 }
 

@@ -1,94 +1,125 @@
--- One link more in the rows, bit by bit. Assumes nothing.
-use Prim.Native.Nat.{ℕ, ◌+◌, ◌*◌, ◌/◌, ◌%◌, ◌≤◌, ◌<◌}
+-- One link more in the rows, column by column. Assumes nothing.
+use Prim.Native.Nat.{ℕ, ◌+◌, ◌≤◌, ◌<◌}
 use mathlib.Core.Path.{◌≡◌, refl, sym, ap, ◌∙◌}
 use mathlib.Core.Bool.{Bool, true, false, ◌||◌, ◌&&◌, cond}
-use mathlib.Core.List.{List}
+use mathlib.Core.List.{List, []}
 use mathlib.Core.Logic.{◌⊎◌, inl, inr}
 use native.Mathlib.Omega.{arith}
 use native.Mathlib.Numerals.{add-one}
-use lib.ListN.{get_or, length, set, length-set, replicate}
+use native.Mathlib.Decide.{dec_lt}
+use Rattle.std.proofs.lemmas.List.{get_or-replicate, get_or_past}
+use Rattle.sets.proofs.WideLaws.{no_words}
+use lib.ListN.{length, set, length-set, replicate, length-replicate}
 use lib.Dec.{eqb, ltb}
-use borrow.Author.Tests.{eq-eqb, ne_eqb, eqb-true, le-ltb}
+use borrow.Author.Tests.{eqb-true, le-ltb}
 use Rattle.model.specs.declared.Description.{Description}
 use Rattle.model.specs.Basics.{any_n}
 use Rattle.model.specs.Graph.{link_at, system}
-use Rattle.lemmas.proofs.Tests.{same_test, and_left, and_right, both, eqb_sym}
+use Rattle.lemmas.proofs.Tests.{eqb_sym}
 use Rattle.lemmas.proofs.Range.{any_more}
 use Rattle.theory.proofs.WellFormed.{WellFormed, IsTask, IsSource}
+use Rattle.sets.specs.declared.wide.Wide.{Wide}
 use Rattle.sets.specs.Sets.{member}
+use Rattle.sets.specs.Wide.{inside}
 use Rattle.sets.proofs.SetLaws.{member_none}
-use Rattle.wiring.specs.Rows.{bit_at, Marked, RowsOf, Wired}
-use Rattle.lemmas.proofs.Table.{get_d_same, get_d_set}
+use Rattle.wiring.specs.declared.Row.{Row}
+use Rattle.wiring.specs.Rows.{row_at, RowsOf, Wired}
+use Rattle.lemmas.proofs.Table.{get_d_set}
 use Rattle.lemmas.proofs.Bools.{and_swap, less_more}
 use Rattle.theory.proofs.Links.{to_most}
 
--- a store at a node's word
-pub stored : (rows : List ℕ) (x w k i v : ℕ) → length rows ≡ 576 → x < 64 → w < 9 → i ≡ 9 * x + w → ((j : ℕ) → member v j ≡ (member (get_or rows i 0) j || eqb j k)) → Marked rows x w k (set rows i v)
-stored rows x w k i v z p q e s = record { long = length-set rows i v ∙ z; marked = λ y u j h. at y u j h (eqb (9 * y + u) i) refl }
-  where
-    on : (a b : Bool) (c d : Bool) → c ≡ true → d ≡ true → (a || b) ≡ (a || (c && (d && b)))
-    on a b c d f g = rw (f, g) refl
-
-    off : (a b c : Bool) → (b ≡ true → c ≡ true → ⊥) → (d : Bool) → a ≡ (a || (b && (c && d)))
-    off true b c h d = refl
-    off false true true h d = absurd (h refl refl)
-    off false true false h d = refl
-    off false false c h d = refl
-
-    at : (y u j : ℕ) → u < 9 → (b : Bool) → eqb (9 * y + u) i ≡ b → bit_at (set rows i v) y u j ≡ (bit_at rows y u j || (eqb y x && (eqb u w && eqb j k)))
-    at y u j h true f =
-        let r : 9 * y + u ≡ i = eqb-true (9 * y + u) i f in
-        ap (λ n. member n j) (get_d_set rows i v 0 (9 * y + u) (omega arith) ∙ ap (λ b. cond b v (get_or rows (9 * y + u) 0)) f) ∙ s j ∙ ap (λ n. member (get_or rows n 0) j || eqb j k) (sym r) ∙ on (bit_at rows y u j) (eqb j k) (eqb y x) (eqb u w) (eq-eqb y x (omega arith)) (eq-eqb u w (omega arith))
-    at y u j h false f =
-        ap (λ n. member n j) (get_d_set rows i v 0 (9 * y + u) (omega arith) ∙ ap (λ b. cond b v (get_or rows (9 * y + u) 0)) f)
-        ∙ off (bit_at rows y u j) (eqb y x) (eqb u w) (λ a b. let g : 9 * y + u ≡ i = omega (arith, eqb-true y x a, eqb-true u w b) in clash g f) (eqb j k)
-      where
-        clash : 9 * y + u ≡ i → eqb (9 * y + u) i ≡ false → ⊥
-        clash g f = let z : true ≡ false = sym (eq-eqb (9 * y + u) i g) ∙ f in let n : ◌≡◌ {A = ℕ} 0 1 = cc in omega arith
-
--- a mark in another word, and one in this
-elsewhere : (a b c d : Bool) → c ≡ false → (a || (b && (c && d))) ≡ a
-elsewhere true b c d e = refl
-elsewhere false true c d e = rw e refl
-elsewhere false false c d e = refl
-
--- a link's word and bit tell its place
-place_is : (l n : ℕ) → (eqb (l / 64) (n / 64) && eqb (l % 64) (n % 64)) ≡ eqb l n
-place_is l n =
-    same_test (eqb (l / 64) (n / 64) && eqb (l % 64) (n % 64)) (eqb l n)
-    (λ e. eq-eqb l n (omega (arith, eqb-true (l / 64) (n / 64) (and_left (eqb (l / 64) (n / 64)) _ e), eqb-true (l % 64) (n % 64) (and_right (eqb (l / 64) (n / 64)) _ e))))
-    (λ e. let q : l ≡ n = eqb-true l n e in both (eqb (l / 64) (n / 64)) _ (eq-eqb (l / 64) (n / 64) (omega arith)) (eq-eqb (l % 64) (n % 64) (omega arith)))
-
-place_on : (l n w : ℕ) → (eqb (w + l / 64) (w + n / 64) && eqb (l % 64) (n % 64)) ≡ eqb l n
-place_on l n w = ap (λ b. b && eqb (l % 64) (n % 64)) (same_test (eqb (w + l / 64) (w + n / 64)) (eqb (l / 64) (n / 64)) (λ e. eq-eqb (l / 64) (n / 64) (omega (arith, eqb-true (w + l / 64) (w + n / 64) e))) (λ e. eq-eqb (w + l / 64) (w + n / 64) (omega (arith, eqb-true (l / 64) (n / 64) e)))) ∙ place_is l n
-
 -- one link more
-one_more : (f : ℕ → Bool) (l n : ℕ) (a b : Bool) → a ≡ (ltb l n && f l) → b ≡ eqb l n → (c : Bool) → c ≡ f n → (a || (c && b)) ≡ (ltb l (n + 1) && f l)
-one_more f l n a b p q c r = rw (p, q, r) (ap (λ z. (ltb l n && f l) || z) (and_swap (f n) (eqb l n)) ∙ sym (less_more f l n) ∙ ap (λ k. ltb l k && f l) (sym (add-one n)))
+one_more : (f : ℕ → Bool) (l n : ℕ) (a : Bool) → a ≡ (ltb l n && f l) → (c : Bool) → c ≡ f n → (a || (c && eqb l n)) ≡ (ltb l (n + 1) && f l)
+one_more f l n a p c r = rw (p, r) (ap (λ z. (ltb l n && f l) || z) (and_swap (f n) (eqb l n)) ∙ sym (less_more f l n) ∙ ap (λ k. ltb l k && f l) (sym (add-one n)))
 
-module _ (n x y : ℕ) (few : n < 256) (rows r₁ r₂ r₃ : List ℕ) (a : Marked rows x (n / 64) (n % 64) r₁) (b : Marked r₁ y (4 + n / 64) (n % 64) r₂) (c : Marked r₂ x 8 y r₃) where
-  pub wired_more : Wired rows n x y r₃
-  wired_more = record {
-    long = c.long;
+-- a row v at place x
+module _ (rows : List Row) (x : ℕ) (v : Row) (here : x < length rows) where
+  placed : (z : ℕ) → row_at (set rows x v) z ≡ cond (eqb z x) v (row_at rows z)
+  placed z = get_d_set rows x v _ z here
+
+  -- a column that it has as before, and one in which it has k besides
+  same : {A : Type 0} (f : Row → A) → f v ≡ f (row_at rows x) → (z : ℕ) → f (row_at (set rows x v) z) ≡ f (row_at rows z)
+  same f e z = ap f (placed z) ∙ go (eqb z x) refl
+    where
+      go : (b : Bool) → eqb z x ≡ b → f (cond b v (row_at rows z)) ≡ f (row_at rows z)
+      go true q = e ∙ ap (λ i. f (row_at rows i)) (sym (eqb-true z x q))
+      go false q = refl
+
+  more : (f : Row → ℕ → Bool) (k : ℕ) → ((j : ℕ) → f v j ≡ (f (row_at rows x) j || eqb j k)) → (z j : ℕ) → f (row_at (set rows x v) z) j ≡ (f (row_at rows z) j || (eqb z x && eqb j k))
+  more f k e z j = ap (λ r. f r j) (placed z) ∙ go (eqb z x) refl
+    where
+      none : (b : Bool) → b ≡ (b || false)
+      none true = refl
+      none false = refl
+
+      go : (b : Bool) → eqb z x ≡ b → f (cond b v (row_at rows z)) j ≡ (f (row_at rows z) j || (b && eqb j k))
+      go true q = e j ∙ ap (λ i. f (row_at rows i) j || eqb j k) (sym (eqb-true z x q))
+      go false q = none (f (row_at rows z) j)
+
+module _ (n x y : ℕ) (rows : List Row) (long : length rows ≡ 64) (x_low : x < 64) (y_low : y < 64) (a b : Wide) (c : ℕ) where
+  abbrev pub rows₁ : List Row
+  rows₁ = set rows x (record { out = a; into = (row_at rows x).into; wakes = (row_at rows x).wakes })
+
+  abbrev pub rows₂ : List Row
+  rows₂ = set rows₁ y (record { out = (row_at rows₁ y).out; into = b; wakes = (row_at rows₁ y).wakes })
+
+  abbrev pub rows₃ : List Row
+  rows₃ = set rows₂ x (record { out = (row_at rows₂ x).out; into = (row_at rows₂ x).into; wakes = c })
+
+  pub wired_more : ((j : ℕ) → inside a j ≡ (inside (row_at rows x).out j || eqb j n)) → ((j : ℕ) → inside b j ≡ (inside (row_at rows₁ y).into j || eqb j n)) → ((j : ℕ) → member c j ≡ (member (row_at rows₂ x).wakes j || eqb j y)) → Wired rows n x y rows₃
+  wired_more out into wakes = record {
+    long = long₃;
     wired = λ d p q g. record {
-      long = c.long;
-      out = λ z l h. c.marked z (l / 64) (l % 64) (omega arith) ∙ elsewhere _ (eqb z x) (eqb (l / 64) 8) _ (ne_eqb (l / 64) 8 (λ e. omega arith)) ∙ (b.marked z (l / 64) (l % 64) (omega arith) ∙ elsewhere _ (eqb z y) (eqb (l / 64) (4 + n / 64)) _ (ne_eqb (l / 64) (4 + n / 64) (λ e. omega arith))) ∙ (a.marked z (l / 64) (l % 64) (omega arith) ∙ one_more (λ k. eqb (link_at d k).from z) l n _ _ (g.out z l h) (place_is l n) (eqb z x) (eqb_sym z x ∙ ap (λ k. eqb k z) (sym p)));
-      into = λ z l h. c.marked z (4 + l / 64) (l % 64) (omega arith) ∙ elsewhere _ (eqb z x) (eqb (4 + l / 64) 8) _ (ne_eqb (4 + l / 64) 8 (λ e. omega arith)) ∙ (b.marked z (4 + l / 64) (l % 64) (omega arith) ∙ one_more (λ k. eqb (link_at d k).to z) l n _ _ (a.marked z (4 + l / 64) (l % 64) (omega arith) ∙ elsewhere _ (eqb z x) (eqb (4 + l / 64) (n / 64)) _ (ne_eqb (4 + l / 64) (n / 64) (λ e. omega arith)) ∙ g.into z l h) (place_on l n 4) (eqb z y) (eqb_sym z y ∙ ap (λ k. eqb k z) (sym q)));
-      wakes = λ z k. c.marked z 8 k (omega arith) ∙ (ap (λ s. s || (eqb z x && eqb k y)) (b.marked z 8 k (omega arith) ∙ elsewhere _ (eqb z y) (eqb 8 (4 + n / 64)) _ (ne_eqb 8 (4 + n / 64) (λ e. omega arith)) ∙ (a.marked z 8 k (omega arith) ∙ elsewhere _ (eqb z x) (eqb 8 (n / 64)) _ (ne_eqb 8 (n / 64) (λ e. omega arith)) ∙ g.wakes z k)) ∙ woken d p q z k ∙ sym (any_more (λ l. eqb (link_at d l).from z && eqb (link_at d l).to k) n));
+      long = long₃;
+      out = λ z l.
+          same rows₂ x _ at₃ (λ r. inside r.out l) refl z ∙ same rows₁ y _ at₂ (λ r. inside r.out l) refl z ∙ more rows x _ at₁ (λ r k. inside r.out k) n out z l
+          ∙ one_more (λ k. eqb (link_at d k).from z) l n _ (g.out z l) (eqb z x) (eqb_sym z x ∙ ap (λ k. eqb k z) (sym p));
+      into = λ z l.
+          same rows₂ x _ at₃ (λ r. inside r.into l) refl z ∙ more rows₁ y _ at₂ (λ r k. inside r.into k) n into z l
+          ∙ one_more (λ k. eqb (link_at d k).to z) l n _ (same rows x _ at₁ (λ r. inside r.into l) refl z ∙ g.into z l) (eqb z y) (eqb_sym z y ∙ ap (λ k. eqb k z) (sym q));
+      wakes = λ z k.
+          more rows₂ x _ at₃ (λ r i. member r.wakes i) y wakes z k
+          ∙ ap (λ s. s || (eqb z x && eqb k y)) (same rows₁ y _ at₂ (λ r. member r.wakes k) refl z ∙ same rows x _ at₁ (λ r. member r.wakes k) refl z ∙ g.wakes z k)
+          ∙ woken d p q z k ∙ sym (any_more (λ l. eqb (link_at d l).from z && eqb (link_at d l).to k) n);
     };
   }
     where
+      at₁ : x < length rows
+      at₁ = omega arith
+
+      long₁ : length rows₁ ≡ 64
+      long₁ = length-set rows x _ ∙ long
+
+      at₂ : y < length rows₁
+      at₂ = omega (arith, long₁)
+
+      long₂ : length rows₂ ≡ 64
+      long₂ = length-set rows₁ y _ ∙ long₁
+
+      at₃ : x < length rows₂
+      at₃ = omega (arith, long₂)
+
+      long₃ : length rows₃ ≡ 64
+      long₃ = length-set rows₂ x _ ∙ long₂
+
       woken : (d : Description) → (link_at d n).from ≡ x → (link_at d n).to ≡ y → (z k : ℕ) → (any_n (λ l. eqb (link_at d l).from z && eqb (link_at d l).to k) 0 n || (eqb z x && eqb k y)) ≡ (any_n (λ l. eqb (link_at d l).from z && eqb (link_at d l).to k) 0 n || (eqb (link_at d n).from z && eqb (link_at d n).to k))
       woken d p q z k = rw (p, q, eqb_sym x z, eqb_sym y k) refl
 
--- before the first link
-pub none_wired : (d : Description) → RowsOf d 0 (replicate 576 0)
+-- before the first link a row has nothing, nor has one past the last
+nothing : {A : Type 0} (f : Row → A) {r : Row} (x : ℕ) → f r ≡ f (row_at [] x) → f (row_at (replicate 64 r) x) ≡ f r
+nothing f {r = r} x e = go (dec_lt x 64)
+  where
+    go : Dec (x < 64) → f (row_at (replicate 64 r) x) ≡ f r
+    go (yes h) = ap f (get_or-replicate 64 x r _ h)
+    go (no h) = ap f (get_or_past (replicate 64 r) x _ (omega (arith, length-replicate 64 r))) ∙ sym e
+
+pub none_wired : (d : Description) (a b : Wide) → ((l : ℕ) → inside a l ≡ false) → ((l : ℕ) → inside b l ≡ false) → RowsOf d 0 (replicate 64 (record { out = a; into = b; wakes = 0 }))
 unfolding any_n
-none_wired d = record {
+none_wired d a b e f = record {
   long = refl;
-  out = λ x l h. ap (λ s. member s (l % 64)) (get_d_same 576 (9 * x + l / 64) 0) ∙ member_none (l % 64) ∙ rw (le-ltb l 0 (omega arith)) refl;
-  into = λ x l h. ap (λ s. member s (l % 64)) (get_d_same 576 (9 * x + (4 + l / 64)) 0) ∙ member_none (l % 64) ∙ rw (le-ltb l 0 (omega arith)) refl;
-  wakes = λ x k. ap (λ s. member s k) (get_d_same 576 (9 * x + 8) 0) ∙ member_none k;
+  out = λ x l. nothing (λ r. inside r.out l) x (e l ∙ sym (no_words l)) ∙ e l ∙ rw (le-ltb l 0 (omega arith)) refl;
+  into = λ x l. nothing (λ r. inside r.into l) x (f l ∙ sym (no_words l)) ∙ f l ∙ rw (le-ltb l 0 (omega arith)) refl;
+  wakes = λ x k. nothing (λ r. member r.wakes k) x refl ∙ member_none k;
 }
 
 -- the nodes of a link have rows

@@ -3,16 +3,24 @@
 
 ghost use Rattle.std.specs.Prelude.{◌≡◌, ◌<◌, length};
 ghost use Rattle.theory.proofs.WellFormed.{WellFormed};
-ghost use Rattle.wiring.specs.Rows.{Marked, Wired, WiringOf};
+ghost use Rattle.wiring.specs.Rows.{Wired, WiringOf};
 
 use model::Description;
-use numbers::index;
+use sets::Set;
+use sets::wide::Wide;
 
-// A node's row has nine words: four of the links out of it, four of the links into it, and one of the tasks that it wakes. The
-// rows are one array, since that can be lent without a copy. Beside them stand the tasks that links enter, longest runs and counts.
+// The links out of a node, the links into it, and the tasks that it wakes.
+#[derive(Clone, Copy)]
+pub struct Row {
+    pub out: Wide,
+    pub into: Wide,
+    pub wakes: u64,
+}
+
+// A row for each node, by its number. Beside them stand the tasks that links enter, longest runs and counts.
 #[derive(Clone, Copy)]
 pub struct Wiring {
-    pub rows: [u64; 576],
+    pub rows: [Row; 64],
     pub to: [u8; 256],
     pub links: usize,
     pub tasks: usize,
@@ -20,25 +28,14 @@ pub struct Wiring {
     pub sources: usize,
 }
 
-// Bit k of word w of node x is set.
-fn mark(rows: &mut [u64; 576], x: usize, w: usize, k: usize)
-    requires { (x < 64) × (w < 9) × (k < 64) × (length rows.old ≡ 576) }
-    ensures { Marked rows.old x w k rows.new }
-{
-    let i = 9 * x + w;
-    rows[i] = sets::with(rows[i], k);
-}
-
 // The link at place l, from node x to task y, is entered in the rows.
-fn wire(rows: &mut [u64; 576], l: usize, x: usize, y: usize)
-    requires { (l < 256) × (x < 64) × (y < 64) × (length rows.old ≡ 576) }
+fn wire(rows: &mut [Row; 64], l: usize, x: usize, y: usize)
+    requires { (l < 256) × (x < 64) × (y < 64) × (length rows.old ≡ 64) }
     ensures { Wired rows.old l x y rows.new }
 {
-    let w = l / 64;
-    let k = l % 64;
-    mark(&mut *rows, x, w, k);
-    mark(&mut *rows, y, 4 + w, k);
-    mark(rows, x, 8, y);
+    rows[x].out = rows[x].out.with(l);
+    rows[y].into = rows[y].into.with(l);
+    rows[x].wakes = sets::with(rows[x].wakes, y);
 }
 
 // The wiring of an accepted description.
@@ -46,22 +43,23 @@ pub fn wiring_of(d: Description) -> Wiring
     requires { WellFormed d }
     ensures { WiringOf d result }
 {
-    let mut rows = [0u64; 576];
-    let mut to = [0u8; 256];
-    let mut l: usize = 0;
-    while l < d.link_count {
-        let link = d.links[l];
-        wire(&mut rows, l, index(link.from), index(link.to));
+    let blank = Row {
+        out: Wide::none(),
+        into: Wide::none(),
+        wakes: 0,
+    };
+    let mut rows = [blank; 64];
+    let mut to = [0; 256];
+    for (l, link) in d.links[..d.link_count].iter().enumerate() {
+        wire(&mut rows, l, usize::from(link.from), usize::from(link.to));
         to[l] = link.to;
-        l += 1;
     }
-    let runs = d.runs;
     Wiring {
         rows,
         to,
         links: d.link_count,
         tasks: d.task_count,
-        runs,
+        runs: d.runs,
         sources: d.source_count,
     }
 }

@@ -1,5 +1,5 @@
 -- How words of bits hold the machine's record.
-use Rattle.std.specs.Prelude.{ℕ, ◌+◌, ◌-◌, ◌≤◌, ◌<◌, min, max, Bool, true, false, ◌||◌, ◌&&◌, cond, List, ◌≡◌, ◌⊎◌, get_or, length, eqb, ltb}
+use Rattle.std.specs.Prelude.{ℕ, ◌-◌, ◌≤◌, ◌<◌, min, max, Bool, true, false, ◌||◌, ◌&&◌, cond, List, ◌≡◌, ◌⊎◌, get_or, length, eqb, ltb}
 use Rattle.model.specs.declared.Description.{Description}
 use Rattle.model.specs.declared.Policy.{Policy}
 use Rattle.model.specs.declared.Policy.TheVariants.{Preemptive, HoldOn}
@@ -7,14 +7,9 @@ use Rattle.model.specs.declared.Machine.{Machine}
 use Rattle.model.specs.Graph.{link_at, run_of}
 use Rattle.model.specs.Machine.{awake_at, used_at, waiting_at, dropped_at, again_at, late_at, age_at, fastest_at, longest_gap}
 use Rattle.assurance.proofs.Firing.{Sized}
-use Rattle.sets.specs.declared.wide.Wide.{Wide}
 use Rattle.sets.specs.Sets.{member}
 use Rattle.sets.specs.Wide.{inside}
 use Rattle.words.specs.declared.Words.{Words}
-
--- four words of a table as a set
-abbrev pub wide_at : List ℕ → ℕ → Wide
-wide_at rows i = record { w0 = get_or rows i 0; w1 = get_or rows (i + 1) 0; w2 = get_or rows (i + 2) 0; w3 = get_or rows (i + 3) 0 }
 
 -- the marks of tasks and links, by what words say: a task is awake that was woken or is part done, and again that is both; a link waits that is fresh or
 -- taken, and has been dropped, marked so or not yet, if it is both

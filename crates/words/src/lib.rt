@@ -1,8 +1,8 @@
 // The machine's marks as words of bits, and what is read off the tables beside them.
 #![tactic(auto)]
 
-ghost use Rattle.std.specs.Prelude.{◌≡◌, cond, ◌<◌};
-ghost use Rattle.words.specs.Words.{wide_at, holds_on};
+ghost use Rattle.std.specs.Prelude.{◌≡◌, cond};
+ghost use Rattle.words.specs.Words.{holds_on};
 
 use model::Policy;
 use sets::wide::Wide;
@@ -24,19 +24,6 @@ pub struct Words {
     pub tick: u64,
     pub low: u32,
     pub peak: u32,
-}
-
-// The four words from place i on.
-pub fn row(rows: &[u64; 576], i: usize) -> Wide
-    requires { i < 573 }
-    ensures { result ≡ wide_at rows.now i }
-{
-    Wide {
-        w0: rows[i],
-        w1: rows[i + 1],
-        w2: rows[i + 2],
-        w3: rows[i + 3],
-    }
 }
 
 // What is kept of the number of a task whose run is not over: all of its bits on the hold-on model, else none.

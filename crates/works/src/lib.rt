@@ -7,7 +7,7 @@ ghost use Rattle.model.specs.Graph.{cyclic};
 ghost use Rattle.paths.specs.Rows.{NodeOf, TaskOf, Brought, graph};
 ghost use Rattle.works.specs.Works.{Ready, SetMemo, WorkMemo, WorkIs, AddedIs, WorksOf, SetsOf, Scaled};
 
-use sets::{below, first, has, rest, union};
+use sets::{Set, below, first, has, rest};
 
 // The tasks that node i brings in: those it has links to and, of what each of these brings in, the tasks below it. The sets of these come
 // from the memo, or are found in turn. An entry of 0 is not found yet: fixed memory, and an Option beside each word would double it.
@@ -26,7 +26,7 @@ fn brought(succ: &[u64; 48], n: usize, i: usize, brings: &mut [u64; 48]) -> u64
             through = brought(succ, n, k + 1, brings);
         }
         let low = below(through, k);
-        set = union(set, low);
+        set = set.union(low);
         left = rest(left);
     }
     brings[i - 1] = set;

@@ -1,27 +1,24 @@
-use Prim.Native.Nat.{◌+◌, ◌*◌, ◌<◌}
-use mathlib.Core.Path.{refl, sym, ap, subst, ◌∙◌}
-use mathlib.Core.Bool.{◌||◌}
+use Prim.Native.Nat.{◌+◌, ◌<◌}
+use mathlib.Core.Path.{refl, ap, ◌∙◌}
 use native.Mathlib.Omega.{arith}
-use lib.ListN.{get_or, set}
-use Rattle.sets.specs.declared.wide.Wide.{Wide}
-use Rattle.sets.specs.Wide.{inside}
+use lib.ListN.{set}
 use Rattle.model.specs.Machine.{arrive}
 use Rattle.model.specs.Run.{marks_in}
 use Rattle.words.specs.declared.Words.{Words}
 use Rattle.arrivals.specs.Arrivals.{Stored}
 use Rattle.arrivals.proofs.MaskLaws.{Turn, rest_all, rest_under, least, turn}
 use Rattle.arrivals.proofs.TempoLaws.{tempos_hold}
-use Rattle.arrivals.proofs.ArriveLaws.{stored_none, stored_more, stored_since, stored_then, stored_all, Joined, joined_one, joined_more, all_arrived}
+use Rattle.arrivals.proofs.ArriveLaws.{stored_none, stored_more, stored_since, stored_then, stored_all, joined_one, joined_more, all_arrived}
 use Rattle.arrivals.proofs.arrive.Goals as goal
 
-pub row-out-requires : goal.row-out-requires
-row-out-requires c =
+pub bounds-rows-one : goal.bounds-rows-one
+bounds-rows-one c =
     -- the first source of the mask
     let own : c.first-one.result < 16 = omega (arith, least c.args.mask 0 c.args.mask c.first-one.result c.requires.1 (rest_all c.args.mask) c.first-one.ensures) in
     omega (arith, own)
 
-pub bounds-rows-one : goal.bounds-rows-one
-bounds-rows-one c =
+pub bounds-rows-one-2 : goal.bounds-rows-one-2
+bounds-rows-one-2 c =
     let own : c.first-one.result < 16 = omega (arith, least c.args.mask 0 c.args.mask c.first-one.result c.requires.1 (rest_all c.args.mask) c.first-one.ensures) in
     omega (arith, own)
 
@@ -46,7 +43,7 @@ loop-rest-init c =
       u + 1,
       omega (arith, T.within),
       T.after,
-      subst (λ (s : Wide). Joined A.rows.now A.mask (u + 1) s (get_or A.rows.now (9 * (33 + u) + 8) 0)) (sym c.row-out.ensures) (joined_one A.rows.now A.mask u c.rest-rest.result T),
+      joined_one A.rows.now A.mask u c.rest-rest.result T,
       stored_since A.mask (u + 1) A.w.tick _ _ first-since,
       stored_since A.mask (u + 1) A.t _ _ first-fastest,
     )
@@ -60,7 +57,7 @@ loop-rest-preserved c =
       u + 1,
       omega (arith, T.within),
       T.after,
-      joined_more A.rows.now A.mask L.invariant.0 L.out c.union-out.result L.wakes c.union-wakes.result u c.rest-rest-in-loop-rest.result T (λ l. c.union-out.ensures l ∙ ap (λ (s : Wide). inside L.out l || inside s l) c.row.ensures) c.union-wakes.ensures L.invariant.3,
+      joined_more A.rows.now A.mask L.invariant.0 L.out c.union-out.result L.wakes c.union-wakes.result u c.rest-rest-in-loop-rest.result T c.union-out.ensures c.union-wakes.ensures L.invariant.3,
       stored_more A.mask L.invariant.0 A.w.tick _ L.since u c.rest-rest-in-loop-rest.result T L.invariant.4,
       stored_more A.mask L.invariant.0 A.t _ L.fastest u c.rest-rest-in-loop-rest.result T L.invariant.5,
     )

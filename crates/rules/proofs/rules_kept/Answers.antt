@@ -1,62 +1,26 @@
-use mathlib.Core.Path.{◌≡◌, refl}
-use Rattle.std.proofs.Common.{length}
+-- The five rules, one after the other.
+use mathlib.Core.Path.{◌≡◌, ◌∙◌}
+use mathlib.Core.Bool.{◌&&◌}
 use Rattle.model.specs.Basics.{all_n}
 use Rattle.model.specs.Machine.{task_rule, links_rule, source_rule, again_rule, lates_rule, rules_kept}
-use Rattle.rules.proofs.RuleLaws.{Lengths, broken, kept, enters_of}
-use borrow.Author.Rules.{rules}
+use Rattle.rules.proofs.RuleLaws.{broken, kept, nested}
 use Rattle.rules.proofs.rules_kept.Goals as goal
+use Rattle.rules.proofs.rules_kept.Goals.{then-tasks_lawful, else-tasks_lawful, then-links_lawful, else-links_lawful, then-sources_lawful, else-sources_lawful}
 
-pub returns-then-not-tasks_lawful : goal.returns-then-not-tasks_lawful
+pub returns-then-agains_lawful : goal.returns-then-agains_lawful
 unfolding rules_kept
-returns-then-not-tasks_lawful c =
-    λ d r g.
-    let A = c.args in
-    -- what each test has told, of a description whose wiring it is
-    let tasks : c.tasks_lawful.result ≡ all_n (task_rule d A.m) 1 32 = c.tasks_lawful.ensures d A.m r.same_runs r.as_many refl refl in
-    broken _ tasks c.if-not-tasks_lawful.true
+returns-then-agains_lawful c = λ d r g.
+    let m = c.args.m.now in
+    let links : c.if-tasks_lawful.value ≡ (all_n (task_rule d m) 1 32 && links_rule d m) = elim c.if-tasks_lawful.branch [ then-tasks_lawful w ↦ w.value-is ∙ kept (c.tasks_lawful.ensures d r) w.if-tasks_lawful.true (w.links_lawful.ensures d r) | else-tasks_lawful w ↦ w.value-is ∙ w.if-tasks_lawful.false ∙ broken _ (c.tasks_lawful.ensures d r) w.if-tasks_lawful.false ] in
+    let sources : c.if-links_lawful.value ≡ ((all_n (task_rule d m) 1 32 && links_rule d m) && all_n (source_rule d m) 0 16) = elim c.if-links_lawful.branch [ then-links_lawful w ↦ w.value-is ∙ kept links w.if-links_lawful.true (w.sources_lawful.ensures d r g) | else-links_lawful w ↦ w.value-is ∙ w.if-links_lawful.false ∙ broken _ links w.if-links_lawful.false ] in
+    let agains : c.if-sources_lawful.value ≡ (((all_n (task_rule d m) 1 32 && links_rule d m) && all_n (source_rule d m) 0 16) && all_n (again_rule m) 1 32) = elim c.if-sources_lawful.branch [ then-sources_lawful w ↦ w.value-is ∙ kept sources w.if-sources_lawful.true w.agains_lawful.ensures | else-sources_lawful w ↦ w.value-is ∙ w.if-sources_lawful.false ∙ broken _ sources w.if-sources_lawful.false ] in
+    kept agains c.if-agains_lawful.true (c.lates_lawful.ensures d r) ∙ nested (all_n (task_rule d m) 1 32) (links_rule d m) (all_n (source_rule d m) 0 16) (all_n (again_rule m) 1 32) (lates_rule d m)
 
-pub returns-then-not-links_lawful : goal.returns-then-not-links_lawful
+pub returns-else-agains_lawful : goal.returns-else-agains_lawful
 unfolding rules_kept
-returns-then-not-links_lawful c =
-    λ d r g.
-    let A = c.args in
-    let sizes : Lengths c.args.m = (let w : length c.args.m.waiting ≡ 256 = search rules in let d : length c.args.m.dropped ≡ 256 = search rules in let l : length c.args.m.late ≡ 256 = search rules in record { waitings = w; droppeds = d; lates = l }) in
-    let tasks : c.tasks_lawful.result ≡ all_n (task_rule d A.m) 1 32 = c.tasks_lawful.ensures d A.m r.same_runs r.as_many refl refl in
-    let links : c.links_lawful.result ≡ links_rule d A.m = c.links_lawful.ensures d A.m (enters_of d A.w r) refl refl refl sizes.waitings sizes.droppeds in
-    kept tasks c.if-not-tasks_lawful.false (broken _ links c.if-not-links_lawful.true)
-
-pub returns-then-not-sources_lawful : goal.returns-then-not-sources_lawful
-unfolding rules_kept
-returns-then-not-sources_lawful c =
-    λ d r g.
-    let A = c.args in
-    let sizes : Lengths c.args.m = (let w : length c.args.m.waiting ≡ 256 = search rules in let d : length c.args.m.dropped ≡ 256 = search rules in let l : length c.args.m.late ≡ 256 = search rules in record { waitings = w; droppeds = d; lates = l }) in
-    let tasks : c.tasks_lawful.result ≡ all_n (task_rule d A.m) 1 32 = c.tasks_lawful.ensures d A.m r.same_runs r.as_many refl refl in
-    let links : c.links_lawful.result ≡ links_rule d A.m = c.links_lawful.ensures d A.m (enters_of d A.w r) refl refl refl sizes.waitings sizes.droppeds in
-    let sources : c.sources_lawful.result ≡ all_n (source_rule d A.m) 0 16 = c.sources_lawful.ensures d A.m r.as_wide g refl refl in
-    kept tasks c.if-not-tasks_lawful.false (kept links c.if-not-links_lawful.false (broken _ sources c.if-not-sources_lawful.true))
-
-pub returns-then-not-agains_lawful : goal.returns-then-not-agains_lawful
-unfolding rules_kept
-returns-then-not-agains_lawful c =
-    λ d r g.
-    let A = c.args in
-    let sizes : Lengths c.args.m = (let w : length c.args.m.waiting ≡ 256 = search rules in let d : length c.args.m.dropped ≡ 256 = search rules in let l : length c.args.m.late ≡ 256 = search rules in record { waitings = w; droppeds = d; lates = l }) in
-    let tasks : c.tasks_lawful.result ≡ all_n (task_rule d A.m) 1 32 = c.tasks_lawful.ensures d A.m r.same_runs r.as_many refl refl in
-    let links : c.links_lawful.result ≡ links_rule d A.m = c.links_lawful.ensures d A.m (enters_of d A.w r) refl refl refl sizes.waitings sizes.droppeds in
-    let sources : c.sources_lawful.result ≡ all_n (source_rule d A.m) 0 16 = c.sources_lawful.ensures d A.m r.as_wide g refl refl in
-    let agains : c.agains_lawful.result ≡ all_n (again_rule A.m) 1 32 = c.agains_lawful.ensures A.m refl refl in
-    kept tasks c.if-not-tasks_lawful.false (kept links c.if-not-links_lawful.false (kept sources c.if-not-sources_lawful.false (broken _ agains c.if-not-agains_lawful.true)))
-
-pub returns : goal.returns
-unfolding rules_kept
-returns c =
-    λ d r g.
-    let A = c.args in
-    let sizes : Lengths c.args.m = (let w : length c.args.m.waiting ≡ 256 = search rules in let d : length c.args.m.dropped ≡ 256 = search rules in let l : length c.args.m.late ≡ 256 = search rules in record { waitings = w; droppeds = d; lates = l }) in
-    let tasks : c.tasks_lawful.result ≡ all_n (task_rule d A.m) 1 32 = c.tasks_lawful.ensures d A.m r.same_runs r.as_many refl refl in
-    let links : c.links_lawful.result ≡ links_rule d A.m = c.links_lawful.ensures d A.m (enters_of d A.w r) refl refl refl sizes.waitings sizes.droppeds in
-    let sources : c.sources_lawful.result ≡ all_n (source_rule d A.m) 0 16 = c.sources_lawful.ensures d A.m r.as_wide g refl refl in
-    let agains : c.agains_lawful.result ≡ all_n (again_rule A.m) 1 32 = c.agains_lawful.ensures A.m refl refl in
-    let lates : c.lates_lawful.result ≡ lates_rule d A.m = c.lates_lawful.ensures d A.m (enters_of d A.w r) refl refl refl sizes.lates in
-    kept tasks c.if-not-tasks_lawful.false (kept links c.if-not-links_lawful.false (kept sources c.if-not-sources_lawful.false (kept agains c.if-not-agains_lawful.false lates)))
+returns-else-agains_lawful c = λ d r g.
+    let m = c.args.m.now in
+    let links : c.if-tasks_lawful.value ≡ (all_n (task_rule d m) 1 32 && links_rule d m) = elim c.if-tasks_lawful.branch [ then-tasks_lawful w ↦ w.value-is ∙ kept (c.tasks_lawful.ensures d r) w.if-tasks_lawful.true (w.links_lawful.ensures d r) | else-tasks_lawful w ↦ w.value-is ∙ w.if-tasks_lawful.false ∙ broken _ (c.tasks_lawful.ensures d r) w.if-tasks_lawful.false ] in
+    let sources : c.if-links_lawful.value ≡ ((all_n (task_rule d m) 1 32 && links_rule d m) && all_n (source_rule d m) 0 16) = elim c.if-links_lawful.branch [ then-links_lawful w ↦ w.value-is ∙ kept links w.if-links_lawful.true (w.sources_lawful.ensures d r g) | else-links_lawful w ↦ w.value-is ∙ w.if-links_lawful.false ∙ broken _ links w.if-links_lawful.false ] in
+    let agains : c.if-sources_lawful.value ≡ (((all_n (task_rule d m) 1 32 && links_rule d m) && all_n (source_rule d m) 0 16) && all_n (again_rule m) 1 32) = elim c.if-sources_lawful.branch [ then-sources_lawful w ↦ w.value-is ∙ kept sources w.if-sources_lawful.true w.agains_lawful.ensures | else-sources_lawful w ↦ w.value-is ∙ w.if-sources_lawful.false ∙ broken _ sources w.if-sources_lawful.false ] in
+    c.if-agains_lawful.false ∙ broken (lates_rule d m) agains c.if-agains_lawful.false ∙ nested (all_n (task_rule d m) 1 32) (links_rule d m) (all_n (source_rule d m) 0 16) (all_n (again_rule m) 1 32) (lates_rule d m)

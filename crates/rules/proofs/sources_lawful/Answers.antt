@@ -1,20 +1,21 @@
-use mathlib.Core.Path.{◌∙◌}
-use native.Mathlib.Omega.{arith}
-use native.Mathlib.Nat.{zero-add}
+use mathlib.Core.Path.{refl, sym, ◌∙◌}
+use mathlib.Core.Bool.{◌&&◌, cond}
+use lib.ListN.{get_or}
+use lib.Dec.{ltb, leb, eqb}
+use borrow.Author.Rules.{rules}
+use borrow.Author.Tests.{tests}
+use Rattle.std.proofs.lemmas.Iterator.{YieldsList-from_range}
+use Rattle.std.proofs.lemmas.Iterator.Search.{all_from_yields_List}
+use Rattle.model.specs.Verdicts.{on_knob}
 use Rattle.model.specs.Machine.{source_rule}
-use Rattle.rules.proofs.RuleLaws.{all_none, all_next, all_fails, source_is}
+use Rattle.rules.proofs.RuleLaws.{all_range, source_is}
 use Rattle.rules.proofs.sources_lawful.Goals as goal
 
-pub loop-u-init : goal.loop-u-init
-loop-u-init c = (omega arith, λ d m p g a f. all_none _ 0)
-
-pub returns-then-not-source_lawful : goal.returns-then-not-source_lawful
-returns-then-not-source_lawful c =
-    λ d m p g a f.
-    let L = c.loop-u in
-    all_fails (source_rule d m) 0 16 L.u c.loop-u-test.true (rw (zero-add L.u) (source_is d m c.args.gaps.now c.args.ages.now c.args.fastest.now c.args.sources L.u c.source_lawful.result p g a f c.source_lawful.ensures ∙ c.if-not-source_lawful.true))
-
-pub loop-u-preserved : goal.loop-u-preserved
-loop-u-preserved c =
-    let L = c.loop-u in
-    (omega arith, λ d m p g a f. all_next (source_rule d m) 0 L.u (L.invariant.1 d m p g a f) (rw (zero-add L.u) (source_is d m c.args.gaps.now c.args.ages.now c.args.fastest.now c.args.sources L.u c.source_lawful.result p g a f c.source_lawful.ensures ∙ c.if-not-source_lawful.false)))
+pub returns : goal.returns
+returns c =
+    λ d r g.
+    let w = c.args.w.now in
+    let m = c.args.m.now in
+    let gaps = c.args.gaps.now in
+    all_from_yields_List (λ u. cond (ltb u w.sources) (leb (get_or m.ages u 0) (get_or gaps u 0) && cond (eqb (get_or m.fastest u 0) 0) (eqb (get_or m.ages u 0) (get_or gaps u 0)) (on_knob (get_or m.fastest u 0))) (eqb (get_or m.ages u 0) 0 && eqb (get_or m.fastest u 0) 0)) _ _ c.all.result c.all.ensures.ran (YieldsList-from_range 0 16 16 refl refl) (λ x b q k. search (rules, tests))
+    ∙ all_range (source_rule d m) _ 0 16 (λ u h. sym (source_is d w m gaps r g u))

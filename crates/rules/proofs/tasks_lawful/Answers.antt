@@ -1,19 +1,19 @@
-use mathlib.Core.Path.{◌∙◌}
-use native.Mathlib.Omega.{arith}
+use mathlib.Core.Path.{refl, sym, ◌∙◌}
+use mathlib.Core.Bool.{false, ◌||◌, ◌&&◌, not, cond}
+use lib.ListN.{get_or}
+use lib.Dec.{ltb, eqb}
+use borrow.Author.Rules.{rules}
+use borrow.Author.Tests.{tests}
+use Rattle.std.proofs.lemmas.Iterator.{YieldsList-from_range}
+use Rattle.std.proofs.lemmas.Iterator.Search.{all_from_yields_List}
 use Rattle.model.specs.Machine.{task_rule}
-use Rattle.rules.proofs.RuleLaws.{all_none, all_next, all_fails, task_is}
+use Rattle.rules.proofs.RuleLaws.{all_range, task_is}
 use Rattle.rules.proofs.tasks_lawful.Goals as goal
 
-pub loop-k-init : goal.loop-k-init
-loop-k-init c = (omega arith, λ d m p q a u. all_none _ 1)
-
-pub returns-then-not-task_lawful : goal.returns-then-not-task_lawful
-returns-then-not-task_lawful c =
-    λ d m p q a u.
-    let L = c.loop-k in
-    all_fails (task_rule d m) 1 32 L.k c.loop-k-test.true (task_is d m c.args.runs.now c.args.used.now c.args.awake.now c.args.tasks L.k c.task_lawful.result p q a u c.task_lawful.ensures ∙ c.if-not-task_lawful.true)
-
-pub loop-k-preserved : goal.loop-k-preserved
-loop-k-preserved c =
-    let L = c.loop-k in
-    (omega arith, λ d m p q a u. all_next (task_rule d m) 1 L.k (L.invariant.1 d m p q a u) (task_is d m c.args.runs.now c.args.used.now c.args.awake.now c.args.tasks L.k c.task_lawful.result p q a u c.task_lawful.ensures ∙ c.if-not-task_lawful.false))
+pub returns : goal.returns
+returns c =
+    λ d r.
+    let w = c.args.w.now in
+    let m = c.args.m.now in
+    all_from_yields_List (λ k. cond (ltb k w.tasks) (ltb (get_or m.used k 0) (get_or w.runs k 0) && (get_or m.awake k false || eqb (get_or m.used k 0) 0)) (not (get_or m.awake k false) && eqb (get_or m.used k 0) 0)) _ _ c.all.result c.all.ensures.ran (YieldsList-from_range 0 32 32 refl refl) (λ x b q k. search (rules, tests))
+    ∙ all_range (task_rule d m) _ 1 32 (λ k h. sym (task_is d w m r k))

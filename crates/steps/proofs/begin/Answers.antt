@@ -13,7 +13,7 @@ returns c =
     let A = c.args in
     let bits : c.kept_bits.result ≡ cond (holds_on A.p) 63 0 = c.kept_bits.ensures in
     record {
-      started = λ d m n g r p q unused wakes grows h. marks_started d A.rows.now A.h A.w _ c.one.result c.row-into.result c.row-into.ensures c.one.ensures m g r p q h n unused wakes grows c.without.ensures c.with.ensures c.without-2.ensures (λ l. c.union.ensures l ∙ ap (λ b. inside A.w.taken l || b) (c.both.ensures l)) refl;
+      started = λ d m n g r p q unused wakes grows h. marks_started d A.rows.now A.h A.w _ c.one.result c.one.ensures m g r p q h n unused wakes grows c.without.ensures c.with.ensures c.without-2.ensures (λ l. c.union.ensures l ∙ ap (λ b. inside A.w.taken l || b) (c.both.ensures l)) refl;
       then = refl;
       knob = (refl, refl);
       runs = ap (bit_and A.h) bits ∙ kept_number (holds_on A.p) A.h c.requires;

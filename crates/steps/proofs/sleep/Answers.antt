@@ -7,7 +7,7 @@ pub returns : goal.returns
 returns c =
     let A = c.args in
     record {
-      slept = λ d m g r p q unused h. marks_slept d A.rows.now A.h A.w _ c.one.result c.row-into.result c.row-into.ensures c.one.ensures m g r p q h unused c.without.ensures c.without-2.ensures (refl, refl, refl);
+      slept = λ d m g r p q unused h. marks_slept d A.rows.now A.h A.w _ c.one.result c.one.ensures m g r p q h unused c.without.ensures c.without-2.ensures (refl, refl, refl);
       then = refl;
       knob = (refl, refl);
       runs = refl;

@@ -1,4 +1,4 @@
-use Prim.Native.Nat.{ℕ, ◌-◌, ◌≤◌, ◌<◌}
+use Prim.Native.Nat.{ℕ, ◌<◌}
 use mathlib.Core.Path.{◌≡◌}
 use lib.ListN.{get_or, length}
 use Rattle.model.specs.Graph.{link_at}
@@ -7,7 +7,4 @@ use Rattle.wiring.proofs.wiring_of.Given as goal
 
 -- the tables hold the first l links
 abbrev pub invariant-loop-l : goal.invariant-loop-l
-invariant-loop-l l = (l.l ≤ l.d.link_count) × (length l.to ≡ 256) × RowsOf l.d l.l l.rows × ((k : ℕ) → k < l.l → get_or l.to k 0 ≡ (link_at l.d k).to)
-
-abbrev pub decreases-loop-l : goal.decreases-loop-l
-decreases-loop-l l = l.d.link_count - l.l
+invariant-loop-l l = (length l.to ≡ 256) × RowsOf l.fn.d l.l l.rows × ((k : ℕ) → k < l.l → get_or l.to k 0 ≡ (link_at l.fn.d k).to)

@@ -10,8 +10,8 @@ returns c =
     let A = c.args in
     record {
       done = refl;
-      ran = λ d since m g rows s r H. c.pass-words.ensures.passed d c.work-worked.new.used since (worked A.p d A.finish m) g (c.work-worked.ensures.worked_on d since m g rows s r H);
-      goes = λ z r. subst (λ x. Goes A.p x c.work-worked.new.used) (sym c.pass-words.ensures.runs) (c.work-worked.ensures.goes z r);
-      then = c.pass-words.ensures.then ∙ ap (λ k. k + 1) c.work-worked.ensures.then;
-      knob = (c.pass-words.ensures.knob.0 ∙ c.work-worked.ensures.knob.0, c.pass-words.ensures.knob.1 ∙ c.work-worked.ensures.knob.1);
+      ran = λ d since m g rows s r H. c.pass.ensures.passed d c.work-worked.new.used since (worked A.p d A.finish m) g (c.work-worked.ensures.worked_on d since m g rows s r H);
+      goes = λ z r. subst (λ x. Goes A.p x c.work-worked.new.used) (sym c.pass.ensures.runs) (c.work-worked.ensures.goes z r);
+      then = c.pass.ensures.then ∙ ap (λ k. k + 1) c.work-worked.ensures.then;
+      knob = (c.pass.ensures.knob.0 ∙ c.work-worked.ensures.knob.0, c.pass.ensures.knob.1 ∙ c.work-worked.ensures.knob.1);
     }

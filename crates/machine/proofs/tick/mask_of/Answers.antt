@@ -5,4 +5,6 @@ use borrow.Author.Rules.{rules}
 use Rattle.machine.proofs.tick.mask_of.Goals as goal
 
 pub returns : goal.returns
-returns c = let z : length c.args.a.marks ≡ 16 = search rules in (mask_sourced c.word_in.result c.args.a.marks c.word_in.ensures, mask_marks c.word_in.result c.args.a.marks c.word_in.ensures z)
+returns c =
+    let z : length c.args.a.marks ≡ 16 = search rules in
+    (mask_sourced c.marked_from.result c.args.a.marks z c.marked_from.ensures, mask_marks c.marked_from.result c.args.a.marks z c.marked_from.ensures)

@@ -7,7 +7,7 @@ use Rattle.model.specs.Run.{call_of}
 use Rattle.theory.proofs.FileLaws.{knob_known}
 use Rattle.rules.proofs.RuleLaws.{entered}
 use Rattle.machine.proofs.CallLaws.{tick_foreign, lawful_rules, lawful_alone, raised_same}
-use Rattle.machine.proofs.PlanLaws.{tables_of}
+use Rattle.machine.proofs.TableLaws.{tables_of}
 use Rattle.machine.proofs.TickLaws.{packed_tracks, ticked}
 use Rattle.machine.proofs.tick.tick_judged.Goals as goal
 
@@ -26,7 +26,7 @@ advance-done-requires c =
       description = d;
       machine = c.args.m;
       judged = c.requires.judged;
-      tables = tables_of d c.args.w c.args.s c.plan_of-plan.result r c.requires.same_sources c.plan_of-plan.ensures;
+      tables = tables_of d c.args.w c.args.s r c.requires.same_sources;
       tracks = packed_tracks c.args.p d c.args.w.rows c.args.m c.pack-packed.result.words c.pack-packed.result.since r.formed r.rowed (lawful_rules c.args.p d c.args.m l) (lawful_alone c.args.p d c.args.m l) c.pack-packed.ensures;
       keeps = l;
       sourced = c.mask_of.ensures.0;
@@ -39,7 +39,7 @@ returns c =
     λ d r s g e.
     let l = (sym (c.lawful.ensures d r g) ∙ c.if-not-lawful.false) in
     let j = (knob_known d c.args.t e).0 in
-    let T = tables_of d c.args.w c.args.s c.plan_of-plan.result r s c.plan_of-plan.ensures in
+    let T = tables_of d c.args.w c.args.s r s in
     let R = packed_tracks c.args.p d c.args.w.rows c.args.m c.pack-packed.result.words c.pack-packed.result.since r.formed r.rowed (lawful_rules c.args.p d c.args.m l) (lawful_alone c.args.p d c.args.m l) c.pack-packed.ensures in
     let v = c.advance-done in
     let p = plain_call c.args.p d c.args.m (call_of c.mask_of.result c.args.t c.args.finish) in

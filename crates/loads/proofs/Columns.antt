@@ -1,17 +1,17 @@
 -- Columns of loads, filled from the highest task down, and totals. Assumes nothing.
 use Prim.Native.Nat.{ℕ, zero, suc, ◌+◌, ◌-◌, ◌≤◌, ◌<◌}
 use mathlib.Core.Path.{◌≡◌, refl, sym, ap, ◌∙◌}
-use mathlib.Core.Bool.{true, false}
+use mathlib.Core.Bool.{false}
 use mathlib.Core.List.{List, []}
 use native.Mathlib.Omega.{arith}
 use lib.ListN.{length, get_or, set, take, length-set, replicate, get_or-replicate}
 use Rattle.std.proofs.lemmas.List.{get_or-take, length-take-le}
 use lib.Seq.{get_or-set_same, get_or-set_other}
 use lib.Dec.{ltb}
-use borrow.Author.Tests.{lt-ltb, le-ltb}
+use borrow.Author.Tests.{le-ltb}
 use Rattle.model.specs.Basics.{sum_to, top_n, given}
 use Rattle.lemmas.proofs.Tests.{Cmp, less, same, more, cmp}
-use Rattle.lemmas.proofs.Range.{sum_to-le, given_le, any_at, any_none}
+use Rattle.lemmas.proofs.Range.{sum_to-le, given_le, any_none}
 use Rattle.sets.specs.Sets.{member}
 use Rattle.works.specs.Works.{load_by}
 use Rattle.loads.specs.Tables.{Column, held, heavy_by}
@@ -57,10 +57,6 @@ unfolding load_by
 load_under row works n =
     sum_to-le (λ k. given (member row (k - 1)) (get_or works (k - 1) 0)) (λ k. get_or works (k - 1) 0) 1 n
     (λ k p q. given_le (member row (k - 1)) (get_or works (k - 1) 0) (get_or works (k - 1) 0) (λ e. omega arith))
-
-pub heavy_found : (brings works : List ℕ) (n r : ℕ) → r < 48 → 1000000000 < load_by (get_or brings r 0) works n 1 → heavy_by brings works n ≡ true
-unfolding heavy_by
-heavy_found brings works n r p h = any_at (λ r. ltb 1000000000 (load_by (get_or brings r 0) works n 1)) 0 48 r (omega arith) (omega arith) (lt-ltb _ _ h)
 
 pub heavy_none : (brings works : List ℕ) (n : ℕ) → ((r : ℕ) → r < 48 → load_by (get_or brings r 0) works n 1 ≤ 1000000000) → heavy_by brings works n ≡ false
 unfolding heavy_by

@@ -58,7 +58,8 @@ fn narrower(best: u64, counts: bool, gap: u64) -> u64
     if counts { best.min(gap) } else { best }
 }
 
-// The narrowest spacing of the sources in a set, of the first m; 2,000,000,000 where there is none.
+// The narrowest spacing of the sources in a set, of the first m; 2,000,000,000 where there is none. A number above every spacing keeps the least a
+// plain minimum, and an Option would only be asked the same question.
 fn narrowest(set: u64, gaps: &[u32; 16], m: usize) -> u64
     requires { m ≤ 16 }
     ensures { NarrowestIn set gaps.now m result }

@@ -10,7 +10,7 @@ ghost use Rattle.works.specs.Works.{Ready, SetMemo, WorkMemo, WorkIs, AddedIs, W
 use sets::{Set, below, first, has, rest};
 
 // The tasks that node i brings in: those it has links to and, of what each of these brings in, the tasks below it. The sets of these come
-// from the memo, or are found in turn.
+// from the memo, or are found in turn. An entry of 0 is not found yet: fixed memory, and an Option beside each word would double it.
 fn brought(succ: &[u64; 48], n: usize, i: usize, brings: &mut [u64; 48]) -> u64
     requires { (n ≤ 32) × (cyclic (graph succ.now [] n) ≡ false) × NodeOf i × SetMemo succ.now n brings.old }
     ensures { Brought succ.now n i result × SetMemo succ.now n brings.new }
@@ -18,6 +18,7 @@ fn brought(succ: &[u64; 48], n: usize, i: usize, brings: &mut [u64; 48]) -> u64
     let links = below(succ[i - 1], n);
     let mut set = links;
     let mut left = links;
+    // The members of a set of bits, the least first: an iterator over them would be these two calls in a type of its own.
     while 0 < left {
         let k = first(left);
         let mut through = brings[k];

@@ -2,7 +2,7 @@
 // preemptive model and one for the hold-on model; the MIDI clock is the same on both.
 #![tactic(auto)]
 
-ghost use Rattle.std.specs.Prelude.{◌≡◌, ◌≤◌};
+ghost use Rattle.std.specs.Prelude.{◌≡◌, ◌≤◌, pos, neg_ℤ};
 ghost use Rattle.model.specs.declared.Policy.TheVariants.{Preemptive, HoldOn};
 ghost use Rattle.model.specs.Refusals.{refusal};
 ghost use Rattle.library.specs.Replies.{reply, ReportReplied, QuoteReplied, RunReplied, ClockReplied};
@@ -14,13 +14,20 @@ use refusals::number_of;
 use spacings::on_knob;
 use ticks::run_accepted;
 
+// x below 0.
+fn negative(x: u32) -> i64
+    ensures { result ≡ neg_ℤ (pos x) }
+{
+    -i64::from(x)
+}
+
 // A refusal's number and place in one number, below 0.
 fn refusal_code(rejection: Rejection) -> i64
     requires { rejection.place ≤ 2128 }
     ensures { result ≡ reply (refusal rejection.why rejection.place) }
 {
     let number = number_of(rejection.why);
-    -i64::from((10000 * number + rejection.place) as u32)
+    negative((10000 * number + rejection.place) as u32)
 }
 
 // The report of a file into a buffer, on one model: its length, or the refusal 13 and no byte changed.

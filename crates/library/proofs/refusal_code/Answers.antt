@@ -8,4 +8,4 @@ use mir.ValLaws.{to_z-of_z}
 use Rattle.library.proofs.refusal_code.Goals as goal
 
 pub returns : goal.returns
-returns c = to_z-of_z w64 c.negative.result (record { sfits = c.negative.type_inv }) ∙ c.negative.ensures ∙ ap (λ (n : ℕ). neg_ℤ (pos (10000 * n + c.args.place))) c.number_of-number.ensures ∙ reply_refused c.args.why c.args.place
+returns c = to_z-of_z w64 c.negative.result (record { sfits = c.negative.type_inv }) ∙ c.negative.ensures ∙ ap (λ (n : ℕ). neg_ℤ (pos (10000 * n + c.args.rejection.place))) c.number_of-number.ensures ∙ reply_refused c.args.rejection.why c.args.rejection.place

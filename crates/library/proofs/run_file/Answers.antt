@@ -21,13 +21,13 @@ pub returns-then-state-lt-RECORD : goal.returns-then-state-lt-RECORD
 returns-then-state-lt-RECORD c =
     let a = c.args in
     let y = run_refused a.file.now c.read-read.result c.read-read.ensures a.calls.now a.outcomes.now a.state.now a.p (read_file a.file.now).description ShortPage 0 (run_short_record a.file.now c.read-read.result c.read-read.ensures a.calls.now a.outcomes.now a.state.now c.in_default.is c.if-state-lt-RECORD.true) in
-    record { answer = to_z-of_z w64 c.refusal_code-then-state-lt-RECORD.result (record { sfits = c.refusal_code-then-state-lt-RECORD.type_inv }) ∙ c.refusal_code-then-state-lt-RECORD.ensures ∙ y.0; codes = y.1; bytes = y.2 }
+    record { answer = to_z-of_z w64 c.refusal_code-then-state-lt-RECORD.result (record { sfits = c.refusal_code-then-state-lt-RECORD.type_inv }) ∙ rw c.at.ensures at c.refusal_code-then-state-lt-RECORD.ensures ∙ y.0; codes = y.1; bytes = y.2 }
 
 pub returns-then-outcomes-calls : goal.returns-then-outcomes-calls
 returns-then-outcomes-calls c =
     let a = c.args in
     let y = run_refused a.file.now c.read-read.result c.read-read.ensures a.calls.now a.outcomes.now a.state.now a.p (read_file a.file.now).description ShortPage 0 (run_short_codes a.file.now c.read-read.result c.read-read.ensures a.calls.now a.outcomes.now a.state.now c.in_default.is c.if-state-lt-RECORD.false c.if-outcomes-calls.true) in
-    record { answer = to_z-of_z w64 c.refusal_code-then-outcomes-calls.result (record { sfits = c.refusal_code-then-outcomes-calls.type_inv }) ∙ c.refusal_code-then-outcomes-calls.ensures ∙ y.0; codes = y.1; bytes = y.2 }
+    record { answer = to_z-of_z w64 c.refusal_code-then-outcomes-calls.result (record { sfits = c.refusal_code-then-outcomes-calls.type_inv }) ∙ rw c.at-then-outcomes-calls.ensures at c.refusal_code-then-outcomes-calls.ensures ∙ y.0; codes = y.1; bytes = y.2 }
 
 pub run_accepted-ran-requires : goal.run_accepted-ran-requires
 run_accepted-ran-requires c = let a = c.args in read_done a.file.now c.read-read.result c.read-read.ensures (λ i. search rules) c.in_default.is

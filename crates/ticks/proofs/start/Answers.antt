@@ -16,4 +16,5 @@ gaps_of-longest-requires c = (judge_well_formed c.args.d (typed_widths c.args.d 
 pub returns : goal.returns
 returns c =
     let d = c.args.d in
-    start_done d _ (sym c.judge.ensures ∙ c.in_default.is) (idle_aged d c.gaps_of-longest.result c.since_of-since.result c.ages_of-ages.result (judge_well_formed c.args.d (typed_widths c.args.d _ c.well_formed.0) (sym c.judge.ensures ∙ c.in_default.is)) c.gaps_of-longest.ensures c.since_of-since.ensures c.ages_of-ages.ensures)
+    rw c.blank_machine.ensures
+    (start_done d _ (sym c.judge.ensures ∙ c.in_default.is) (idle_aged d c.gaps_of-longest.result c.since_of-since.result c.ages_of-ages.result (judge_well_formed c.args.d (typed_widths c.args.d _ c.well_formed.0) (sym c.judge.ensures ∙ c.in_default.is)) c.gaps_of-longest.ensures c.since_of-since.ensures c.ages_of-ages.ensures))

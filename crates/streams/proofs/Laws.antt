@@ -53,30 +53,30 @@ module _ (P : Option ℕ → Type 0) (size : ℕ) (all : P (Some size)) where
       go true q = rw q (ltb-true done size q)
       go false q = let e : size ≡ done = omega (arith, ltb-false done size q) in rw q (rw e at all)
 
-  pub after_stands : P None → (done spare : ℕ) (answer : Answer) (none : Option ℕ) → P none → done < size → Bounded (size - done) answer → Stands P size (after_call size done spare answer none)
-  after_stands f done spare (Bytes n) none p h b = go (eqb n 0) refl
+  pub after_stands : P None → (done spare : ℕ) (answer : Answer) (end : Option ℕ) → P end → done < size → Bounded (size - done) answer → Stands P size (after_call size done spare answer end)
+  after_stands f done spare (Bytes n) end p h b = go (eqb n 0) refl
     where
-      go : (t : Bool) → eqb n 0 ≡ t → Stands P size (after_call size done spare (Bytes n) none)
+      go : (t : Bool) → eqb n 0 ≡ t → Stands P size (after_call size done spare (Bytes n) end)
       go true q = rw q p
       go false q = rw q (standing_stands (done + n) spare (omega arith))
-  after_stands f done spare Interrupted none p h b = go (ltb 0 spare) refl
+  after_stands f done spare Interrupted end p h b = go (ltb 0 spare) refl
     where
       go : (t : Bool) → ltb 0 spare ≡ t → Stands P size (interrupted_at done spare)
       go true q = rw q h
       go false q = rw q f
-  after_stands f done spare Error none p h b = f
+  after_stands f done spare Error end p h b = f
 
 -- A call leaves less to do.
-pub after_less : (size done spare : ℕ) (answer : Answer) (none : Option ℕ) → done < size → Bounded (size - done) answer → left size (after_call size done spare answer none) < left size (Going done spare)
-after_less size done spare (Bytes n) none h b = go (eqb n 0) refl (ltb (done + n) size) refl
+pub after_less : (size done spare : ℕ) (answer : Answer) (end : Option ℕ) → done < size → Bounded (size - done) answer → left size (after_call size done spare answer end) < left size (Going done spare)
+after_less size done spare (Bytes n) end h b = go (eqb n 0) refl (ltb (done + n) size) refl
   where
-    go : (t : Bool) → eqb n 0 ≡ t → (u : Bool) → ltb (done + n) size ≡ u → left size (after_call size done spare (Bytes n) none) < left size (Going done spare)
+    go : (t : Bool) → eqb n 0 ≡ t → (u : Bool) → ltb (done + n) size ≡ u → left size (after_call size done spare (Bytes n) end) < left size (Going done spare)
     go true q u r = rw q (omega arith)
     go false q true r = let x = eqb-false n 0 q in rw (q, r) (omega (arith, ltb-true (done + n) size r))
     go false q false r = rw (q, r) (omega arith)
-after_less size done spare Interrupted none h b = go (ltb 0 spare) refl
+after_less size done spare Interrupted end h b = go (ltb 0 spare) refl
   where
     go : (t : Bool) → ltb 0 spare ≡ t → left size (interrupted_at done spare) < left size (Going done spare)
     go true q = rw q (omega (arith, ltb-true 0 spare q))
     go false q = rw q (omega arith)
-after_less size done spare Error none h b = omega arith
+after_less size done spare Error end h b = omega arith

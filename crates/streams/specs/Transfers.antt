@@ -29,9 +29,9 @@ interrupted_at done spare = cond (ltb 0 spare) (Going done (spare - 1)) (Ended N
 
 -- An error ends the transfer as failed, whatever was moved before.
 abbrev pub after_call : ℕ → ℕ → ℕ → Answer → Option ℕ → Progress
-after_call size done spare (Bytes n) none = cond (eqb n 0) (Ended none) (standing_at size (done + n) spare)
-after_call size done spare Interrupted none = interrupted_at done spare
-after_call size done spare Error none = Ended None
+after_call size done spare (Bytes n) end = cond (eqb n 0) (Ended end) (standing_at size (done + n) spare)
+after_call size done spare Interrupted end = interrupted_at done spare
+after_call size done spare Error end = Ended None
 
 -- A read that moved no byte has met the end of the input.
 abbrev pub after_read : ℕ → ℕ → ℕ → Answer → Progress

@@ -61,15 +61,15 @@ fn told(got: io::Result<usize>) -> Answer
     }
 }
 
-// Where a transfer stands after a call; `none` is how it ends if the call moved no byte.
-fn after(size: usize, done: usize, spare: u64, answer: Answer, none: Option<usize>) -> Progress
+// Where a transfer stands after a call; `end` is how it ends if the call moved no byte.
+fn after(size: usize, done: usize, spare: u64, answer: Answer, end: Option<usize>) -> Progress
     requires { (done ≤ size) × Bounded (size - done) answer }
-    ensures { result ≡ after_call size done spare answer none }
+    ensures { result ≡ after_call size done spare answer end }
 {
     match answer {
         Answer::Bytes(count) => {
             if count == 0 {
-                Progress::Ended(none)
+                Progress::Ended(end)
             } else {
                 standing(size, done + count, spare)
             }

@@ -2,7 +2,8 @@
 use Prim.Native.Nat.{ℕ, ◌+◌}
 use mathlib.Core.Path.{◌≡◌, refl, ◌∙◌}
 use mathlib.Core.List.{List, [], ◌∷◌, ◌++◌, append_assoc}
-use lib.ListN.{length}
+use native.Mathlib.Omega.{arith}
+use lib.ListN.{length, length-append}
 use Rattle.model.specs.Basics.{sum_n, joined}
 use Rattle.model.specs.Report.{digits, decimal, tempo_text}
 use Rattle.model.specs.Verdicts.{tempos}
@@ -19,6 +20,9 @@ spacing_text x = (32 ∷ []) ++ decimal x
 pub line_parts : (t : ℕ) → clock_line t ≡ tempo_text t ++ (spacing_text (clock_spacing t) ++ feed)
 unfolding clock_line
 line_parts t = simp append_assoc
+
+pub line_length : (t : ℕ) → length (clock_line t) ≡ 2 + length (tempo_text t) + length (decimal (clock_spacing t))
+line_length t = rw (line_parts t) (simp length-append (omega arith))
 
 -- its first k lines
 abbrev pub lines_to : ℕ → List ℕ

@@ -1,26 +1,27 @@
 // The list of the MIDI clock's spacings that players look up: a line for each tempo.
 #![tactic(auto)]
 
-ghost use Rattle.std.specs.Prelude.{◌≡◌, ◌+◌, ◌≤◌, length};
+ghost use Rattle.std.specs.Prelude.{◌≡◌, ◌≤◌, length};
 ghost use Rattle.model.specs.Clock.{clock_line, clock_list, clock_length};
-ghost use Rattle.text.specs.Page.{Put};
+ghost use Rattle.text.specs.Page.{HasRoom, Gains, IsInPlace};
 
 use clock_table::clock_spacing;
 use lines::put_tempo;
-use text::{put_byte, put_numbered};
+use text::Page;
 
 // The length of the list in bytes.
 pub const LENGTH: usize = 32363;
 
 // `120.0 20833`.
-fn clock_line(page: &mut [u8], at: usize, t: u32) -> usize
-    requires { (200 ≤ t) × (t ≤ 3000) × (at + length (clock_line t) ≤ length page.old) }
-    ensures { Put page.old at (clock_line t) page.new result }
+#[tactic(auto, using(crate::proofs::ListLaws::line_length))]
+fn clock_line(page: &mut Page, t: u32)
+    requires { (200 ≤ t) × (t ≤ 3000) × HasRoom page.old (clock_line t) }
+    ensures in_place { IsInPlace page.old page.new }
+    ensures text { Gains page.old (clock_line t) page.new }
 {
-    let tempo = put_tempo(&mut *page, at, t);
-    let ticks = clock_spacing(t);
-    let spacing = put_numbered(&mut *page, tempo, b" ", ticks as usize);
-    put_byte(&mut *page, spacing, b'\n')
+    put_tempo(page, t);
+    page.numbered(b" ", clock_spacing(t) as usize);
+    page.byte(b'\n');
 }
 
 // The list fills a page of its length.
@@ -28,10 +29,11 @@ pub fn put_list(page: &mut [u8])
     requires { length page.old ≡ clock_length }
     ensures { page.new ≡ clock_list }
 {
-    let mut end: usize = 0;
-    let mut k: u32 = 0;
-    while k < 2801 {
-        end = clock_line(&mut *page, end, 200 + k);
-        k += 1;
+    let mut page = Page {
+        bytes: page,
+        end: 0,
+    };
+    for t in 200..3001 {
+        clock_line(&mut page, t);
     }
 }

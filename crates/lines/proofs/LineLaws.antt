@@ -18,20 +18,17 @@ use Rattle.text.proofs.Digits.{decimal_one}
 abbrev pub feed : List ℕ
 feed = 10 ∷ []
 
--- the tempo in whole beats, and its tenth
-abbrev pub whole_text : ℕ → List ℕ
-whole_text t = w_tempo ++ decimal (t / 10)
-
+-- a tempo's tenth, with the point before it
 abbrev pub tenth_text : ℕ → List ℕ
 tenth_text t = (46 ∷ []) ++ decimal (t % 10)
 
-pub tempo_text-parts : (t : ℕ) → tempo_text t ≡ decimal (t / 10) ++ tenth_text t
+pub tempo_text_parts : (t : ℕ) → tempo_text t ≡ decimal (t / 10) ++ tenth_text t
 unfolding tempo_text
-tempo_text-parts t = rw (decimal_one (t % 10) (omega arith))
+tempo_text_parts t = rw (decimal_one (t % 10) (omega arith))
 
-pub tempo_parts : (t : ℕ) → tempo_line (Ok t) ≡ whole_text t ++ (tenth_text t ++ feed)
-unfolding tempo_line tempo_text
-tempo_parts t = rw (decimal_one (t % 10) (omega arith)) (simp append_assoc)
+pub tempo_parts : (t : ℕ) → tempo_line (Ok t) ≡ w_tempo ++ (tempo_text t ++ feed)
+unfolding tempo_line
+tempo_parts t = simp append_assoc
 
 -- a held link's delay, and a link's spacing
 abbrev pub delay_text : ℕ → List ℕ
@@ -73,9 +70,14 @@ pub refused_parts : (r : Refusal) (x place : ℕ) → x ≡ number_of r → refu
 unfolding refused_line
 refused_parts r x place e = rw e (simp append_assoc)
 
+pub tempo_text_length : (t : ℕ) → length (tempo_text t) ≡ length (decimal (t / 10)) + 1 + length (decimal (t % 10))
+tempo_text_length t = rw (tempo_text_parts t) (simp length-append (omega arith))
+
+pub tempo_line_length : (t : ℕ) → length (tempo_line (Ok t)) ≡ 7 + length (tempo_text t)
+tempo_line_length t = rw (tempo_parts t) (simp length-append (omega arith))
+
 pub tempo_length : (t : ℕ) → length (tempo_line (Ok t)) ≡ 9 + length (decimal (t / 10))
-tempo_length t =
-    rw (tempo_parts t) (simp length-append (omega (arith, ap length (decimal_one (t % 10) (omega arith)))))
+tempo_length t = omega (arith, tempo_line_length t, tempo_text_length t, ap length (decimal_one (t % 10) (omega arith)))
 
 pub held_length : (d m : ℕ) → length (verdict_text (Held d m)) ≡ 10 + length (decimal d) + length (decimal m)
 held_length d m = rw (held_parts d m) (simp length-append (omega arith))

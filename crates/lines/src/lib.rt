@@ -1,85 +1,95 @@
 // The lines of a report: the model, the tempo, the verdict on a link, a refusal.
 #![tactic(auto)]
 
-ghost use Rattle.std.specs.Prelude.{◌+◌, ◌<◌, ◌≤◌, length};
+ghost use Rattle.std.specs.Prelude.{◌<◌};
 ghost use Rattle.model.specs.Report.{policy_line, tempo_text, tempo_line, verdict_text, link_line, refused_line};
-ghost use Rattle.text.specs.Page.{Put};
+ghost use Rattle.text.specs.Page.{HasRoom, Gains, IsInPlace};
 
 use model::{Link, Policy, Rejection, Verdict};
 use refusals::number_of;
-use text::{put_byte, put_decimal, put_numbered, put_word};
+use text::Page;
 
 // `hold`, or no line.
-pub fn policy_line(page: &mut [u8], at: usize, p: Policy) -> usize
-    requires { at + length (policy_line p) ≤ length page.old }
-    ensures { Put page.old at (policy_line p) page.new result }
+pub fn policy_line(page: &mut Page, p: Policy)
+    requires { HasRoom page.old (policy_line p) }
+    ensures in_place { IsInPlace page.old page.new }
+    ensures text { Gains page.old (policy_line p) page.new }
 {
     match p {
-        Policy::Preemptive => at,
-        Policy::HoldOn => put_word(page, at, b"hold\n"),
+        Policy::Preemptive => {}
+        Policy::HoldOn => page.word(b"hold\n"),
     }
 }
 
 // `178.3`: tenths of a beat per minute.
-pub fn put_tempo(page: &mut [u8], at: usize, t: u32) -> usize
-    requires { at + length (tempo_text t) ≤ length page.old }
-    ensures { Put page.old at (tempo_text t) page.new result }
+#[tactic(auto, using(crate::proofs::LineLaws::tempo_text_length))]
+pub fn put_tempo(page: &mut Page, t: u32)
+    requires { HasRoom page.old (tempo_text t) }
+    ensures in_place { IsInPlace page.old page.new }
+    ensures text { Gains page.old (tempo_text t) page.new }
 {
-    let whole = put_decimal(page, at, (t / 10) as usize);
-    put_numbered(page, whole, b".", (t % 10) as usize)
+    page.decimal((t / 10) as usize);
+    page.numbered(b".", (t % 10) as usize);
 }
 
 // `tempo 178.3`, or `tempo none`.
-pub fn tempo_line(page: &mut [u8], at: usize, q: Result<u32, Rejection>) -> usize
-    requires { at + length (tempo_line q) ≤ length page.old }
-    ensures { Put page.old at (tempo_line q) page.new result }
+#[tactic(auto, using(crate::proofs::LineLaws::tempo_line_length), unfolding(model::specs::Report::tempo_line))]
+pub fn tempo_line(page: &mut Page, q: Result<u32, Rejection>)
+    requires { HasRoom page.old (tempo_line q) }
+    ensures in_place { IsInPlace page.old page.new }
+    ensures text { Gains page.old (tempo_line q) page.new }
 {
     match q {
         Ok(t) => {
-            let whole = put_numbered(page, at, b"tempo ", (t / 10) as usize);
-            let tenth = put_numbered(page, whole, b".", (t % 10) as usize);
-            put_byte(page, tenth, b'\n')
+            page.word(b"tempo ");
+            put_tempo(page, t);
+            page.byte(b'\n');
         }
-        Err(_) => put_word(page, at, b"tempo none\n"),
+        Err(_) => page.word(b"tempo none\n"),
     }
 }
 
 // `free`, `held order`, `doubt order`, `held 700 of 701`, `doubt of 700`.
-fn put_verdict(page: &mut [u8], at: usize, v: Verdict) -> usize
-    requires { at + length (verdict_text v) ≤ length page.old }
-    ensures { Put page.old at (verdict_text v) page.new result }
+#[tactic(auto, using(crate::proofs::LineLaws::held_length), unfolding(model::specs::Report::verdict_text))]
+fn put_verdict(page: &mut Page, v: Verdict)
+    requires { HasRoom page.old (verdict_text v) }
+    ensures in_place { IsInPlace page.old page.new }
+    ensures text { Gains page.old (verdict_text v) page.new }
 {
     match v {
-        Verdict::Free => put_word(page, at, b" free"),
-        Verdict::HeldOrder => put_word(page, at, b" held order"),
-        Verdict::DoubtOrder => put_word(page, at, b" doubt order"),
+        Verdict::Free => page.word(b" free"),
+        Verdict::HeldOrder => page.word(b" held order"),
+        Verdict::DoubtOrder => page.word(b" doubt order"),
         Verdict::Held(delay, spacing) => {
-            let held = put_numbered(page, at, b" held ", delay as usize);
-            put_numbered(page, held, b" of ", spacing as usize)
+            page.numbered(b" held ", delay as usize);
+            page.numbered(b" of ", spacing as usize);
         }
-        Verdict::Doubt(spacing) => put_numbered(page, at, b" doubt of ", spacing as usize),
+        Verdict::Doubt(spacing) => page.numbered(b" doubt of ", spacing as usize),
     }
 }
 
 // `link 3 33>2 held 700 of 701`, for the link at place l, counted from 0.
-pub fn link_line(page: &mut [u8], at: usize, l: usize, e: Link, v: Verdict) -> usize
-    requires { (l < 256) × (at + length (link_line l e v) ≤ length page.old) }
-    ensures { Put page.old at (link_line l e v) page.new result }
+#[tactic(auto, using(crate::proofs::LineLaws::link_length))]
+pub fn link_line(page: &mut Page, l: usize, e: Link, v: Verdict)
+    requires { (l < 256) × HasRoom page.old (link_line l e v) }
+    ensures in_place { IsInPlace page.old page.new }
+    ensures text { Gains page.old (link_line l e v) page.new }
 {
-    let place = put_numbered(page, at, b"link ", l + 1);
-    let from = put_numbered(page, place, b" ", e.from as usize);
-    let to = put_numbered(page, from, b">", e.to as usize);
-    let verdict = put_verdict(page, to, v);
-    put_byte(page, verdict, b'\n')
+    page.numbered(b"link ", l + 1);
+    page.numbered(b" ", usize::from(e.from));
+    page.numbered(b">", usize::from(e.to));
+    put_verdict(page, v);
+    page.byte(b'\n');
 }
 
 // `refused 4 at 26`.
-pub fn refused_line(page: &mut [u8], at: usize, rejection: Rejection) -> usize
-    requires { at + length (refused_line rejection.why rejection.place) ≤ length page.old }
-    ensures { Put page.old at (refused_line rejection.why rejection.place) page.new result }
+#[tactic(auto, using(crate::proofs::LineLaws::refused_length))]
+pub fn refused_line(page: &mut Page, rejection: Rejection)
+    requires { HasRoom page.old (refused_line rejection.why rejection.place) }
+    ensures in_place { IsInPlace page.old page.new }
+    ensures text { Gains page.old (refused_line rejection.why rejection.place) page.new }
 {
-    let number = number_of(rejection.why);
-    let given = put_numbered(page, at, b"refused ", number);
-    let end = put_numbered(page, given, b" at ", rejection.place);
-    put_byte(page, end, b'\n')
+    page.numbered(b"refused ", number_of(rejection.why));
+    page.numbered(b" at ", rejection.place);
+    page.byte(b'\n');
 }

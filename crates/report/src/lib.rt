@@ -5,13 +5,13 @@ ghost use Rattle.std.specs.Prelude.{◌≡◌, ◌+◌, ◌≤◌, length, take}
 ghost use Rattle.model.specs.Report.{shown_tempo, plain_report, report_of, reported, page_reported};
 ghost use Rattle.report.specs.Listing.{listing};
 ghost use Rattle.report.specs.Longest.{longest_plain, longest_report};
-ghost use Rattle.text.specs.Page.{Put};
+ghost use Rattle.text.specs.Page.{Put, HasRoom, Gains, IsInPlace};
 
 use lines::{link_line, policy_line, refused_line, tempo_line};
 use model::{Description, Policy, Rejection, VerdictSlot};
 use quotes::quote_by;
 use spacings::gaps_by;
-use text::copy_out;
+use text::{Page, copy_out};
 use verdicts::slots::slots_at;
 use verdicts::tables_of;
 
@@ -19,15 +19,14 @@ use verdicts::tables_of;
 pub const LONGEST: usize = 11173;
 
 // A line for each link, with its verdict.
-fn link_lines(page: &mut [u8], at: usize, d: Description, slots: [VerdictSlot; 256]) -> usize
-    requires { (d.link_count ≤ 256) × (at + length (listing d slots d.link_count) ≤ length page.old) }
-    ensures { Put page.old at (listing d slots d.link_count) page.new result }
+fn link_lines(page: &mut Page, d: Description, slots: [VerdictSlot; 256])
+    requires { (d.link_count ≤ 256) × HasRoom page.old (listing d slots d.link_count) }
+    ensures in_place { IsInPlace page.old page.new }
+    ensures text { Gains page.old (listing d slots d.link_count) page.new }
 {
-    let mut end = at;
     for (l, link) in d.links[..d.link_count].iter().enumerate() {
-        end = link_line(page, end, l, *link, slots[l].verdict);
+        link_line(page, l, *link, slots[l].verdict);
     }
-    end
 }
 
 // The tempo that verdicts are shown at: the quoted one, or 20.0 where there is none.
@@ -37,22 +36,23 @@ fn shown_tempo(q: Result<u32, Rejection>) -> u32
     q.unwrap_or(200)
 }
 
-// The lines of a file's report but that of the model, from a place of the page on.
-fn put_plain(p: Policy, file: &[u8], page: &mut [u8], at: usize) -> usize
-    requires { at + longest_plain ≤ length page.old }
-    ensures { Put page.old at (plain_report p file.now) page.new result }
+// The lines of a file's report but that of the model.
+fn put_plain(p: Policy, file: &[u8], page: &mut Page)
+    requires { page.old.end + longest_plain ≤ length page.old.bytes.now }
+    ensures in_place { IsInPlace page.old page.new }
+    ensures text { Gains page.old (plain_report p file.now) page.new }
 {
     let judged = match files::examine(file) {
         Ok(judged) => judged,
-        Err(rejection) => return refused_line(page, at, rejection),
+        Err(rejection) => return refused_line(page, rejection),
     };
     let d = judged.description;
     let t = tables_of(p, d, &judged.worked.brings, &judged.worked.works);
     let quote = quote_by(&t);
     let gaps = gaps_by(&t.sources, shown_tempo(quote));
     let slots = slots_at(d, &t, &gaps);
-    let behind = tempo_line(page, at, quote);
-    link_lines(page, behind, d, slots)
+    tempo_line(page, quote);
+    link_lines(page, d, slots);
 }
 
 // The report of a file on a page that takes the longest one.
@@ -60,8 +60,13 @@ fn put_report(p: Policy, file: &[u8], page: &mut [u8]) -> usize
     requires { longest_report ≤ length page.old }
     ensures { Put page.old 0 (report_of p file.now) page.new result }
 {
-    let at = policy_line(page, 0, p);
-    put_plain(p, file, page, at)
+    let mut page = Page {
+        bytes: page,
+        end: 0,
+    };
+    policy_line(&mut page, p);
+    put_plain(p, file, &mut page);
+    page.end
 }
 
 // The report of a file into a lent buffer: all of it, or not one byte where the buffer is shorter.

@@ -1,9 +1,9 @@
 -- Texts on a page, one after the other. Assumes nothing.
-use Prim.Native.Nat.{ℕ, ◌+◌, ◌≤◌, ◌<◌}
+use Prim.Native.Nat.{ℕ}
 use mathlib.Core.Path.{◌≡◌, refl, sym, ap, ◌∙◌}
-use mathlib.Core.List.{List, [], ◌∷◌, ◌++◌, append_assoc, append-nil}
+use mathlib.Core.List.{List, [], ◌++◌, append_assoc, append-nil}
 use native.Mathlib.Omega.{arith}
-use lib.ListN.{length, take, length-append}
+use lib.ListN.{take, length-append}
 use Rattle.text.specs.Page.{Put}
 
 -- no text
@@ -22,12 +22,6 @@ put_then {a} {b} {c} {at} {mid} {end} t u p q = record {
 pub put_same : {a b : List ℕ} {at end : ℕ} (t u : List ℕ) → t ≡ u → Put a at t b end → Put a at u b end
 put_same t u e p = rw (← e) p
 
--- where there is room for two texts there is room for the first, and behind it for the second
-pub room_first : (a : List ℕ) (at : ℕ) (t u : List ℕ) → at + length (t ++ u) ≤ length a → at + length t ≤ length a
-room_first a at t u h = omega (arith, length-append t u)
-
-pub room_then : {a b : List ℕ} {at mid : ℕ} (t u : List ℕ) → Put a at t b mid → at + length (t ++ u) ≤ length a → mid + length u ≤ length b
-room_then t u p h = omega (arith, length-append t u, p.put_end, p.put_size)
-
-pub room_byte : (a : List ℕ) (at b : ℕ) → at + length (b ∷ []) ≤ length a → at < length a
-room_byte a at b h = omega arith
+-- and the lent bytes once the page is done with
+pub put_lent : {a b b' : List ℕ} {at end : ℕ} {t : List ℕ} → b' ≡ b → Put a at t b end → Put a at t b' end
+put_lent e p = rw e p

@@ -1,51 +1,63 @@
 // Text on a page: bytes, words and decimal numbers written one after the other, and a whole page copied out.
 #![tactic(auto)]
 
-ghost use Rattle.std.specs.Prelude.{◌∷◌, [], ◌++◌, ◌≡◌, ◌+◌, ◌<◌, ◌≤◌, length, take};
+ghost use Rattle.std.specs.Prelude.{◌∷◌, [], ◌++◌, ◌≡◌, ◌≤◌, length, take};
 ghost use Rattle.model.specs.File.{fill_with, filled_by};
 ghost use Rattle.model.specs.Report.{decimal};
-ghost use Rattle.text.specs.Page.{Put};
+ghost use Rattle.text.specs.Page.{HasRoom, Gains, IsInPlace};
 
 use model::{Refusal, Rejection};
 
-// One byte more on the page.
-pub fn put_byte(page: &mut [u8], at: usize, b: u8) -> usize
-    requires { at < length page.old }
-    ensures { Put page.old at (b ∷ []) page.new result }
-{
-    page[at] = b;
-    at + 1
+// A page that is written from its front on: its bytes, and where the next one goes.
+#[derive(Drop)]
+pub struct Page<'a> {
+    pub bytes: &'a mut [u8],
+    pub end: usize,
 }
 
-// The decimal digits of n.
-pub fn put_decimal(page: &mut [u8], at: usize, n: usize) -> usize
-    requires { at + length (decimal n) ≤ length page.old }
-    ensures { Put page.old at (decimal n) page.new result }
-{
-    let mut p = at;
-    if 10 <= n {
-        p = put_decimal(page, at, n / 10);
+impl Page<'_> {
+    // One byte more.
+    pub fn byte(&mut self, b: u8)
+        requires { HasRoom self.old (b ∷ []) }
+        ensures in_place { IsInPlace self.old self.new }
+        ensures text { Gains self.old (b ∷ []) self.new }
+    {
+        self.bytes[self.end] = b;
+        self.end += 1;
     }
-    put_byte(page, p, b'0' + (n % 10) as u8)
-}
 
-// A word.
-pub fn put_word(page: &mut [u8], at: usize, word: &[u8]) -> usize
-    requires { at + length word.now ≤ length page.old }
-    ensures { Put page.old at word.now page.new result }
-{
-    let end = at + word.len();
-    page[at..end].copy_from_slice(word);
-    end
-}
+    // A word.
+    pub fn word(&mut self, word: &[u8])
+        requires { HasRoom self.old word.now }
+        ensures in_place { IsInPlace self.old self.new }
+        ensures text { Gains self.old word.now self.new }
+    {
+        let end = self.end + word.len();
+        self.bytes[self.end..end].copy_from_slice(word);
+        self.end = end;
+    }
 
-// A word and a number behind it.
-pub fn put_numbered(page: &mut [u8], at: usize, word: &[u8], n: usize) -> usize
-    requires { at + length (word.now ++ decimal n) ≤ length page.old }
-    ensures { Put page.old at (word.now ++ decimal n) page.new result }
-{
-    let behind = put_word(page, at, word);
-    put_decimal(page, behind, n)
+    // The decimal digits of n.
+    pub fn decimal(&mut self, n: usize)
+        requires { HasRoom self.old (decimal n) }
+        ensures in_place { IsInPlace self.old self.new }
+        ensures text { Gains self.old (decimal n) self.new }
+    {
+        if 10 <= n {
+            self.decimal(n / 10);
+        }
+        self.byte(b'0' + (n % 10) as u8);
+    }
+
+    // A word and a number behind it.
+    pub fn numbered(&mut self, word: &[u8], n: usize)
+        requires { HasRoom self.old (word.now ++ decimal n) }
+        ensures in_place { IsInPlace self.old self.new }
+        ensures text { Gains self.old (word.now ++ decimal n) self.new }
+    {
+        self.word(word);
+        self.decimal(n);
+    }
 }
 
 // The first n bytes of a page into a lent buffer: all of them, or not one byte where the buffer is shorter.

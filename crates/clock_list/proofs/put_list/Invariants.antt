@@ -1,12 +1,8 @@
--- `clock_list::put_list` meets its contract. The loop's invariant: the first k lines stand on the page. The measure is the number of lines left. Assumes nothing.
-use Prim.Native.Nat.{◌-◌, ◌≤◌}
-use Rattle.model.specs.Verdicts.{tempos}
-use Rattle.text.specs.Page.{Put}
+-- The loop's invariant of `clock_list::put_list`: the lines of the tempos below t stand on the page. Assumes nothing.
+use Prim.Native.Nat.{◌-◌}
+use Rattle.text.specs.Page.{Gains, IsInPlace}
 use Rattle.clock_list.proofs.ListLaws.{lines_to}
 use Rattle.clock_list.proofs.put_list.Given as goal
 
-abbrev pub invariant-loop-k : goal.invariant-loop-k
-invariant-loop-k l = (l.k ≤ tempos) × Put l.initial.page 0 (lines_to l.k) l.page l.end
-
-abbrev pub decreases-loop-k : goal.decreases-loop-k
-decreases-loop-k l = tempos - l.k
+abbrev pub invariant-loop-t : goal.invariant-loop-t
+invariant-loop-t l = IsInPlace l.initial.page l.page × Gains l.initial.page (lines_to (l.t - 200)) l.page

@@ -26,7 +26,7 @@ use Rattle.spacings.proofs.GapLaws.{gaps_of, scaled_of}
 use Rattle.verdicts.specs.declared.Tables.{Tables}
 use Rattle.verdicts.specs.Tables.{TablesOf}
 use Rattle.verdicts.specs.Slots.{SlotsBy}
-use Rattle.verdicts.proofs.TableLaws.{slots_at_tempo}
+use Rattle.verdicts.proofs.TableLaws.{slot_tables, slots_at_tempo}
 use Rattle.quotes.specs.Best.{QuoteBy}
 use Rattle.report.specs.Longest.{longest_plain}
 use Rattle.report.specs.Listing.{listing}
@@ -74,7 +74,7 @@ module _ (pol : Policy) (s : List ℕ) (j : Judged) (examined : ReadAs (read_fil
     pub stage_lines : (shown : ℕ) (gaps : List ℕ) (slots : List VerdictSlot) → shown ≡ shown_tempo q → GapsBy t.sources shown gaps → SlotsBy j.description t gaps slots → tempo_line q ++ listing j.description slots j.description.link_count ≡ plain_report pol s
     stage_lines shown gaps slots is z by =
         let spaced : GapsOf j.description (shown_tempo q) gaps = rw is at (gaps_of j.description t.sources shown gaps tables.by_levels.by_source z) in
-        stage_parts q slots stage_quoted (by pol tables (spacing_of j.description (shown_tempo q)) spaced ∙ slots_at_tempo pol j.description (shown_tempo q))
+        stage_parts q slots stage_quoted (by pol (slot_tables pol j.description t tables) (spacing_of j.description (shown_tempo q)) spaced ∙ slots_at_tempo pol j.description (shown_tempo q))
 
     -- and they fit on the page
     pub stage_room : Bytes s → (slots : List VerdictSlot) → tempo_line q ++ listing j.description slots j.description.link_count ≡ plain_report pol s → length (tempo_line q) + length (listing j.description slots j.description.link_count) ≤ longest_plain

@@ -29,11 +29,11 @@ use Rattle.theory.proofs.Levels.{reach_of, level_reach, level_verdict}
 use Rattle.works.specs.Works.{load_by}
 use Rattle.loads.specs.Tables.{LoadsOf, held}
 use Rattle.loads.proofs.Columns.{top_cong}
-use Rattle.spacings.specs.Gaps.{Fit, GapsIn}
-use Rattle.rounds.specs.Level.{LevelOn, round_in, reach_in}
+use Rattle.spacings.specs.Gaps.{GapsIn}
+use Rattle.rounds.specs.Level.{round_in, reach_in}
 use Rattle.verdicts.specs.declared.Tables.{Tables}
-use Rattle.verdicts.specs.Tables.{below_of, LevelsOf, StartsOf, TailsOf, Level, LevelTables, task_level, LevelOf, TablesOf}
-use Rattle.verdicts.specs.Slots.{verdict_by, gap_by, by_tables, slot_by, slot_of, LimitsOf, reach_with, ReachesOf, Leveled}
+use Rattle.verdicts.specs.Tables.{below_of, LevelsOf, StartsOf, TailsOf, LevelTables, task_level, LevelOf, TablesOf}
+use Rattle.verdicts.specs.Slots.{verdict_by, gap_by, by_tables, slot_by, slot_of, LimitsOf, reach_with, ReachesOf, Leveled, SlotTables}
 use Rattle.verdicts.proofs.LevelRounds.{spaced_in, level_light, start_light, tail_light, reach_is}
 
 -- a largest value whose numbers are counted from 0
@@ -108,22 +108,25 @@ level_of-tables pol d t j x p =
     low : j < 32
     low = omega (arith, x.counted, x.good.fields.few_tasks)
 
-module _ (pol : Policy) (d : Description) (t : Tables) (tables : TablesOf pol d t) where
-  own : LevelTables pol d t
-  own = tables.by_levels
+-- the tables that verdicts are worked out from are among all
+pub slot_tables : (pol : Policy) (d : Description) (t : Tables) → TablesOf pol d t → SlotTables pol d t
+slot_tables pol d t x =
+    let own = x.by_levels in
+    record { good = own.good; by_level = own.by_level; by_start = own.by_start; by_tail = own.by_tail; by_order = x.by_order }
 
+module _ (pol : Policy) (d : Description) (t : Tables) (tables : SlotTables pol d t) where
   g : WellFormed d
-  g = own.good
+  g = tables.good
 
   -- the tables are on the scale
-  pub leveled : Leveled t
+  pub leveled : Leveled t d.task_count d.source_count
   leveled =
       record {
-        few_tasks = omega (arith, own.counted, g.fields.few_tasks);
-        few_sources = omega (arith, own.by_source.counted, g.fields.few_sources);
-        start_most = λ j p. rw (own.by_start j (omega (arith, own.counted))) (start_light d g pol (suc j) (omega arith));
-        tail_most = λ j p. rw (own.by_tail j (omega (arith, own.counted))) (tail_light d g pol (suc j) (omega arith));
-        load_most = λ j u p q. rw (own.by_level j u (omega (arith, own.counted, g.fields.few_tasks)) (omega (arith, own.by_source.counted))) (level_light d g pol (33 + u) (suc j) (omega arith));
+        few_tasks = g.fields.few_tasks;
+        few_sources = g.fields.few_sources;
+        start_most = λ j p. rw (tables.by_start j p) (start_light d g pol (suc j) (omega arith));
+        tail_most = λ j p. rw (tables.by_tail j p) (tail_light d g pol (suc j) (omega arith));
+        load_most = λ j u p q. rw (tables.by_level j u (omega (arith, p, g.fields.few_tasks)) q) (level_light d g pol (33 + u) (suc j) (omega arith));
       }
 
   module _ (gap : ℕ → ℕ) (gaps : List ℕ) (z : GapsIn gap d.source_count gaps) (limits : List ℕ) (m : LimitsOf d gaps limits) (reaches : List ℕ) (r : ReachesOf pol d gap limits reaches) where
@@ -178,24 +181,24 @@ module _ (pol : Policy) (d : Description) (t : Tables) (tables : TablesOf pol d 
         go l false e = refl
 
 -- the levels below j are worked out, whatever model and description the tables are of
-abbrev pub ReachesTo : Tables → List ℕ → List ℕ → List ℕ → ℕ → Type 0
-ReachesTo t gaps limits reaches j = (pol : Policy) (d : Description) (gap : ℕ → ℕ) → LevelTables pol d t → GapsIn gap d.source_count gaps → (k : ℕ) → k < j → get_or reaches k 0 ≡ reach_with pol d gap (suc k) (get_or limits k 0)
+abbrev pub ReachesTo : Tables → List ℕ → List ℕ → ℕ → ℕ → List ℕ → ℕ → Type 0
+ReachesTo t gaps limits n m reaches j = (pol : Policy) (d : Description) (gap : ℕ → ℕ) → WellFormed d → LevelsOf pol d t.levels → StartsOf pol d t.starts → TailsOf pol d t.tails → n ≡ d.task_count → m ≡ d.source_count → GapsIn gap m gaps → (k : ℕ) → k < j → get_or reaches k 0 ≡ reach_with pol d gap (suc k) (get_or limits k 0)
 
-pub reaches_more : (t : Tables) (gaps limits reaches : List ℕ) (j : ℕ) (v : Level) (reach limit : ℕ) → j < t.tasks → length reaches ≡ 32 → v ≡ task_level t j → limit ≡ get_or limits j 0 - v.tail → reach ≡ reach_in v.start v.loads gaps t.sources.count limit → ReachesTo t gaps limits reaches j → ReachesTo t gaps limits (set reaches j (reach + v.tail)) (j + 1)
-reaches_more t gaps limits reaches j v reach limit p long is el e r pol d gap x z =
-    stored (λ k y. y ≡ reach_with pol d gap (suc k) (get_or limits k 0)) 0 reaches j (reach + v.tail) (omega (arith, x.counted, x.good.fields.few_tasks)) (r pol d gap x z) own
+pub reaches_more : (t : Tables) (gaps limits : List ℕ) (n m : ℕ) (reaches : List ℕ) (j reach tail limit : ℕ) → j < n → n ≤ 32 → length reaches ≡ 32 → tail ≡ get_or t.tails j 0 → limit ≡ get_or limits j 0 - tail → reach ≡ reach_in (get_or t.starts j 0) (get_or t.levels j []) gaps m limit → ReachesTo t gaps limits n m reaches j → ReachesTo t gaps limits n m (set reaches j (reach + tail)) (j + 1)
+reaches_more t gaps limits n m reaches j reach tail limit p few long et el e r pol d gap g levels starts tails c q z =
+    stored (λ k y. y ≡ reach_with pol d gap (suc k) (get_or limits k 0)) 0 reaches j (reach + tail) (omega arith) (r pol d gap g levels starts tails c q z) own
   where
-    level : LevelOf pol d (suc j) v
-    level = rw is (level_of-tables pol d t j x p)
+    is_tail : tail ≡ tail_of pol (system d) (suc j)
+    is_tail = et ∙ tails j (omega arith)
 
     is_limit : limit ≡ get_or limits j 0 - tail_of pol (system d) (suc j)
-    is_limit = el ∙ ap (λ x. get_or limits j 0 - x) level.tail_is
+    is_limit = el ∙ ap (λ x. get_or limits j 0 - x) is_tail
 
     is_reach : reach ≡ level_reach pol (system d) gap (suc j) limit
-    is_reach = e ∙ rw x.by_source.counted (reach_is d x.good pol (suc j) (omega arith) v.start v.loads level.start_is level.load_is gaps gap z limit)
+    is_reach = e ∙ rw q (reach_is d g pol (suc j) (omega arith) (get_or t.starts j 0) (get_or t.levels j []) (starts j (omega arith)) (λ u w. levels j u (omega arith) w) gaps gap (rw q at z) limit)
 
-    own : reach + v.tail ≡ reach_with pol d gap (suc j) (get_or limits j 0)
-    own = ap (λ x. x + v.tail) (is_reach ∙ ap (level_reach pol (system d) gap (suc j)) is_limit) ∙ ap (λ x. level_reach pol (system d) gap (suc j) (get_or limits j 0 - tail_of pol (system d) (suc j)) + x) level.tail_is
+    own : reach + tail ≡ reach_with pol d gap (suc j) (get_or limits j 0)
+    own = ap (λ x. x + tail) (is_reach ∙ ap (level_reach pol (system d) gap (suc j)) is_limit) ∙ ap (λ x. level_reach pol (system d) gap (suc j) (get_or limits j 0 - tail_of pol (system d) (suc j)) + x) is_tail
 
 -- rounds come to no more than their limit
 pub reach_most : (start : ℕ) (loads gaps : List ℕ) (m limit : ℕ) → reach_in start loads gaps m limit ≤ limit
@@ -205,18 +208,6 @@ reach_most start loads gaps m limit = go (settle (suc limit) (round_in start loa
     go : (x : Settled) → settle (suc limit) (round_in start loads gaps m) limit start ≡ x → reach_of x limit ≤ limit
     go (unchanged D) e = omega (arith, (settle_fixed (suc limit) (round_in start loads gaps m) limit start D e).1)
     go reached e = omega arith
-
--- one level of tables from the scale
-pub level_scaled : (t : Tables) (gaps : List ℕ) (j : ℕ) (v : Level) → Leveled t → Fit t.sources.count gaps → j < t.tasks → v ≡ task_level t j → LevelOn v.start v.loads gaps t.sources.count
-level_scaled t gaps j v s f p e =
-    rw e
-    (record {
-      few = s.few_sources;
-      start_most = s.start_most j p;
-      load_most = λ u q. s.load_most j u p q;
-      gap_some = f.some;
-      gap_most = λ u q. f.most u;
-    })
 
 -- at the spacings of a tempo they are the verdicts at it
 pub slots_at_tempo : (pol : Policy) (d : Description) (t : ℕ) → tab 256 (slot_of pol d (spacing_of d t)) ≡ tab 256 (slot_at pol d t)

@@ -14,8 +14,10 @@ use Rattle.model.specs.Graph.{system, link_at}
 use Rattle.model.specs.Delays.{tail_of}
 use Rattle.model.specs.Verdicts.{free_slot, verdict_of}
 use Rattle.theory.proofs.Levels.{level_reach}
+use Rattle.theory.proofs.WellFormed.{WellFormed}
 use Rattle.spacings.specs.Gaps.{GapsIn}
-use Rattle.verdicts.specs.Tables.{LevelTables, TablesOf}
+use Rattle.neighbourhoods.specs.Orders.{OrdersOf}
+use Rattle.verdicts.specs.Tables.{LevelsOf, StartsOf, TailsOf}
 use Rattle.verdicts.specs.declared.Tables.{Tables}
 
 unfoldable pub verdict_by : Link → Bool → ℕ → ℕ → Verdict
@@ -59,26 +61,34 @@ reach_with p d gap j limit = level_reach p (system d) gap j (limit - tail_of p (
 abbrev pub ReachesOf : Policy → Description → (ℕ → ℕ) → List ℕ → List ℕ → Type 0
 ReachesOf p d gap limits reaches = (j : ℕ) → j < d.task_count → get_or reaches j 0 ≡ reach_with p d gap (suc j) (get_or limits j 0)
 
--- tables with numbers from the scale
-pub record Leveled (t : Tables) : Type 0 where
-  pub few_tasks : t.tasks ≤ 32
-  pub few_sources : t.sources.count ≤ 16
-  pub start_most : (j : ℕ) → j < t.tasks → get_or t.starts j 0 ≤ 1010000000
-  pub tail_most : (j : ℕ) → j < t.tasks → get_or t.tails j 0 ≤ 10000000
-  pub load_most : (j u : ℕ) → j < t.tasks → u < t.sources.count → get_or (get_or t.levels j []) u 0 ≤ 1000000000
+-- tables of n tasks and m sources with numbers from the scale
+pub record Leveled (t : Tables) (n m : ℕ) : Type 0 where
+  pub few_tasks : n ≤ 32
+  pub few_sources : m ≤ 16
+  pub start_most : (j : ℕ) → j < n → get_or t.starts j 0 ≤ 1010000000
+  pub tail_most : (j : ℕ) → j < n → get_or t.tails j 0 ≤ 10000000
+  pub load_most : (j u : ℕ) → j < n → u < m → get_or (get_or t.levels j []) u 0 ≤ 1000000000
 
 -- where the delay of each level comes to, whatever model and description the tables are of
-abbrev pub ReachesBy : Tables → List ℕ → List ℕ → List ℕ → Type 0
-ReachesBy t gaps limits r = (p : Policy) (d : Description) (gap : ℕ → ℕ) → LevelTables p d t → GapsIn gap d.source_count gaps → ReachesOf p d gap limits r
+abbrev pub ReachesBy : Tables → List ℕ → List ℕ → ℕ → ℕ → List ℕ → Type 0
+ReachesBy t gaps limits n m r = (p : Policy) (d : Description) (gap : ℕ → ℕ) → WellFormed d → LevelsOf p d t.levels → StartsOf p d t.starts → TailsOf p d t.tails → n ≡ d.task_count → m ≡ d.source_count → GapsIn gap m gaps → ReachesOf p d gap limits r
 
--- there is a model that the tables of a description are of
+-- the tables that verdicts are worked out from; nothing is said of the others
+pub record SlotTables (p : Policy) (d : Description) (t : Tables) : Type 0 where
+  pub good : WellFormed d
+  pub by_level : LevelsOf p d t.levels
+  pub by_start : StartsOf p d t.starts
+  pub by_tail : TailsOf p d t.tails
+  pub by_order : OrdersOf d t.orders
+
+-- there is a model that they are of
 pub record SlotTabled (d : Description) (t : Tables) : Type 0 where
   pub model : Policy
-  pub tables : TablesOf model d t
+  pub tables : SlotTables model d t
 
 -- the verdicts at the spacings of a table, whatever model the tables are of
 abbrev pub SlotsBy : Description → Tables → List ℕ → List VerdictSlot → Type 0
-SlotsBy d t gaps r = (p : Policy) → TablesOf p d t → SlotsAt p d gaps r
+SlotsBy d t gaps r = (p : Policy) → SlotTables p d t → SlotsAt p d gaps r
 
 -- beside a refusal every verdict is free
 abbrev pub refused_verdicts : Refusal → ℕ → Verdicts

@@ -7,8 +7,9 @@ ghost use Rattle.spacings.specs.Gaps.{Fit};
 ghost use Rattle.verdicts.specs.Slots.{verdict_by, gap_by, by_tables, slot_by, limit_by, LimitsOf, Leveled, ReachesBy, SlotTabled, SlotsBy};
 
 use crate::Tables;
-use crate::level::{reach_below, source_of};
+use crate::level::source_of;
 use model::{Description, Link, Verdict, VerdictSlot};
+use reach::level_reach;
 
 // The spacing of a link's source; 0 where the link comes from a task.
 fn gap_by(link: Link, gaps: &[u32; 16]) -> u32
@@ -46,16 +47,22 @@ fn limits_at(d: Description, gaps: &[u32; 16]) -> [u64; 32]
     limits
 }
 
-// Where the delay of each task comes to, its rounds below its limit.
-fn reaches_at(t: &Tables, gaps: &[u32; 16], limits: &[u64; 32]) -> [u64; 32]
-    requires { Leveled t.now × Fit t.now.sources.count gaps.now × ((j : ℕ) → get_or limits.now j 0 ≤ 1000000000) }
-    ensures { ReachesBy t.now gaps.now limits.now result }
+// Where the delay of each of n tasks comes to, its rounds below its limit, at the spacings of m sources.
+fn reaches_at(t: &Tables, gaps: &[u32; 16], limits: &[u64; 32], n: usize, m: usize) -> [u64; 32]
+    requires { Leveled t.now n m × Fit m gaps.now × ((j : ℕ) → get_or limits.now j 0 ≤ 1000000000) }
+    ensures { ReachesBy t.now gaps.now limits.now n m result }
 {
     let mut reaches = [0u64; 32];
-    for j in 0..t.tasks {
-        let level = t.level(j);
-        let limit = limits[j].saturating_sub(level.tail);
-        reaches[j] = reach_below(&level, gaps, t.sources.count, limit) + level.tail;
+    for j in 0..n {
+        let rounds = rounds::Level {
+            start: t.starts[j],
+            loads: &t.levels[j],
+            gaps,
+            count: m,
+        };
+        let tail = u64::from(t.tails[j]);
+        let limit = limits[j].saturating_sub(tail);
+        reaches[j] = level_reach(&rounds, limit) + tail;
     }
     reaches
 }
@@ -108,12 +115,13 @@ fn decide_all(
     slots
 }
 
-// The verdicts on all links at the spacings of a table, from the tables that are worked out once.
+// The verdicts on all links at the spacings of a table, from the tables that are worked out once. Of these the levels, the
+// starts, the tails and the orders are read alone.
 pub fn slots_at(d: Description, t: &Tables, gaps: &[u32; 16]) -> [VerdictSlot; 256]
     requires { SlotTabled d t.now × Fit d.source_count gaps.now }
     ensures { SlotsBy d t.now gaps.now result }
 {
     let limits = limits_at(d, gaps);
-    let reaches = reaches_at(t, gaps, &limits);
+    let reaches = reaches_at(t, gaps, &limits, d.task_count, d.source_count);
     decide_all(d, &t.orders, gaps, &reaches)
 }

@@ -2,7 +2,7 @@
 use mathlib.Core.Path.{sym, ◌∙◌}
 use Rattle.spacings.proofs.GapLaws.{gaps_of, scaled_of, knob_is}
 use Rattle.model.specs.Delays.{spacing_of}
-use Rattle.verdicts.proofs.TableLaws.{slots_at_tempo}
+use Rattle.verdicts.proofs.TableLaws.{slot_tables, slots_at_tempo}
 use Rattle.verdicts.proofs.CallLaws.{verdicts_refused, verdicts_off, verdicts_done}
 use Rattle.verdicts.proofs.verdicts.Goals as goal
 
@@ -31,4 +31,4 @@ returns c =
     let t = c.tables_of-tables.ensures.by_levels in
     let z = gaps_of a.d c.tables_of-tables.result.sources a.t c.gaps_by-gaps.result t.by_source c.gaps_by-gaps.ensures in
     verdicts_done a.p a.d a.t c.slots_at.result x.judged (sym c.on_knob.ensures ∙ c.if-not-on_knob.false)
-    (c.slots_at.ensures a.p c.tables_of-tables.ensures (spacing_of a.d a.t) z ∙ slots_at_tempo a.p a.d a.t)
+    (c.slots_at.ensures a.p (slot_tables a.p a.d c.tables_of-tables.result c.tables_of-tables.ensures) (spacing_of a.d a.t) z ∙ slots_at_tempo a.p a.d a.t)

@@ -5,4 +5,4 @@ use Rattle.verdicts.proofs.TableLaws.{ReachesTo}
 use Rattle.verdicts.proofs.slots.reaches_at.Given as goal
 
 abbrev pub invariant-loop-j : goal.invariant-loop-j
-invariant-loop-j l = (length l.reaches ≡ 32) × ReachesTo l.t l.gaps l.limits l.reaches l.j
+invariant-loop-j l = (length l.reaches ≡ 32) × ReachesTo l.t l.gaps l.limits l.n l.m l.reaches l.j

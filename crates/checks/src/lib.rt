@@ -28,7 +28,7 @@ fn has_room(p: Progress, f: Field) -> bool
     }
 }
 
-// Whether the numbers of a field are in their ranges.
+// Whether the numbers of a field are in their ranges. Critical is a number and no flag, since a record that is judged may hold any.
 fn on_scale(f: Field) -> bool
     ensures { result ≡ on_scale f }
 {

@@ -33,13 +33,13 @@ fn entry_at(tags: &[u16], k: usize) -> u16
 fn least_length(tags: &[u16], tag: u8) -> u16
     ensures { result ≡ get_or tags.now (2 * tag) 0 }
 {
-    entry_at(tags, 2 * tag as usize)
+    entry_at(tags, 2 * usize::from(tag))
 }
 
 fn most_length(tags: &[u16], tag: u8) -> u16
     ensures { result ≡ get_or tags.now (2 * tag + 1) 0 }
 {
-    entry_at(tags, 2 * tag as usize + 1)
+    entry_at(tags, 2 * usize::from(tag) + 1)
 }
 
 // The header at a reading place, none at the end: whole header, tag, length, whole body.
@@ -65,7 +65,7 @@ pub fn header_at(tags: &[u16], s: &[u8], at: usize) -> Result<Option<Header>, Re
     if most < size {
         return Err(Refusal::WrongLength);
     }
-    if left - 3 < size as usize {
+    if left - 3 < usize::from(size) {
         return Err(Refusal::CutShort);
     }
     Ok(Some(Header {

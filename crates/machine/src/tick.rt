@@ -70,8 +70,6 @@ pub fn tick_judged(
     raise(done.words.peak, &mut fastest);
     Ticked {
         outcome: done.outcome,
-        machine: unpack(
-            &w.rows, &longest, w.sources, done.words, used, &since, fastest,
-        ),
+        machine: unpack(&w, &longest, done.words, used, &since, fastest),
     }
 }

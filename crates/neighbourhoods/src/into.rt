@@ -6,7 +6,8 @@ ghost use Rattle.neighbourhoods.specs.Into.{IntoOf};
 use model::Description;
 use sets::with;
 
-// The nodes with a link to each task: node p is number p - 1 of the set.
+// The nodes with a link to each task: node p is number p - 1 of the set. The loop is that of `paths::successors` by the other end; a closure for
+// the two ends would say no less.
 pub fn predecessors(d: Description) -> [u64; 32]
     requires { Fielded d }
     ensures { IntoOf d result }

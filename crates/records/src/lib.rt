@@ -11,7 +11,7 @@ use model::{Machine, Policy};
 use sets::Set;
 use sets::wide::Wide;
 use std::array::from_fn;
-use wiring::Row;
+use wiring::{Row, Wiring};
 use words::{Words, kept_bits};
 
 // The tick at which a record is made words.
@@ -118,24 +118,23 @@ fn links_into(rows: &[Row; 64], tasks: u64) -> Wide
 
 // The record that words hold, with what tasks have used and the tempos that are kept.
 pub fn unpack(
-    rows: &[Row; 64],
+    wiring: &Wiring,
     gaps: &[u32; 16],
-    sources: usize,
     w: Words,
     used: [u32; 32],
     since: &[u64; 16],
     fastest: [u32; 16],
 ) -> Machine
-    requires { sources ≤ 16 }
-    ensures { Unpacks rows.now gaps.now sources w used since.now fastest result }
+    requires { wiring.now.sources ≤ 16 }
+    ensures { Unpacks wiring.now.rows gaps.now wiring.now.sources w used since.now fastest result }
 {
-    let entered = links_into(rows, w.part);
+    let entered = links_into(&wiring.rows, w.part);
     Machine {
         awake: tasks_of(w.woken.union(w.part)),
         used,
         waiting: links_of(w.fresh.union(w.taken)),
         dropped: links_of(w.dropped.union(w.fresh.both(w.taken))),
-        ages: ages_of(gaps, sources, since, w.tick),
+        ages: ages_of(gaps, wiring.sources, since, w.tick),
         fastest,
         again: tasks_of(w.woken.both(w.part)),
         late: links_of(w.fresh.both(entered)),

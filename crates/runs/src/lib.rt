@@ -102,7 +102,7 @@ pub fn run_wired(
     raise(words.peak, &mut fastest);
     Ticked {
         outcome: Ok(()),
-        machine: unpack(&w.rows, &longest, w.sources, words, used, &since, fastest),
+        machine: unpack(&w, &longest, words, used, &since, fastest),
     }
 }
 

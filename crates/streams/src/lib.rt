@@ -121,7 +121,8 @@ pub fn read_input<R: Read>(input: &mut R, buf: &mut [u8]) -> io::Result<usize>
     }
 }
 
-// Writes all of `buf`, and answers the number of bytes; or that a write failed, when some of them may have been written.
+// Writes all of `buf`, and answers the number of bytes; or that a write failed, when some of them may have been written. The loop is that of
+// `read_input`, over a buffer that is lent to be read: one function of both would be lent both ways and be longer than either.
 pub fn write_output<W: Write>(output: &mut W, buf: &[u8]) -> io::Result<usize>
     ensures { Entire (length buf.now) result }
 {

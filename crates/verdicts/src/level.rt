@@ -38,7 +38,7 @@ fn with_source(set: u64, link: Link) -> u64
     }
 }
 
-// For each task the set of the sources that have a critical link to it.
+// For each task the set of the sources that have a critical link to it. The loop is that of `paths::successors`, by what a link adds to whom.
 pub fn critical_of(d: Description) -> [u64; 32]
     requires { WellFormed d }
     ensures { CriticalOf d result }

@@ -24,10 +24,10 @@ pub returns-then-most-size : goal.returns-then-most-size
 unfolding header_at
 returns-then-most-size c = rw (lt-leb _ _ c.if-s-at.false, le-ltb _ _ c.if-left-lt3.false, ← c.most_length-most.ensures, ← c.half_at-size.ensures, ← c.least_length.ensures, lt-ltb 0 c.most_length-most.result (omega (arith, c.if-most-eq0.false)), le-leb _ _ c.if-size-least_length.false, lt-leb c.half_at-size.result c.most_length-most.result c.if-most-size.true)
 
-pub returns-then-left-size : goal.returns-then-left-size
+pub returns-then-left-from : goal.returns-then-left-from
 unfolding header_at
-returns-then-left-size c = rw (lt-leb _ _ c.if-s-at.false, le-ltb _ _ c.if-left-lt3.false, ← c.most_length-most.ensures, ← c.half_at-size.ensures, ← c.least_length.ensures, lt-ltb 0 c.most_length-most.result (omega (arith, c.if-most-eq0.false)), le-leb _ _ c.if-size-least_length.false, le-leb _ _ c.if-most-size.false, lt-ltb _ _ c.if-left-size.true)
+returns-then-left-from c = rw (lt-leb _ _ c.if-s-at.false, le-ltb _ _ c.if-left-lt3.false, ← c.most_length-most.ensures, ← c.half_at-size.ensures, ← c.least_length.ensures, lt-ltb 0 c.most_length-most.result (omega (arith, c.if-most-eq0.false)), le-leb _ _ c.if-size-least_length.false, le-leb _ _ c.if-most-size.false, lt-ltb _ _ (rw c.from.ensures at c.if-left-from.true))
 
 pub returns : goal.returns
 unfolding header_at
-returns c = rw (lt-leb _ _ c.if-s-at.false, le-ltb _ _ c.if-left-lt3.false, ← c.most_length-most.ensures, ← c.half_at-size.ensures, ← c.least_length.ensures, lt-ltb 0 c.most_length-most.result (omega (arith, c.if-most-eq0.false)), le-leb _ _ c.if-size-least_length.false, le-leb _ _ c.if-most-size.false, le-ltb _ _ c.if-left-size.false)
+returns c = rw (lt-leb _ _ c.if-s-at.false, le-ltb _ _ c.if-left-lt3.false, ← c.most_length-most.ensures, ← c.half_at-size.ensures, ← c.least_length.ensures, lt-ltb 0 c.most_length-most.result (omega (arith, c.if-most-eq0.false)), le-leb _ _ c.if-size-least_length.false, le-leb _ _ c.if-most-size.false, le-ltb _ _ (rw c.from.ensures at c.if-left-from.false))

@@ -7,16 +7,14 @@ ghost use Rattle.rounds.specs.Level.{LevelOn, round_in, Counted, more_by, NextRo
 
 // How many spacings of m ticks a stretch of d ticks holds: rounded up, and at least 1. The quotient is of 32 bits, whose
 // division is faster.
-pub fn spacings_in(d: u64, m: u32) -> u64
+pub fn spacings_in(d: u64, m: u64) -> u64
     requires { (1 ≤ m) × (m ≤ 1000000000) × (d ≤ 1000000000) }
     ensures { result ≡ spacings d m }
 {
-    let spacing = u64::from(m);
-    if d <= spacing {
+    if d <= m {
         return 1;
     }
-    let q = (d + (spacing - 1)) as u32 / m;
-    u64::from(q)
+    u64::from((d + (m - 1)) as u32 / m as u32)
 }
 
 // How far the firings counted for a source reach. One without a load brings nothing, and no d passes its end.
@@ -38,8 +36,9 @@ fn count_on(load: u64, gap: u32, d: u64, end: &mut u64, sum: u64) -> u64
     if d <= *end {
         return sum;
     }
-    let count = spacings_in(d - *end, gap);
-    *end += count * u64::from(gap);
+    let spacing = u64::from(gap);
+    let count = spacings_in(d - *end, spacing);
+    *end += count * spacing;
     sum + load * count
 }
 
@@ -111,7 +110,7 @@ impl Level<'_> {
         for u in 0..self.count {
             let load = self.loads[u];
             let gap = self.gaps[u];
-            let count = spacings_in(d, gap);
+            let count = spacings_in(d, u64::from(gap));
             ends[u] = end_of(load, count, gap);
             sum += load * count;
         }

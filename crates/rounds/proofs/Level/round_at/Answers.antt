@@ -13,28 +13,28 @@ loop-u-init c = let a = c.args in (round_none a.self.now.start a.self.now.loads.
 pub end_of-requires : goal.end_of-requires
 end_of-requires c =
     let u = c.loop-u.u in
-    (rw c.spacings_in-count.ensures (spacings_most c.args.d (get_or c.args.self.now.gaps.now u 0) (c.args.self.now.on_scale.gap_some u (omega arith)) c.requires), c.args.self.now.on_scale.gap_most u (omega arith))
+    (rw (c.spacings_in-count.ensures, c.from.ensures) (spacings_most c.args.d (get_or c.args.self.now.gaps.now u 0) (c.args.self.now.on_scale.gap_some u (omega arith)) c.requires), c.args.self.now.on_scale.gap_most u (omega arith))
 
 pub overflow_mul-sum : goal.overflow_mul-sum
 overflow_mul-sum c =
     -- the part of one source is at most a thousand million times a thousand million
     let part : get_or c.args.self.now.loads.now c.loop-u.u 0 * c.spacings_in-count.result ≤ 1000000000000000000 = let L = c.loop-u in
-    rw c.spacings_in-count.ensures (term_most c.args.self.now.start c.args.self.now.loads.now c.args.self.now.gaps.now c.args.self.now.count c.args.d c.args.self.now.on_scale c.requires L.u (omega arith)) in
+    rw (c.spacings_in-count.ensures, c.from.ensures) (term_most c.args.self.now.start c.args.self.now.loads.now c.args.self.now.gaps.now c.args.self.now.count c.args.d c.args.self.now.on_scale c.requires L.u (omega arith)) in
     omega (arith, part)
 
 pub overflow_add-sum : goal.overflow_add-sum
 overflow_add-sum c =
     let part : get_or c.args.self.now.loads.now c.loop-u.u 0 * c.spacings_in-count.result ≤ 1000000000000000000 = let L = c.loop-u in
-    rw c.spacings_in-count.ensures (term_most c.args.self.now.start c.args.self.now.loads.now c.args.self.now.gaps.now c.args.self.now.count c.args.d c.args.self.now.on_scale c.requires L.u (omega arith)) in
+    rw (c.spacings_in-count.ensures, c.from.ensures) (term_most c.args.self.now.start c.args.self.now.loads.now c.args.self.now.gaps.now c.args.self.now.count c.args.d c.args.self.now.on_scale c.requires L.u (omega arith)) in
     omega (arith, part, c.loop-u.invariant.1, c.args.self.now.on_scale.few)
 
 pub loop-u-preserved : goal.loop-u-preserved
 loop-u-preserved c =
     let part : get_or c.args.self.now.loads.now c.loop-u.u 0 * c.spacings_in-count.result ≤ 1000000000000000000 = let L = c.loop-u in
-    rw c.spacings_in-count.ensures (term_most c.args.self.now.start c.args.self.now.loads.now c.args.self.now.gaps.now c.args.self.now.count c.args.d c.args.self.now.on_scale c.requires L.u (omega arith)) in
+    rw (c.spacings_in-count.ensures, c.from.ensures) (term_most c.args.self.now.start c.args.self.now.loads.now c.args.self.now.gaps.now c.args.self.now.count c.args.d c.args.self.now.on_scale c.requires L.u (omega arith)) in
     let L = c.loop-u in
     let a = c.args in
-    let e = c.spacings_in-count.ensures in (
+    let e = (rw c.from.ensures at c.spacings_in-count.ensures) in (
       omega (arith, L.invariant.0, round_more a.self.now.start a.self.now.loads.now a.self.now.gaps.now a.self.now.count a.d L.u, ap (λ x. get_or a.self.now.loads.now L.u 0 * x) e),
       omega (arith, part, L.invariant.1),
       record {

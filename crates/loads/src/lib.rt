@@ -33,7 +33,12 @@ pub fn work_out(d: Description) -> Result<Worked, Rejection>
         return Err(Refusal::Loop.at(0));
     }
     let mut brings = [0u64; 48];
-    let works = works::works_of(&succ, &d.runs, n, &mut brings);
+    let wired = works::Wired {
+        succ: &succ,
+        runs: &d.runs,
+        count: n,
+    };
+    let works = works::works_of(&wired, &mut brings);
     if rows::heavy(&brings, &works, n) {
         return Err(Refusal::TooHeavy.at(0));
     }

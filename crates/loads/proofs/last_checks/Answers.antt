@@ -3,7 +3,6 @@ use mathlib.Core.List.{List}
 use Rattle.model.specs.declared.Row.{Row}
 use Rattle.model.specs.declared.LoadSheet.{LoadSheet}
 use Rattle.model.specs.Refusals.{Done}
-use Rattle.loads.specs.Tables.{WorkedOf}
 use Rattle.loads.proofs.Checks.{sheet_refused, sheet_done, rows_are}
 use Rattle.loads.proofs.last_checks.Goals as goal
 

@@ -1,4 +1,4 @@
-use mathlib.Core.Path.{refl, sym, ◌∙◌}
+use mathlib.Core.Path.{sym, ◌∙◌}
 use Rattle.loads.proofs.Checks.{ends_empty, ends_loop, ends_heavy, ends_done, self_is, links_ready, loads_of, heavy_is}
 use Rattle.loads.proofs.work_out.Goals as goal
 
@@ -10,10 +10,10 @@ returns-then-brings_itself c =
     let self = self_is c.args.d c.requires c.successors-succ.result c.successors-succ.ensures c.closed-rows.result c.closed-rows.ensures in
     rw (c.at-then-brings_itself.ensures) (ends_loop c.args.d c.if-n-eq0.false (sym self ∙ sym c.brings_itself.ensures ∙ c.if-brings_itself.true))
 
-pub works_of-works-requires : goal.works_of-works-requires
-works_of-works-requires c =
+pub invariant_of-wired : goal.invariant_of-wired
+invariant_of-wired c =
     let self = self_is c.args.d c.requires c.successors-succ.result c.successors-succ.ensures c.closed-rows.result c.closed-rows.ensures in
-    (links_ready c.args.d c.requires c.successors-succ.result c.successors-succ.ensures (sym self ∙ sym c.brings_itself.ensures ∙ c.if-brings_itself.false), refl)
+    record { ready = links_ready c.args.d c.requires c.successors-succ.result c.successors-succ.ensures (sym self ∙ sym c.brings_itself.ensures ∙ c.if-brings_itself.false) }
 
 pub returns-then-heavy : goal.returns-then-heavy
 returns-then-heavy c =

@@ -7,10 +7,10 @@ use Rattle.works.proofs.Gathering.{Gathered}
 use Rattle.works.proofs.+brought.Given as goal
 
 abbrev pub decreases-brought : goal.decreases-brought
-decreases-brought l = rank_of (graph l.succ.now [] l.n) l.i
+decreases-brought l = rank_of (graph l.wired.now.succ.now [] l.wired.now.count) l.i
 
 abbrev pub invariant-loop-left : goal.invariant-loop-left
-invariant-loop-left l = Gathered l.succ l.n l.i l.left l.set × SetMemo l.succ l.n l.brings
+invariant-loop-left l = Gathered l.wired.succ.now l.wired.count l.i l.left l.set × SetMemo l.wired.succ.now l.wired.count l.brings
 
 abbrev pub decreases-loop-left : goal.decreases-loop-left
 decreases-loop-left l = l.left

@@ -7,7 +7,7 @@ use Rattle.works.proofs.Working.{WorksFrom}
 use Rattle.works.proofs.works_of.Given as goal
 
 abbrev pub invariant-loop-j : goal.invariant-loop-j
-invariant-loop-j l = SetMemo l.succ l.n l.sets × WorkMemo l.succ l.runs l.n l.known × WorksFrom (graph l.succ l.runs l.n) l.n l.j l.works
+invariant-loop-j l = SetMemo l.wired.succ.now l.wired.count l.sets × WorkMemo l.wired.succ.now l.wired.runs.now l.wired.count l.known × WorksFrom (graph l.wired.succ.now l.wired.runs.now l.wired.count) l.wired.count l.j l.works
 
 abbrev pub invariant-loop-i : goal.invariant-loop-i
-invariant-loop-i l = SetMemo l.succ l.n l.sets × ((k : ℕ) → k < l.i → Brought l.succ l.n (k + 1) (get_or l.brings k 0))
+invariant-loop-i l = SetMemo l.wired.succ.now l.wired.count l.sets × ((k : ℕ) → k < l.i → Brought l.wired.succ.now l.wired.count (k + 1) (get_or l.brings k 0))

@@ -1,9 +1,10 @@
 // The columns of the load sheet that verdicts go by: the loads of sources at each task, and what the rounds of each task start from.
 ghost use Rattle.std.specs.Prelude.{◌≡◌, ℕ, suc, ◌+◌, ◌≤◌, ◌<◌, [], get_or, length};
 ghost use Rattle.model.specs.Basics.{top_n};
-ghost use Rattle.works.specs.Works.{Scaled, load_by};
+ghost use Rattle.works.specs.Works.{load_by};
 ghost use Rattle.loads.specs.Tables.{Column, held};
 
+use crate::Summands;
 use crate::rows::part;
 
 // The loads of c nodes from place `base` on, one task further down: the work w of task j + 1 comes in where a node brings it in.
@@ -17,20 +18,14 @@ fn bring_in(brings: &[u64; 48], base: usize, c: usize, j: usize, w: u64, loads: 
 }
 
 // The loads of m sources at each of n tasks but the `below` lowest, a row for a task; 0 past them.
-pub fn levels_of(
-    brings: &[u64; 48],
-    works: &[u64; 32],
-    n: usize,
-    m: usize,
-    below: usize,
-) -> [[u64; 16]; 32]
-    requires { (n ≤ 32) × (m ≤ 16) × (below ≤ 32) × Scaled works.now }
-    ensures { (j u : ℕ) → j < 32 → u < m → get_or (get_or result j []) u 0 ≡ load_by (get_or brings.now (32 + u) 0) works.now n (suc (below + j)) }
+pub fn levels_of(s: &Summands, m: usize, below: usize) -> [[u64; 16]; 32]
+    requires { (m ≤ 16) × (below ≤ 32) }
+    ensures { (j u : ℕ) → j < 32 → u < m → get_or (get_or result j []) u 0 ≡ load_by (get_or s.now.brings.now (32 + u) 0) s.now.works.now s.now.count (suc (below + j)) }
 {
     let mut levels = [[0u64; 16]; 32];
     let mut loads = [0u64; 16];
-    for j in (below..n).rev() {
-        bring_in(brings, 32, m, j, works[j], &mut loads);
+    for j in (below..s.count).rev() {
+        bring_in(s.brings, 32, m, j, s.works[j], &mut loads);
         levels[j - below] = loads;
     }
     levels
@@ -48,14 +43,13 @@ fn largest(loads: &[u64]) -> u64
 }
 
 // For each of n tasks the largest load that a lower task puts on it; 0 for the others.
-pub fn starts_of(brings: &[u64; 48], works: &[u64; 32], n: usize) -> [u64; 32]
-    requires { (n ≤ 32) × Scaled works.now }
-    ensures { (j : ℕ) → j < 32 → get_or result j 0 ≡ top_n (λ k. load_by (get_or brings.now k 0) works.now n (suc j)) 0 j }
+pub fn starts_of(s: &Summands) -> [u64; 32]
+    ensures { (j : ℕ) → j < 32 → get_or result j 0 ≡ top_n (λ k. load_by (get_or s.now.brings.now k 0) s.now.works.now s.now.count (suc j)) 0 j }
 {
     let mut starts = [0u64; 32];
     let mut loads = [0u64; 32];
-    for j in (0..n).rev() {
-        bring_in(brings, 0, j, j, works[j], &mut loads);
+    for j in (0..s.count).rev() {
+        bring_in(s.brings, 0, j, j, s.works[j], &mut loads);
         starts[j] = largest(&loads[..j]);
     }
     starts
@@ -74,20 +68,15 @@ fn longest_hold(runs: &[u32; 32], loads: &[u64; 32], c: usize) -> u64
 }
 
 // For each of n tasks the longest that a task up to it may hold the processor, with what that task's end puts on the tasks above; 0 for the others.
-pub fn hold_starts_of(
-    brings: &[u64; 48],
-    works: &[u64; 32],
-    runs: &[u32; 32],
-    n: usize,
-) -> [u64; 32]
-    requires { (n ≤ 32) × Scaled works.now × ((k : ℕ) → k < n → get_or runs.now k 0 ≤ 10000000) }
-    ensures { (j : ℕ) → j < n → get_or result j 0 ≡ top_n (held runs.now (λ k. load_by (get_or brings.now k 0) works.now n (suc (suc j)))) 0 (suc j) }
+pub fn hold_starts_of(s: &Summands, runs: &[u32; 32]) -> [u64; 32]
+    requires { (k : ℕ) → k < s.now.count → get_or runs.now k 0 ≤ 10000000 }
+    ensures { (j : ℕ) → j < s.now.count → get_or result j 0 ≡ top_n (held runs.now (λ k. load_by (get_or s.now.brings.now k 0) s.now.works.now s.now.count (suc (suc j)))) 0 (suc j) }
 {
     let mut starts = [0u64; 32];
     let mut loads = [0u64; 32];
-    for j in (0..n).rev() {
+    for j in (0..s.count).rev() {
         starts[j] = longest_hold(runs, &loads, j + 1);
-        bring_in(brings, 0, j + 1, j, works[j], &mut loads);
+        bring_in(s.brings, 0, j + 1, j, s.works[j], &mut loads);
     }
     starts
 }

@@ -7,8 +7,9 @@ use refusals::refused_sheet;
 pub mod levels;
 mod rows;
 
-ghost use Rattle.std.specs.Prelude.{◌≡◌};
+ghost use Rattle.std.specs.Prelude.{◌≡◌, ◌≤◌};
 ghost use Rattle.theory.proofs.WellFormed.{Fielded};
+ghost use Rattle.works.specs.Works.{Scaled};
 ghost use Rattle.loads.specs.Tables.{WorkedOf, RowsAre, checked_loads};
 
 // Of a description that passes the last checks: for each node the tasks it brings in and for each task its work, all that loads are sums of.
@@ -16,6 +17,16 @@ ghost use Rattle.loads.specs.Tables.{WorkedOf, RowsAre, checked_loads};
 pub struct Worked {
     pub brings: [u64; 48],
     pub works: [u64; 32],
+}
+
+// The same, lent, with the number of tasks: each load is a sum of the works of tasks that a node brings in.
+#[derive(Clone, Copy)]
+pub struct Summands<'a> {
+    pub brings: &'a [u64; 48],
+    pub works: &'a [u64; 32],
+    pub count: usize,
+    pub ghost few: { count ≤ 32 },
+    pub ghost scaled: { Scaled works.now },
 }
 
 // After the last field: no task, a loop, too heavy; else the work is done.
@@ -39,7 +50,12 @@ pub fn work_out(d: Description) -> Result<Worked, Rejection>
         count: n,
     };
     let works = works::works_of(&wired, &mut brings);
-    if rows::heavy(&brings, &works, n) {
+    let summands = Summands {
+        brings: &brings,
+        works: &works,
+        count: n,
+    };
+    if rows::heavy(&summands) {
         return Err(Refusal::TooHeavy.at(0));
     }
     Ok(Worked { brings, works })
@@ -63,7 +79,12 @@ pub fn last_checks(d: Description) -> LoadSheet
 {
     match work_out(d) {
         Ok(worked) => {
-            let t = rows::load_rows(&worked.brings, &worked.works, d.task_count);
+            let summands = Summands {
+                brings: &worked.brings,
+                works: &worked.works,
+                count: d.task_count,
+            };
+            let t = rows::load_rows(&summands);
             LoadSheet {
                 outcome: Ok(()),
                 rows: as_rows(t),

@@ -2,9 +2,9 @@
 ghost use Rattle.std.specs.Prelude.{◌≡◌, ◌≤◌, ◌<◌, ◌^◌, sum};
 ghost use Rattle.model.specs.Basics.{given};
 ghost use Rattle.sets.specs.Sets.{member};
-ghost use Rattle.works.specs.Works.{Scaled};
 ghost use Rattle.loads.specs.Tables.{RowBy, SheetBy, heavy_by};
 
+use crate::Summands;
 use sets::has;
 
 // What one task's work adds to a node's load.
@@ -16,27 +16,25 @@ pub fn part(row: u64, j: usize, w: u64) -> u64
 }
 
 // The loads of a node at each task: a running sum from the highest task down.
-fn load_row(row: u64, works: &[u64; 32], n: usize) -> [u64; 32]
-    requires { (n ≤ 32) × Scaled works.now }
-    ensures { RowBy row works.now n result }
+fn load_row(row: u64, s: &Summands) -> [u64; 32]
+    ensures { RowBy row s.now.works.now s.now.count result }
 {
     let mut loads = [0u64; 32];
     let mut sum: u64 = 0;
-    for j in (0..n).rev() {
-        sum += part(row, j, works[j]);
+    for j in (0..s.count).rev() {
+        sum += part(row, j, s.works[j]);
         loads[j] = sum;
     }
     loads
 }
 
 // The load sheet, row by row.
-pub fn load_rows(brings: &[u64; 48], works: &[u64; 32], n: usize) -> [[u64; 32]; 48]
-    requires { (n ≤ 32) × Scaled works.now }
-    ensures { SheetBy brings.now works.now n result }
+pub fn load_rows(s: &Summands) -> [[u64; 32]; 48]
+    ensures { SheetBy s.now.brings.now s.now.works.now s.now.count result }
 {
     let mut t = [[0u64; 32]; 48];
-    for (i, row) in brings.iter().enumerate() {
-        t[i] = load_row(*row, works, n);
+    for (i, row) in s.brings.iter().enumerate() {
+        t[i] = load_row(*row, s);
     }
     t
 }
@@ -50,14 +48,14 @@ fn sum_of(works: &[u64]) -> u64
 }
 
 // Whether some node's load at task 1 exceeds 1,000,000,000; none does if all works together do not.
-pub fn heavy(brings: &[u64; 48], works: &[u64; 32], n: usize) -> bool
-    requires { (n ≤ 32) × Scaled works.now }
-    ensures { result ≡ heavy_by brings.now works.now n }
+pub fn heavy(s: &Summands) -> bool
+    ensures { result ≡ heavy_by s.now.brings.now s.now.works.now s.now.count }
 {
-    if sum_of(&works[..n]) <= 1_000_000_000 {
+    let works = s.works;
+    if sum_of(&works[..s.count]) <= 1_000_000_000 {
         return false;
     }
-    brings
+    s.brings
         .iter()
-        .any(|row| 1_000_000_000 < load_row(*row, works, n)[0])
+        .any(|row| 1_000_000_000 < load_row(*row, s)[0])
 }

@@ -3,6 +3,7 @@
 #![tactic(auto)]
 
 use level::{Level, critical_of};
+use loads::Summands;
 use loads::levels::{hold_starts_of, levels_of, starts_of};
 use model::{Description, Policy, Refusal, Rejection, Verdict, VerdictSlot, Verdicts};
 use neighbourhoods::{orders_held, orders_of};
@@ -16,7 +17,6 @@ ghost use Rattle.std.specs.Prelude.{◌≡◌, ℕ, ◌≤◌, ◌<◌, get_or};
 ghost use Rattle.model.specs.declared.Description.{Description};
 ghost use Rattle.model.specs.Verdicts.{verdicts};
 ghost use Rattle.theory.proofs.WellFormed.{WellFormed};
-ghost use Rattle.works.specs.Works.{Scaled};
 ghost use Rattle.loads.specs.Tables.{LoadsOf};
 ghost use Rattle.verdicts.specs.Tables.{below_of, StartsOf, TailsOf, TablesOf, seen, task_level};
 ghost use Rattle.verdicts.specs.Slots.{refused_verdicts};
@@ -61,20 +61,14 @@ fn below_of(p: Policy) -> usize
     }
 }
 
-// Where the rounds of each of n tasks start, by their runs and by the sets and works that their loads are sums of.
-fn starts_by(
-    p: Policy,
-    runs: &[u32; 32],
-    brings: &[u64; 48],
-    works: &[u64; 32],
-    n: usize,
-) -> [u64; 32]
-    requires { (n ≤ 32) × Scaled works.now × ((k : ℕ) → k < n → get_or runs.now k 0 ≤ 10000000) }
-    ensures { (d : Description) → LoadsOf d brings.now works.now → runs.now ≡ d.runs → n ≡ d.task_count → StartsOf p d result }
+// Where the rounds of each task start, by their runs and by what their loads are sums of.
+fn starts_by(p: Policy, runs: &[u32; 32], s: &Summands) -> [u64; 32]
+    requires { (k : ℕ) → k < s.now.count → get_or runs.now k 0 ≤ 10000000 }
+    ensures { (d : Description) → LoadsOf d s.now.brings.now s.now.works.now → runs.now ≡ d.runs → s.now.count ≡ d.task_count → StartsOf p d result }
 {
     match p {
-        Policy::Preemptive => starts_of(brings, works, n),
-        Policy::HoldOn => hold_starts_of(brings, works, runs, n),
+        Policy::Preemptive => starts_of(s),
+        Policy::HoldOn => hold_starts_of(s, runs),
     }
 }
 
@@ -96,11 +90,16 @@ pub fn tables_of(p: Policy, d: Description, brings: &[u64; 48], works: &[u64; 32
     let n = d.task_count;
     let orders = orders_of(d);
     let ordered = orders_held(d, &orders);
+    let summands = Summands {
+        brings,
+        works,
+        count: n,
+    };
     Tables {
         tasks: n,
         sources: sources_of(d),
-        levels: levels_of(brings, works, n, d.source_count, below_of(p)),
-        starts: starts_by(p, &d.runs, brings, works, n),
+        levels: levels_of(&summands, d.source_count, below_of(p)),
+        starts: starts_by(p, &d.runs, &summands),
         tails: tails_of(p, d.runs),
         critical: critical_of(d),
         orders,

@@ -8,4 +8,4 @@ use Rattle.verdicts.proofs.tables_of.Goals as goal
 pub starts_by-requires : goal.starts_by-requires
 starts_by-requires c =
     let d = c.args.d in
-    (c.requires.0.fields.few_tasks, c.requires.1.scaled, λ k p. let e : suc k - 1 ≡ k = omega arith in omega (arith, c.requires.0.fields.run_most (suc k) (omega arith) (omega arith), ap (λ i. get_or d.runs i 0) e))
+    (λ k p. let e : suc k - 1 ≡ k = omega arith in omega (arith, c.requires.0.fields.run_most (suc k) (omega arith) (omega arith), ap (λ i. get_or d.runs i 0) e))

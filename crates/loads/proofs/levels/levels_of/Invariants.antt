@@ -7,4 +7,4 @@ use Rattle.loads.proofs.Columns.{LevelsFrom}
 use Rattle.loads.proofs.levels.levels_of.Given as goal
 
 abbrev pub invariant-loop-j : goal.invariant-loop-j
-invariant-loop-j l = (length l.loads ≡ 16) × ((u : ℕ) → u < l.m → get_or l.loads u 0 ≡ load_by (get_or l.brings (32 + u) 0) l.works l.n (suc l.j)) × LevelsFrom l.brings l.works l.n l.m l.below l.j l.levels
+invariant-loop-j l = (length l.loads ≡ 16) × ((u : ℕ) → u < l.m → get_or l.loads u 0 ≡ load_by (get_or l.s.brings.now (32 + u) 0) l.s.works.now l.s.count (suc l.j)) × LevelsFrom l.s.brings.now l.s.works.now l.s.count l.m l.below l.j l.levels

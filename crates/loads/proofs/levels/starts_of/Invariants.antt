@@ -7,4 +7,4 @@ use Rattle.loads.proofs.Columns.{StartsFrom}
 use Rattle.loads.proofs.levels.starts_of.Given as goal
 
 abbrev pub invariant-loop-j : goal.invariant-loop-j
-invariant-loop-j l = (length l.loads ≡ 32) × ((k : ℕ) → k < l.j → get_or l.loads k 0 ≡ load_by (get_or l.brings k 0) l.works l.n (suc l.j)) × StartsFrom l.brings l.works l.n l.j l.starts
+invariant-loop-j l = (length l.loads ≡ 32) × ((k : ℕ) → k < l.j → get_or l.loads k 0 ≡ load_by (get_or l.s.brings.now k 0) l.s.works.now l.s.count (suc l.j)) × StartsFrom l.s.brings.now l.s.works.now l.s.count l.j l.starts

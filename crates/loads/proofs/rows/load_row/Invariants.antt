@@ -6,4 +6,4 @@ use Rattle.loads.proofs.Sums.{RowFrom}
 use Rattle.loads.proofs.rows.load_row.Given as goal
 
 abbrev pub invariant-loop-j : goal.invariant-loop-j
-invariant-loop-j l = (l.sum ≡ load_by l.row l.works l.n (suc l.j)) × RowFrom l.row l.works l.n l.j l.loads
+invariant-loop-j l = (l.sum ≡ load_by l.row l.s.works.now l.s.count (suc l.j)) × RowFrom l.row l.s.works.now l.s.count l.j l.loads

@@ -7,4 +7,4 @@ use Rattle.loads.specs.Tables.{RowBy}
 use Rattle.loads.proofs.rows.load_rows.Given as goal
 
 abbrev pub invariant-loop-i : goal.invariant-loop-i
-invariant-loop-i l = (length l.t ≡ 48) × ((r : ℕ) → r < l.i → RowBy (get_or l.brings r 0) l.works l.n (get_or l.t r []))
+invariant-loop-i l = (length l.t ≡ 48) × ((r : ℕ) → r < l.i → RowBy (get_or l.s.brings.now r 0) l.s.works.now l.s.count (get_or l.t r []))

@@ -7,7 +7,7 @@ use refusals::refused_sheet;
 pub mod levels;
 mod rows;
 
-ghost use Rattle.std.specs.Prelude.{◌≡◌, ◌≤◌};
+ghost use Rattle.std.specs.Prelude.{◌≡◌, ◌≤◌, length};
 ghost use Rattle.theory.proofs.WellFormed.{Fielded};
 ghost use Rattle.works.specs.Works.{Scaled};
 ghost use Rattle.loads.specs.Tables.{WorkedOf, RowsAre, checked_loads};
@@ -26,6 +26,8 @@ pub struct Summands<'a> {
     pub works: &'a [u64; 32],
     pub count: usize,
     pub ghost few: { count ≤ 32 },
+    pub ghost nodes_all: { length brings.now ≡ 48 },
+    pub ghost tasks_all: { length works.now ≡ 32 },
     pub ghost scaled: { Scaled works.now },
 }
 

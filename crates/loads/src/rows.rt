@@ -55,7 +55,8 @@ pub fn heavy(s: &Summands) -> bool
     if sum_of(&works[..s.count]) <= 1_000_000_000 {
         return false;
     }
-    s.brings
+    let brings = s.brings;
+    brings
         .iter()
         .any(|row| 1_000_000_000 < load_row(*row, s)[0])
 }

@@ -23,7 +23,7 @@ fn visit(into: &[u64; 32], j: usize, x: usize, w: Walk) -> Walk
     if x < j {
         return next;
     }
-    // Bits from r on; there are 48 nodes.
+    // Bits from r on; there are 48 nodes. A `while`, since the walk may fail at any of them.
     let mut rest = into[x - 1] % 281474976710656;
     let mut r: usize = 0;
     while rest != 0 {

@@ -59,6 +59,7 @@ fn divisor(a: u64, b: u64) -> u64
 {
     let mut large = a;
     let mut small = b;
+    // No `for`: it ends at a remainder of 0.
     while small != 0 {
         (large, small) = (small, large % small);
     }

@@ -37,6 +37,7 @@ fn rounds_between(level: &Level, wheels: &Wheels, limit: u64, from: u64) -> Reac
     let mut rounds = 0;
     let mut passed = 0;
     let mut last = 0;
+    // No `for`: rounds end by their sum and not by their number.
     while sum < limit {
         if sum <= d {
             return Reached::Settled(d);

@@ -33,6 +33,7 @@ pub fn parse(s: &[u8], start: usize) -> Result<Description, Rejection>
     let mut d = blank();
     let mut p = Progress::default();
     let mut at = start;
+    // No iterator: what has been read decides whether the next field may stand there.
     loop {
         let Some((field, next)) = checked_at(s, at, p)? else {
             return Ok(d);

@@ -80,7 +80,7 @@ fn jumps(rounds: u64) -> bool {
     32 <= rounds && rounds % 8 == 0
 }
 
-// Where rounds stand.
+// Where rounds stand. No Result: both are places, and neither is a failure.
 #[derive(Clone, Copy)]
 pub enum Reached {
     // The least d that one leaves unchanged, or the limit.
@@ -166,6 +166,7 @@ impl Level<'_> {
         ensures { let level = self.now in Jump level.start level.loads.now level.gaps.now level.count limit result × (sum ≤ result) }
     {
         let mut far = sum;
+        // No `for`: it ends where a bound gains nothing.
         loop {
             let next = self.flow_bound(ends, shares, far, limit);
             if next <= far {
@@ -188,6 +189,7 @@ impl Level<'_> {
         let mut d = self.start;
         let mut sum = self.round_at(d, &mut ends);
         let mut rounds = 0;
+        // No `for`: rounds end by their sum and not by their number.
         while sum < limit {
             if sum <= d {
                 return Reached::Settled(d);

@@ -33,7 +33,8 @@ fn absent_lawful(marks: &[bool; 256], links: usize) -> bool
     (links..256).all(|l| !marks[l])
 }
 
-// A waiting link's task is awake.
+// A waiting link's task is awake. `Enters` stays in the clauses: as a ghost field of `Wiring` it would ask more of those that lend one
+// to `steps::work` and `machine::advance`.
 fn each_link_lawful(w: &Wiring, m: &Machine) -> bool
     requires { Enters w.now.to w.now.links }
     ensures { EachLinkLawful w.now m.now result }

@@ -84,7 +84,7 @@ pub fn sources_of(d: Description) -> Sources
     }
 }
 
-// The spacing of a source at tempo t.
+// The spacing of a source at tempo t. A tempo is a plain number: searches halve and step it, and would have to make a value of its own type each time.
 pub fn spacing_by(ticks: u32, pulses: u32, t: u32) -> u32
     requires { (pulses ≤ 960) × (200 ≤ t) × (t ≤ 3000) }
     ensures { result ≡ spacing_by ticks pulses t }

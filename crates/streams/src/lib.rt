@@ -11,7 +11,8 @@ use std::io::{Error, ErrorKind, Read, Write};
 // How often one transfer is interrupted before that counts as a failure: never, but every function must end.
 const PATIENCE: u64 = 18446744073709551615;
 
-// What one call of the system says: it moved so many bytes, a signal interrupted it, or it failed.
+// What one call of the system says: it moved so many bytes, a signal interrupted it, or it failed. No Result: an interruption is no
+// failure, and the definitions speak of these three.
 #[derive(Clone, Copy)]
 enum Answer {
     Bytes(usize),
@@ -109,6 +110,7 @@ pub fn read_input<R: Read>(input: &mut R, buf: &mut [u8]) -> io::Result<usize>
     let size = buf.len();
     let mut reason = Error::from(ErrorKind::UnexpectedEof);
     let mut progress = standing(size, 0, PATIENCE);
+    // No `for`: it ends by what the system says.
     loop {
         match progress {
             Progress::Ended(transfer) => return ended(transfer, reason),

@@ -35,6 +35,7 @@ pub fn slower(level: &Level, sources: &Sources, doubtful: u32) -> Option<u32>
     }
     let mut low: u32 = 200;
     let mut high = doubtful;
+    // A bisection over numbers: std's `partition_point` is one of slices.
     while 1 < high - low {
         let middle = low + (high - low) / 2;
         if held_at(level, sources, middle, &mut gaps) {

@@ -10,7 +10,7 @@ fn agrees(p: Policy, file: &[u8], expected: &[u8]) -> bool {
     &page[..n] == expected
 }
 
-// All cases of the vectors.
+// All cases of the vectors: each says itself how long it is, so these are no `chunks`.
 pub fn compare_all(p: Policy, s: &[u8]) -> Tally {
     let mut t = Tally::default();
     let mut left = s;

@@ -34,7 +34,7 @@ fn agrees(p: Policy, file: &[u8], calls: &[u8], recorded: &[u8], record: &[u8]) 
     outcomes.get(..recorded.len()) == Some(recorded) && same_record(ran.machine, record)
 }
 
-// All runs of the vectors.
+// All runs of the vectors: each says itself how long it is, so these are no `chunks`.
 pub fn compare_all(p: Policy, s: &[u8]) -> Tally {
     let mut t = Tally::default();
     let mut left = s;

@@ -119,6 +119,7 @@ fn fill(part: &Level, flow: u64, row: Row, table: &mut [u16; 65536])
     let mut sum = part.round_at(0, &mut ends);
     let all = row.entries as u64 * row.block;
     let mut done = 0;
+    // No `for`: a step is as long as no source fires anew.
     while done < all {
         sum = part.next_reach(done + 1, sum, &mut ends);
         let i = done / row.block;

@@ -19,6 +19,7 @@ pub struct Wired<'a> {
 
 // The tasks that node i brings in: those it has links to and, of what each of these brings in, the tasks below it. The sets of these come
 // from the memo, or are found in turn. An entry of 0 is not found yet: fixed memory, and an Option beside each word would double it.
+// What the memos hold is said in the clauses: a struct that lends them to be changed would have to show it again at every store.
 fn brought(wired: &Wired, i: usize, brings: &mut [u64; 48]) -> u64
     requires { NodeOf i × SetMemo wired.now.succ.now wired.now.count brings.old }
     ensures { Brought wired.now.succ.now wired.now.count i result × SetMemo wired.now.succ.now wired.now.count brings.new }

@@ -49,7 +49,7 @@ pub fn work_out(d: Description) -> Result<Worked, Rejection>
     let wired = works::Wired {
         succ: &succ,
         runs: &d.runs,
-        count: n,
+        count: d.task_count,
     };
     let works = works::works_of(&wired, &mut brings);
     let summands = Summands {

@@ -83,7 +83,9 @@ pub fn skip(
     requires { (from ≤ to) × (6 * to ≤ length calls.now) × (to ≤ length outcomes.old) × (200 ≤ peak) × (peak ≤ 3000) }
     ensures { Skips runs calls.now from to peak outcomes.old result outcomes.new }
 {
-    for k in from..to {
+    // By hand: over a range the compiler counts three places in this loop and not two, and a call that is passed takes a quarter longer.
+    let mut k = from;
+    while k < to {
         if !quiet_at(calls, 6 * k, peak) {
             return k;
         }
@@ -91,8 +93,9 @@ pub fn skip(
             return k;
         }
         outcomes[k] = 0;
+        k += 1;
     }
-    to
+    k
 }
 
 // How many ticks a run has before its last, if it has begun; else 0.

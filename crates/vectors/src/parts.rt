@@ -1,6 +1,6 @@
 // The parts of the vectors, and the count of the cases that agree.
 
-ghost use Rattle.std.specs.Prelude.{◌<◌, ◌≤◌, length};
+ghost use Rattle.std.specs.Prelude.{◌≡◌, ◌++◌, ◌<◌, ◌≤◌, drop, length};
 
 use headers::half_at;
 
@@ -14,7 +14,8 @@ pub struct Tally {
 
 // A part of the vectors, its length in two bytes before it, cut off where they end; and what comes behind it.
 pub fn part<'a>(s: &'a [u8]) -> (&'a [u8], &'a [u8])
-    ensures { (length result.1.now ≤ length s.now) × (0 < length s.now → length result.1.now < length s.now) }
+    ensures shorter { (length result.1.now ≤ length s.now) × (0 < length s.now → length result.1.now < length s.now) }
+    ensures whole { result.0.now ++ result.1.now ≡ drop 2 s.now }
 {
     if s.len() < 2 {
         return (&s[s.len()..], &s[s.len()..]);

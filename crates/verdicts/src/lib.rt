@@ -88,17 +88,19 @@ pub fn tables_of(p: Policy, d: Description, brings: &[u64; 48], works: &[u64; 32
     ensures { TablesOf p d result }
 {
     let n = d.task_count;
-    let orders = orders_of(d);
-    let ordered = orders_held(d, &orders);
     let summands = Summands {
         brings,
         works,
         count: n,
     };
+    // Before the rest: as a field of the answer their place is cleared once more.
+    let levels = levels_of(&summands, d.source_count, below_of(p));
+    let orders = orders_of(d);
+    let ordered = orders_held(d, &orders);
     Tables {
         tasks: n,
         sources: sources_of(d),
-        levels: levels_of(&summands, d.source_count, below_of(p)),
+        levels,
         starts: starts_by(p, &d.runs, &summands),
         tails: tails_of(p, d.runs),
         critical: critical_of(d),
